@@ -130,7 +130,7 @@ date_of-epoch_day date number le same =
     let parts = epoch_day_injective date own (same ∙ sym h.counted) in
     record { year = parts.0; month = parts.1; day = parts.2; small = omega arith }
 
--- a day has so many nanoseconds
+-- a day has this many nanoseconds
 abbrev DAY : ℕ
 DAY = 86_400_000_000_000
 
@@ -142,7 +142,7 @@ date_of-moment dt nanos small same =
     let day : epoch_day dt.date ≡ pos (nanos / DAY) = omega (arith, signed_arith) in
     date_of-epoch_day dt.date (nanos / DAY) (omega arith) day
 
--- and the nanoseconds of its day are what is left
+-- the time of day of a moment has the nanoseconds that its whole days leave
 pub time_nanos-moment : (dt : DateTime) (nanos : ℕ) → civil_nanos dt ≡ pos nanos → time_nanos dt.time ≡ nanos % DAY
 time_nanos-moment dt nanos same =
     let parts = civil_nanos-parts dt in
@@ -173,7 +173,7 @@ cast_u32 z n is small =
     let fits : FitsSigned w32 (pos n) = omega (arith, signed_arith) in
     rw (is, to_z-of_z w32 (pos n) fits)
 
--- and is its own size
+-- a signed number that is not negative is its own size
 pub size_u16 : (z : ℤ) (n : ℕ) → z ≡ pos n → n < 2 ^ 15 → unsigned_abs (to_z w16 (of_z w16 z)) ≡ n
 size_u16 z n is small =
     let fits : FitsSigned w16 (pos n) = omega (arith, signed_arith) in

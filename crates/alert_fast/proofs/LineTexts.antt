@@ -34,11 +34,11 @@ pub marked_msg-pieces : (gid sid rev : ℕ) (msg : List ℕ) →
 unfolding marked_msg rule_mark
 marked_msg-pieces gid sid rev msg = simp append_assoc
 
--- what stood is the front of what was appended to it
+-- what was there is the front of what was appended to it
 pub take-behind : (old middle front new : List ℕ) → middle ≡ old ++ front → new ≡ middle → take (length old) new ≡ old
 take-behind old middle front new is same = ap (take (length old)) (same ∙ is) ∙ take-append_seam old front
 
--- and of what began with it
+-- what was there is the front of what keeps all that began with it
 pub take-kept : (old middle front new : List ℕ) → middle ≡ old ++ front → take (length middle) new ≡ middle → take (length old) new ≡ old
 take-kept old middle front new is kept =
     let within : length old ≤ length middle = omega (arith, ap length is, length-append old front) in
@@ -50,7 +50,7 @@ then : (old middle new front back : List ℕ) → middle ≡ old ++ front → ne
 then old middle new front back first second =
     second ∙ ap (λ (x : List ℕ). x ++ back) first ∙ append_assoc old front back
 
--- the parts of a line, appended one behind another
+-- the parts of a line, appended one after another
 pub line_text-parts : (head : ItemHead) (rule : Rule) (classes : List Class) (old timed ruled classed ranked named left arrowed right line : List ℕ) →
     timed ≡ old ++ (time_text head.moment.nanos ++ codes "  ") → ruled ≡ timed ++ marked_msg rule.gid rule.sid rule.rev rule.msg →
     classed ≡ ruled ++ class_text classes rule.class → ranked ≡ classed ++ priority_text rule.priority →

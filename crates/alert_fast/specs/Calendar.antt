@@ -34,7 +34,7 @@ unfoldable pub date_of : ℕ → CivilDate
 date_of zero = record { year = 1970; month = 1; day = 1 }
 date_of (suc number) = day_after (date_of number)
 
--- the time in UTC so many nanoseconds after 1970-01-01 00:00:00: the day's date, and the time of day; what is less
+-- the time in UTC this many nanoseconds after 1970-01-01 00:00:00: the day's date, and the time of day; what is less
 -- than a microsecond is cut off
 pub record IsUtc (nanos : ℕ) (time : UtcTime) : Type 0 where
   pub year : time.year ≡ (date_of (nanos / 86_400_000_000_000)).year

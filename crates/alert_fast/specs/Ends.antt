@@ -26,7 +26,7 @@ pub record AreWords (from to : List ℕ) (ends : LineEnds) : Type 0 where
   pub source : source_text ends ≡ from
   pub target : target_text ends ≡ to
 
--- with ports or without, as it is asked for
+-- two words are the ends, with ports or without, as it is asked for
 pub record AreOwn (ported : Bool) (from to : List ℕ) (ends : LineEnds) : Type 0 where
   pub words : AreWords from to ends
   pub own : is_some ends.ports ≡ ported

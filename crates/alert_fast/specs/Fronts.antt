@@ -1,6 +1,6 @@
 -- Parts that are read at the front of a text, or that are a whole word of it.
 --
--- A part is a value, of those that may stand there (`Fits`), and the text that it is written as. What is read is
+-- A part is a value, of those that may be there (`Fits`), and the text that it is written as. What is read is
 -- always the only one: no other value, and no other rest, make the same text.
 -- To try it on: of `08:30` the front up to `:` is the value 8 in two digits, and the rest `30`.
 use Rattle.std.specs.Prelude.{◌≡◌, ◌≢◌, ℕ, List, [], ◌∷◌, ◌++◌, ⊤}
@@ -32,7 +32,7 @@ pub record IsFront {A : Type 0} (Fits : A → Type 0) (spell : A → List ℕ) (
   pub spelled : text ≡ spell value ++ rest
   pub only : (other : A) (more : List ℕ) → Fits other → text ≡ spell other ++ more → (other ≡ value) × (more ≡ rest)
 
--- it begins with no value
+-- the text begins with no value
 abbrev pub NoFront : {A : Type 0} → (A → Type 0) → (A → List ℕ) → List ℕ → Type 0
 NoFront {A} Fits spell text = (other : A) (more : List ℕ) → Fits other → text ≢ spell other ++ more
 

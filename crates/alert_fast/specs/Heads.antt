@@ -24,7 +24,7 @@ AreSeconds = BothFit IsTwo IsMicros
 abbrev pub second_text : ℕ × ℕ → List ℕ
 second_text = both (ended (digits 2) 46) (ended (digits 6) 32)
 
--- the numbers of a time, as they stand
+-- the numbers of a time, as they are written
 abbrev pub Stamp : Type 0
 Stamp = (ℕ × ℕ) × ((ℕ × ℕ) × (ℕ × ℕ))
 
@@ -38,7 +38,7 @@ stamp_text = both date_text (both hour_text second_text)
 abbrev pub time_text : LineTime → List ℕ
 time_text time = line_time_text time ++ codes " "
 
--- the numbers of a rule, as they stand
+-- the numbers of a rule, as they are written
 abbrev pub Numbers : Type 0
 Numbers = ℕ × (ℕ × ℕ)
 

@@ -98,7 +98,7 @@ destination_port (Icmp kind code id seq) = None
 destination_port Other = None
 destination_port Fragment = None
 
--- a port behind a colon, where there is one
+-- a port after a colon, where there is one
 unfoldable pub port_text : Option ℕ → List ℕ
 port_text None = []
 port_text (Some port) = codes ":" ++ decimal port

@@ -21,7 +21,7 @@ parts_text p =
     head_text (p.time, p.numbers)
     ++ (msg_text p.msg p.class ++ (91 ∷ (codes "Priority: " ++ (ranked_text p.ranked ++ arrow_text p.from p.to))))
 
--- no blank is in an end, and no bracket
+-- parts that fit: the first end has no blank, the second no line feed, and neither a bracket
 pub record FitParts (p : PartFacts) : Type 0 where
   pub head : IsHead (p.time, p.numbers)
   pub ranked : IsRanked p.ranked
@@ -30,7 +30,7 @@ pub record FitParts (p : PartFacts) : Type 0 where
   pub from_bracket : Lacks 91 p.from
   pub to_bracket : Lacks 91 p.to
 
--- the same parts, but perhaps a message that isn't longer, and its class
+-- parts that are those of another line, but perhaps for a message that isn't longer, and its class
 pub record IsNoLonger (q p : PartFacts) : Type 0 where
   pub time : q.time ≡ p.time
   pub numbers : q.numbers ≡ p.numbers

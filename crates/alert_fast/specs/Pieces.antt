@@ -6,7 +6,7 @@ use Rattle.std.specs.Net.Text.{hex}
 use Rattle.alert_fast.specs.declared.pieces.Piece.{Piece}
 use Rattle.alert_fast.specs.declared.pieces.Piece.TheVariants.{Bytes, Number, Hex}
 
--- the last so many decimal digits of a number, with zeros where it has fewer (the digit 0 is code 48)
+-- the last `count` decimal digits of a number, with zeros where it has fewer (the digit 0 is code 48)
 unfoldable pub digits : ℕ → ℕ → List ℕ
 digits zero number = []
 digits (suc count) number = digits count (number / 10) ++ (48 + number % 10) ∷ []
@@ -17,7 +17,7 @@ piece_text (Bytes bytes) = bytes.now
 piece_text (Number value) = decimal value
 piece_text (Hex group) = hex group
 
--- pieces, one behind another
+-- pieces, one after another
 abbrev pub pieces_text : List Piece → List ℕ
 pieces_text [] = []
 pieces_text (piece ∷ rest) = piece_text piece ++ pieces_text rest

@@ -17,7 +17,7 @@ pub record IsLastCut (needle text front back : List ℕ) : Type 0 where
 abbrev pub msg_text : List ℕ → Option (List ℕ) → List ℕ
 msg_text msg class = msg ++ (codes " [**] " ++ named_class class)
 
--- the longest message that may stand there
+-- the longest message that may be there
 pub record IsSplit (text msg : List ℕ) (class : Option (List ℕ)) : Type 0 where
   pub spelled : msg_text msg class ≡ text
   pub longest : (other : List ℕ) (named : Option (List ℕ)) → msg_text other named ≡ text → length other ≤ length msg

@@ -4,7 +4,7 @@
 -- the one with the longest message is read, and with ports where the protocol is TCP or UDP, without for others.
 -- So `a [**] [Classification: b [**] [Priority: 1]` has the message `a [**] [Classification: b` and no class, and
 -- `{TCP} fe80::1:80 -> fe80::2:90` the ports 80 and 90, where it might be two addresses that end so.
--- To try it on: `02/29` may stand in a line, since some year has that day, and `02/30` may not.
+-- To try it on: `02/29` may be in a line, since some year has that day, and `02/30` may not.
 use Rattle.std.specs.Prelude.{◌≡◌, ◌≢◌, ℕ, ◌/◌, ◌%◌, ◌^◌, ◌<◌, ◌≤◌, ◌==◌, ◌||◌, Bool, List, [], ◌++◌, Option, None, Some, option_map, is_some, length, codes, decimal, ⊤}
 use Rattle.std.specs.Borrow.{Bor}
 use Rattle.edge_io.specs.declared.address.Addr.{Addr}
@@ -89,7 +89,7 @@ IsTold told =
 unfoldable pub has_ports : ℕ → Bool
 has_ports protocol = (protocol == 6) || (protocol == 17)
 
--- ports stand in the line exactly if the protocol has them
+-- ports are in the line exactly if the protocol has them
 abbrev pub HasOwnPorts : LineFacts → Type 0
 HasOwnPorts told = is_some told.ends.ports ≡ has_ports told.protocol
 
@@ -100,7 +100,7 @@ pub record IsReading (line : List ℕ) (told : LineFacts) : Type 0 where
   pub longest : (other : LineFacts) → IsTold other → told_text other ≡ line → length other.msg ≤ length told.msg
   pub ported : (other : LineFacts) → IsTold other → told_text other ≡ line → HasOwnPorts other → HasOwnPorts told
 
--- it is the line of no alert
+-- the line is that of no alert
 abbrev pub NoReading : List ℕ → Type 0
 NoReading line = (other : LineFacts) → IsTold other → told_text other ≢ line
 

@@ -57,14 +57,14 @@ fn push_colons(address: u128, out: &mut Vec<u8>) -> Result<(), NoMemory>
     }
 }
 
-// Whether a run of so many zero groups is written as a gap.
+// Whether a run of this many zero groups is written as a gap.
 fn is_gap(len: usize) -> bool
     ensures { result ≡ nat_lt 1 len }
 {
     len > 1
 }
 
-// Where memory is lacking, a part of the text may stand behind what stood there.
+// Where memory is lacking, a part of the text may be left after what was there.
 #[tactic(auto, unfolding(std::specs::Net::Text::hex_groups_text))]
 fn push_segments(segments: &[u16], out: &mut Vec<u8>) -> Result<(), NoMemory>
     ensures appended { OnOk result (out.new.items ≡ out.old.items ++ hex_groups_text segments.now) }
@@ -80,7 +80,7 @@ fn push_segments(segments: &[u16], out: &mut Vec<u8>) -> Result<(), NoMemory>
     }
 }
 
-// Where memory is lacking, a part of the text may stand behind what stood there.
+// Where memory is lacking, a part of the text may be left after what was there.
 fn push_groups(groups: &[u16], out: &mut Vec<u8>) -> Result<(), NoMemory>
     ensures appended { OnOk result (out.new.items ≡ out.old.items ++ groups_text groups.now) }
     ensures kept { OnErr result (take (length out.old.items) out.new.items ≡ out.old.items) }

@@ -17,8 +17,8 @@ use rule_types::Rule;
 ///
 /// `MM/DD-HH:MM:SS.uuuuuu  [**] [gid:sid:rev] msg [**] [Classification: text] [Priority: n] {P} from -> to`
 ///
-/// The time is that of the item's record in UTC, with the microseconds cut. The classification
-/// stands where the rule has a class; the class has to be one of `classes`. P is TCP, UDP or ICMP,
+/// The time is that of the item's record in UTC, with the microseconds cut. The classification is
+/// there where the rule has a class; the class has to be one of `classes`. P is TCP, UDP or ICMP,
 /// also of a fragment, and else `PROTO:` with three digits. Ends have a port for TCP, UDP and streams;
 /// a fragment has none. Where memory is lacking, nothing is appended.
 pub fn line(
@@ -42,7 +42,7 @@ pub fn line(
     }
 }
 
-// Where memory is lacking, a part of the line may stand behind what stood there.
+// Where memory is lacking, a part of the line may be left after what was there.
 fn push_parts(
     head: &ItemHead,
     rule: &Rule,
@@ -183,7 +183,7 @@ fn destination_port(body: Body) -> Option<u16>
     }
 }
 
-// The port behind a colon, where there is one, and these bytes behind it.
+// The port after a colon, where there is one, and then these bytes.
 #[tactic(auto, unfolding(crate::specs::Line::port_text))]
 fn push_port(port: Option<u16>, behind: &[u8], out: &mut Vec<u8>) -> Result<(), NoMemory>
     ensures appended { OnOk result (out.new.items ≡ out.old.items ++ (port_text port ++ behind.now)) }

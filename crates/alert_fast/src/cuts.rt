@@ -14,7 +14,7 @@ pub(crate) fn back_word(text: &[u8], start: u8) -> Option<(&[u8], &[u8])>
     Some((&text[..place], &text[place + 1..]))
 }
 
-// What stands before these bytes, where the text ends with them.
+// What comes before these bytes, where the text ends with them.
 fn skip_back<'a>(text: &'a [u8], literal: &[u8]) -> Option<&'a [u8]>
     ensures { MatchOption result ((front : List ℕ) → text.now ≢ front ++ literal.now)
         (λ front. text.now ≡ front.now ++ literal.now) }
@@ -31,7 +31,7 @@ fn last_cut<'a>(text: &'a [u8], needle: &[u8]) -> Option<(&'a [u8], &'a [u8])>
     Some((&text[..place], &text[place + needle.len()..]))
 }
 
-/// The longest message that may stand there, and its class.
+/// The longest message that may be there, and its class.
 pub(crate) fn split_msg(text: &[u8]) -> Option<(&[u8], Option<&[u8]>)>
     ensures { MatchOption result (NoSplit text.now) (λ p. IsSplit text.now p.0.now (lent p.1)) }
 {

@@ -137,7 +137,7 @@ fn own_ends(
     }
 }
 
-/// Both ends, with ports or without them as it is asked for wherever they can be read so.
+/// Both ends, read from their words: with ports or without them as it is asked for, wherever they can be read so.
 pub(crate) fn ends(
     alloc: Global,
     ported: bool,

@@ -38,7 +38,7 @@ fn second(text: &[u8]) -> Option<((u8, u32), &[u8])>
     Some(((first, micros), rest))
 }
 
-// The numbers of a time, as they stand.
+// The numbers of a time, as they are written.
 fn stamp(text: &[u8]) -> Option<(((u8, u8), ((u8, u8), (u8, u32))), &[u8])>
     ensures { MatchOption result (NoFront AreStamp stamp_text text.now)
         (λ p. IsFront AreStamp stamp_text text.now p.0 p.1.now) }

@@ -17,7 +17,7 @@ pub enum Piece<'a> {
     Hex(u16),
 }
 
-/// Appends the pieces, one behind another.
+/// Appends the pieces, one after another.
 pub fn push_pieces(out: &mut Vec<u8>, pieces: &[Piece<'_>]) -> Result<(), NoMemory>
     ensures appended { OnOk result (out.new.items ≡ out.old.items ++ pieces_text pieces.now) }
     ensures unchanged { OnErr result (out.new.items ≡ out.old.items) }

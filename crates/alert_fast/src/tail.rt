@@ -8,7 +8,7 @@ ghost use Rattle.alert_fast.specs.Tails.{IsProtocol, protocol_value, IsRanked, r
 use crate::pieces::three_digits;
 use crate::words::{number_to, read_value, skip, word};
 
-// The number behind `PROTO:`, modulo 256.
+// The number after `PROTO:`, modulo 256.
 #[tactic(auto, unfolding(crate::specs::Words::read_value))]
 fn numbered(word: &[u8]) -> u8
     ensures { result ≡ read_value (drop 6 word.now) % 256 }

@@ -1,4 +1,4 @@
--- Members that are written one behind another.
+-- Members that are written one after another.
 use Rattle.std.proofs.Common.{◌≡◌, ℕ, ◌<◌, ◌^◌, List, [], ◌∷◌, ◌++◌, refl, sym, ap, subst, ◌∙◌, append_assoc, append-nil}
 use Rattle.std.specs.Prelude.{decimal}
 use Rattle.json.specs.Token.{Token}
@@ -20,7 +20,7 @@ pub AreWhole-append : (xs ys : List Field) → AreWhole xs → AreWhole ys → A
 AreWhole-append [] ys h k = k
 AreWhole-append (x ∷ xs) ys h k = (h.0, AreWhole-append xs ys h.1 k)
 
--- no member
+-- no member was written
 pub none : (old : List Token) → Adds old old []
 unfolding fields_tokens
 none old = record { added = sym (append-nil old); whole = tt }
@@ -49,7 +49,7 @@ member old mid new key value named written whole = record {
 pub text_member : (old mid new : List Token) (key text : List ℕ) → mid ≡ old ++ Token.key key ∷ [] → new ≡ mid ++ Token.string text ∷ [] → Adds old new (text_field key text)
 text_member old mid new key text named written = member old mid new key (string text) named written tt
 
--- the same text by another name
+-- a member whose text is known by another name is the same member
 pub text-same : (old new : List Token) (key text other : List ℕ) → text ≡ other → Adds old new (text_field key text) → Adds old new (text_field key other)
 text-same old new key text other same h = subst (λ (t : List ℕ). Adds old new (text_field key t)) same h
 

@@ -88,7 +88,7 @@ in_order-turned ends alike =
       ]
     ]
 
--- the same flow, from its other end
+-- a flow, from its other end
 abbrev pub back : Flow → ℕ → ℕ → Flow
 back flow sport dport = record { protocol = flow.protocol; src = flow.dst; dst = flow.src; pair = Ports dport sport }
 

@@ -1,4 +1,4 @@
--- The groups of a record's members, written one member behind another.
+-- The groups of a record's members, written one member after another.
 use Rattle.std.proofs.Common.{◌≡◌, ℕ, List, [], Option, None, Some, option_map, subst}
 use Rattle.std.specs.Prelude.{codes, unwrap_or}
 use Rattle.base64.specs.GeneralPurpose.{encode_of}

@@ -17,13 +17,13 @@ use Rattle.alert_fast.specs.Calendar.{CivilDate, date_of}
 use Rattle.alert_fast.proofs.Dates.{IsCounted, date_of_counted, date_of-moment, time_nanos-moment, hour-moment, minute-moment, second-moment, micros-moment}
 use Rattle.alert_json.specs.LineMoments.{AreSmall, IsCivilOf, IsMomentOf, NoMomentOf}
 
--- a day has so many nanoseconds
+-- a day has this many nanoseconds
 abbrev DAY : ℕ
 DAY = 86_400_000_000_000
 
 -- ---- the parts of a moment
 
--- its day is a day of the calendar
+-- a moment's day is a day of the calendar
 counted-of : (year : ℕ) (time : LineTime) (nanos : ℕ) → IsMomentOf year time nanos
     → IsCounted (nanos / DAY) (record { year = year; month = time.month; day = time.day })
 counted-of year time nanos m = subst (IsCounted (nanos / DAY)) m.date (date_of_counted (nanos / DAY))
@@ -107,7 +107,7 @@ civil-at year time nanos civil is m =
 date-is : (date : CivilDate) (year month day : ℕ) → date.year ≡ year → date.month ≡ month → date.day ≡ day → date ≡ record { year = year; month = month; day = day }
 date-is date year month day a b c = rw (sym a, sym b, sym c) refl
 
--- and are such a moment's
+-- the nanoseconds of a time in a year are those of its moment
 pub moment-at : (year : ℕ) (time : LineTime) (nanos : ℕ) (civil : DateTime) → nanos < 2 ^ 64 → IsCivilOf year time civil → civil_nanos civil ≡ pos nanos → IsMomentOf year time nanos
 moment-at year time nanos civil few is same =
     let on = date_of-moment civil nanos few same in

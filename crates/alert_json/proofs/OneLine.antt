@@ -1,4 +1,4 @@
--- The text of a value is one line: no control character stands in it.
+-- The text of a value is one line: no control character is in it.
 use Rattle.std.proofs.Common.{◌≡◌, ℕ, zero, suc, ◌/◌, ◌%◌, ◌<◌, ◌≤◌, ◌^◌, Bool, true, false, cond, List, [], ◌∷◌, ◌++◌, length, get_or, All, refl, arith}
 use Rattle.std.specs.Prelude.{⊤, decimal, nat_lt}
 use Rattle.std.specs.Char.{digit_char}

@@ -7,7 +7,7 @@ use Rattle.alert_fast.specs.Pieces.{digits}
 use Rattle.alert_fast.specs.Line.{clock_text, dotted_text}
 use Rattle.alert_json.specs.Stamps.{full_date_text, timestamp_text}
 
--- a day has so many nanoseconds
+-- a day has this many nanoseconds
 abbrev DAY : ℕ
 DAY = 86_400_000_000_000
 

@@ -9,7 +9,7 @@ use Rattle.alert_json.specs.declared.event.Alert.{Alert}
 use Rattle.alert_json.specs.declared.event.Captured.{Captured}
 use Rattle.alert_json.specs.declared.event.Run.{Run}
 
--- of the rule
+-- what is known of the rule
 pub record AlertFacts : Type 0 where
   pub blocked : Bool
   pub gid : ℕ
@@ -19,13 +19,13 @@ pub record AlertFacts : Type 0 where
   pub class : Option (List ℕ)
   pub priority : ℕ
 
--- of the packet
+-- what is known of the packet
 pub record PacketFacts : Type 0 where
   pub link : ℕ
   pub bytes : List ℕ
   pub payload : Option (List ℕ)
 
--- of the event; its moment is in nanoseconds since 1970-01-01 00:00:00 UTC
+-- what is known of the event; its moment is in nanoseconds since 1970-01-01 00:00:00 UTC
 pub record EventFacts : Type 0 where
   pub nanos : ℕ
   pub flow : Flow
@@ -33,7 +33,7 @@ pub record EventFacts : Type 0 where
   pub packet : Option PacketFacts
   pub count : Option ℕ
 
--- of the run
+-- what is known of the run
 pub record RunFacts : Type 0 where
   pub seed : ℕ
   pub host : Option (List ℕ)

@@ -38,7 +38,7 @@ is_in_order ends =
     nat_lt (address_number ends.first) (address_number ends.second)
     || ((address_number ends.first == address_number ends.second) && nat_le ends.here ends.there)
 
--- the other end first
+-- the ends of a flow, the other one first
 unfoldable pub turned : Ends → Ends
 turned ends = record { first = ends.second; second = ends.first; here = ends.there; there = ends.here }
 
@@ -51,7 +51,7 @@ unfoldable pub addresses_text : ℕ → ℕ → Ends → List ℕ
 addresses_text seed protocol ends =
     to_be_bytes w16 seed ++ address_bytes ends.first ++ address_bytes ends.second ++ (protocol ∷ 0 ∷ [])
 
--- the hash of a flow without ports, and of one with ports or what stands in their place
+-- the hash of a flow without ports, and of one with ports or what takes their place
 unfoldable pub plain_hash : ℕ → ℕ → Ends → List ℕ
 plain_hash seed protocol ends = sha1 (addresses_text seed protocol ends)
 
@@ -69,7 +69,8 @@ partner4 kind =
     else (if kind == 17 then Some 18 else (if kind == 18 then Some 17
     else (if kind == 10 then Some 9 else (if kind == 9 then Some 10 else None)))))))))
 
--- of ICMPv6: echo, router, neighbour, listener, node information, home agent (RFC 4443, 4861, 2710, 4620, 6275)
+-- the type of the ICMPv6 message that answers one of this type, or that it answers: echo, router, neighbour, listener,
+-- node information, home agent (RFC 4443, 4861, 2710, 4620, 6275)
 unfoldable pub partner6 : ℕ → Option ℕ
 partner6 kind =
     if kind == 128 then Some 129 else (if kind == 129 then Some 128
@@ -79,7 +80,7 @@ partner6 kind =
     else (if kind == 139 then Some 140 else (if kind == 140 then Some 139
     else (if kind == 144 then Some 145 else (if kind == 145 then Some 144 else None)))))))))))
 
--- by the protocol: 1 is ICMP, 58 ICMPv6
+-- the type that answers one of this type, or that it answers, by the protocol: 1 is ICMP, 58 ICMPv6
 unfoldable pub partner : ℕ → ℕ → Option ℕ
 partner protocol kind = if protocol == 1 then partner4 kind else (if protocol == 58 then partner6 kind else None)
 
@@ -87,7 +88,7 @@ partner protocol kind = if protocol == 1 then partner4 kind else (if protocol ==
 abbrev pub ends_of : Flow → ℕ → ℕ → Ends
 ends_of flow here there = record { first = flow.src; second = flow.dst; here = here; there = there }
 
--- the ends of a message: with its partner in order, without one as they stand
+-- the ends of a message: with its partner in order, without one as they are
 unfoldable pub message_ends : Flow → ℕ → ℕ → Option ℕ → Ends
 message_ends flow kind code (Some other) = in_order (ends_of flow kind other)
 message_ends flow kind code None = ends_of flow kind code

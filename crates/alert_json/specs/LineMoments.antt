@@ -20,7 +20,7 @@ pub record IsMomentOf (year : ℕ) (time : LineTime) (nanos : ℕ) : Type 0 wher
   pub microsecond : nanos / 1_000 % 1_000_000 ≡ time.microsecond
   pub whole : nanos % 1_000 ≡ 0
 
--- no moment of 64 bits is
+-- no moment of 64 bits is that of this time in this year
 abbrev pub NoMomentOf : ℕ → LineTime → Type 0
 NoMomentOf year time = (nanos : ℕ) → nanos < 2 ^ 64 → IsMomentOf year time nanos → ⊥
 

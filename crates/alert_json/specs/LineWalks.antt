@@ -32,11 +32,11 @@ pub record IsLine (line : List ℕ) : Type 0 where
   pub is : line ≡ text ++ 10 ∷ []
   pub short : length text < most_line_bytes
 
--- no line stands at the front of these bytes
+-- no line is at the front of these bytes
 abbrev pub NoLine : List ℕ → Type 0
 NoLine bytes = (line more : List ℕ) → IsLine line → bytes ≢ line ++ more
 
--- a line of this length stands at the front, or none yet, or none whatever follows
+-- a line of this length is at the front, or none yet, or none whatever follows
 abbrev pub IsFrontLine : List ℕ → Front → Type 0
 IsFrontLine bytes (front.Line size) = IsLine (take size bytes) × (size ≤ length bytes)
 IsFrontLine bytes front.Waits = NoLine bytes
@@ -59,7 +59,7 @@ pub record IsUndated (from : YearFrom) (line : List ℕ) : Type 0 where
   pub read : IsReading line told
   pub none : NoMomentOf (year_of from told.time) told.time
 
--- it gives no record
+-- the line gives no record
 abbrev pub IsUntold : YearFrom → List ℕ → Type 0
 IsUntold from line = NoReading line ⊎ IsUndated from line
 
@@ -86,11 +86,11 @@ pub record BeginsUntold (from : YearFrom) (bytes : List ℕ) : Type 0 where
   pub untold : IsUntold from line
   pub begins : bytes ≡ line ++ more
 
--- no line that gives a record stands at the front of bytes
+-- no line that gives a record is at the front of bytes
 abbrev pub NoneTold : YearFrom → List ℕ → Type 0
 NoneTold from bytes = NoLine bytes ⊎ BeginsUntold from bytes
 
--- nor does one, whatever follows
+-- no line that gives a record is at the front of bytes, whatever follows them
 pub record NeverTold (from : YearFrom) (bytes : List ℕ) : Type 0 where
   pub some : 0 < length bytes
   pub none : (more : List ℕ) → NoneTold from (bytes ++ more)
@@ -102,13 +102,13 @@ IsStep run from bytes old new (step.Took size next) =
 IsStep run from bytes old new step.Waits = NoLine bytes × (new ≡ old)
 IsStep run from bytes old new step.Foreign = NeverTold from bytes × (new ≡ old)
 
--- the same of bytes that are one line
+-- a line was taken of bytes that are one line, or none was
 abbrev pub IsWholeStep : RunFacts → YearFrom → List ℕ → List ℕ → List ℕ → Step → Type 0
 IsWholeStep run from line old new (step.Took size next) = (size ≡ length line) × AddsLine run from line old new next
 IsWholeStep run from line old new step.Waits = ⊥
 IsWholeStep run from line old new step.Foreign = IsUntold from line × (new ≡ old)
 
--- lines at the front of bytes gave their records, up to a place; they are so many
+-- lines at the front of bytes gave their records, up to a place, and were counted
 pub record WalksLines (run : RunFacts) (from : YearFrom) (bytes old new : List ℕ) (taken : LinesTaken) : Type 0 where
   pub lines : List (List ℕ)
   pub wrote : List ℕ

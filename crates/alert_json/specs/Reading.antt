@@ -1,7 +1,7 @@
 -- What a reader finds in the text of a value.
 --
--- The kit's `json` says which value a text is by the grammar of RFC 8259 (`document`): members as they stand, and
--- numbers as their digits. Its `serde_json` says the same with numbers as numbers, and with each object's
+-- The kit's `json` says which value a text is by the grammar of RFC 8259 (`document`): members as they are written,
+-- and numbers as their digits. Its `serde_json` says the same with numbers as numbers, and with each object's
 -- members by their keys (`read`); of a key that comes twice the last member stays.
 -- To try it on: `{"b":1,"a":2}` is read as the object with 2 at `a` and then 1 at `b`.
 use Rattle.std.specs.Prelude.{◌≡◌, ℕ, ◌<◌, ◌≤◌, ◌^◌, List, Some, ⊤}
@@ -26,12 +26,12 @@ abbrev mutual
   settled_items no_items = no_items
   settled_items (item d ds) = item (settled d) (settled_items ds)
 
-  -- these members put into others
+  -- members, put into others
   pub put_all : Members → Members → Members
   put_all no_members found = found
   put_all (member k d ms) found = put_all ms (put k (settled d) found)
 
--- no control character stands in the text, so no line feed
+-- no control character is in the text, so no line feed
 abbrev pub IsOneLine : List ℕ → Type 0
 IsOneLine text = All (λ (byte : ℕ). 32 ≤ byte) text
 

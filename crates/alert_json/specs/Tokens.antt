@@ -15,7 +15,7 @@ abbrev pub AreWhole : List Field → Type 0
 AreWhole [] = ⊤
 AreWhole (field ∷ fields) = IsWhole field.1 × AreWhole fields
 
--- members were written behind tokens
+-- members were written after tokens
 pub record Adds (old new : List Token) (fields : List Field) : Type 0 where
   pub added : new ≡ old ++ fields_tokens fields
   pub whole : AreWhole fields

@@ -62,7 +62,7 @@ known_name protocol =
     else (if protocol == 51 then Some (codes "AH") else (if protocol == 103 then Some (codes "PIM")
     else (if protocol == 132 then Some (codes "SCTP") else None))))))))))
 
--- its name, or its number
+-- the name of a protocol, or its number
 abbrev pub protocol_name : ℕ → List ℕ
 protocol_name protocol = unwrap_or (known_name protocol) (decimal protocol)
 
@@ -153,10 +153,10 @@ event_fields event run =
 abbrev pub event_value : EventFacts → RunFacts → Data
 event_value event run = object_of (event_fields event run)
 
--- its text
+-- the text of an event's record
 abbrev pub event_text : EventFacts → RunFacts → List ℕ
 event_text event run = compact_text (event_value event run)
 
--- its line
+-- the line of an event
 abbrev pub event_line : EventFacts → RunFacts → List ℕ
 event_line event run = event_text event run ++ codes "\n"

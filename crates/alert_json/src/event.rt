@@ -15,7 +15,7 @@ pub struct Event<'a> {
     pub count: Option<u64>,
 }
 
-/// Both ends, and what they speak.
+/// The ends of a flow, and what they speak.
 #[derive(Clone, Copy, Debug)]
 pub struct Flow {
     /// The protocol of the IP header.

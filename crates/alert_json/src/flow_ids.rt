@@ -10,7 +10,7 @@ use edge_io::Addr;
 use sha1::Sha1;
 use std::alloc::{AllocError, Global};
 
-/// The two ends of a flow, as they are hashed: addresses, and what stands in the place of ports.
+/// The two ends of a flow, as they are hashed: addresses, and what takes the place of ports.
 #[derive(Clone, Copy, Debug)]
 pub(crate) struct Ends {
     pub(crate) first: Addr,

@@ -1,7 +1,7 @@
 //! Alerts as JSON lines, in the form of the `alert` records of Suricata's EVE output.
 //!
 //! `push_event` appends one line to the caller's buffer: the text of `event_line` (specs/Value), an object
-//! whose members stand in Suricata's order. The text is UTF-8, and as JSON (RFC 8259) it is exactly the
+//! whose members are in Suricata's order. The text is UTF-8, and as JSON (RFC 8259) it is exactly the
 //! event's value, by the kit's own definition of reading (specs/Reading). A flow's number and its community
 //! ID are those of specs/FlowNumbers. Where memory is lacking the buffer stays as it was.
 //! `event_of` makes the event of an alert line that `alert_fast` has read, at the moment that `moment_of` gives for its time

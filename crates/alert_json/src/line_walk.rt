@@ -19,7 +19,7 @@ use std::alloc::Global;
 /// The most bytes of a line, with its line feed.
 const MOST_LINE: usize = 1_048_576;
 
-/// What stands at the front of bytes: a line of so many bytes, none yet, or none ever.
+/// What is at the front of bytes: a line of `size` bytes, none yet, or none ever.
 #[derive(Clone, Copy)]
 pub(crate) enum Front {
     Line { size: usize },
@@ -103,7 +103,7 @@ fn push_line(
     }
 }
 
-// What stands at the front of bytes: a line of so many bytes that gave its record, and what the next one's year follows
+// What is at the front of bytes: a line of `size` bytes that gave its record, and what the next one's year follows
 // from; none yet; or none that gives one, whatever follows.
 #[derive(Clone, Copy)]
 pub(crate) enum Step {

@@ -7,7 +7,7 @@ use alert_fast::LineTime;
 /// What the year of a line follows from.
 #[derive(Clone, Copy, Debug, PartialEq, Eq)]
 pub enum YearFrom {
-    /// It is this one.
+    /// The year is this one.
     Given { year: u16 },
     /// The line comes after one of this day.
     After { year: u16, month: u8, day: u8 },

@@ -1,4 +1,4 @@
--- The laws of answers whose inputs stand beside what they come from.
+-- The laws of answers whose inputs are beside what they come from.
 use Rattle.std.proofs.Common.{◌≡◌, ℕ, zero, suc, ◌+◌, ◌<◌, List, [], ◌∷◌, ◌++◌, Some, length, map, refl, sym, ap, ap₂, ◌∙◌, append_assoc, arith, slice_get, length-append}
 use Rattle.std.specs.Prelude.{option_and_then, replicate, unwrap_or}
 use Rattle.std.specs.List.{flat_map}
@@ -95,7 +95,7 @@ by_place-append source place (x ∷ front) back =
     ap (λ l. beside (source place) x ∷ l)
     (by_place-append source (place + 1) front back ∙ ap (λ (n : ℕ). by_place source (place + 1) front ++ by_place source n back) is)
 
--- answers to elements that stand by their places
+-- answers to elements that are beside what is at their places
 pub by_place-along : {S X A B : Type 0} (h : A → List B) (g : List X → X → A) (source : ℕ → S) (place : ℕ) (before xs : List X)
     → flat_map (λ (b : Beside S A). map (beside b.source) (h b.what)) (by_place source place (along_from g before xs))
     ≡ carried (λ b x. h (g b x)) before (by_place source place xs)
@@ -103,7 +103,7 @@ by_place-along h g source place before [] = refl
 by_place-along h g source place before (x ∷ xs) =
     ap (λ l. map (beside (source place)) (h (g before x)) ++ l) (by_place-along h g source (place + 1) (before ++ x ∷ []) xs)
 
--- all of the same source
+-- elements that are all beside the same source
 pub by_place-same : {S X : Type 0} (source : ℕ → S) (same : S) (place : ℕ) (xs : List X)
     → ((i : ℕ) → i < length xs → source (place + i) ≡ same) → by_place source place xs ≡ map (beside same) xs
 by_place-same source same place [] is = refl
@@ -182,7 +182,7 @@ places_along-more f before place (y ∷ xs) x =
     ∙ sym (append_assoc here (places_along f (before ++ y ∷ []) (place + 1) xs) (replicate (length (f ((before ++ y ∷ []) ++ xs) x)) ((place + 1) + length xs)))
     ∙ ap₂ (λ b n. (here ++ places_along f (before ++ y ∷ []) (place + 1) xs) ++ replicate (length (f b x)) n) (append_assoc before (y ∷ []) xs) is
 
--- as many places as answers
+-- there are as many places as answers
 pub length-places_along : {S A : Type 0} (f : List S → S → List A) (before : List S) (place : ℕ) (xs : List S)
     → length (places_along f before place xs) ≡ length (trail_from f before xs)
 length-places_along f before place [] = refl

@@ -13,7 +13,7 @@ use Rattle.alert_lines.proofs.Prefixes.{WritesPart-behind, WritesPart-longer, Wr
 
 -- ---- texts that wait in a block
 
--- a text came behind the block, and waits
+-- a text came after the block, and waits
 gathers_waits : (text : List ℕ) (old new : Sending) → new.block ≡ old.block ++ text → new.written ≡ old.written → Gathers text old new
 gathers_waits text old new waits same = record { part = []; joined = sym waits; wrote = same ∙ sym (behind-nil old.written) }
 
@@ -49,12 +49,12 @@ gathers_settled text old new before after came =
 wholly : {Known A : Type 0} {text : Known → List ℕ} {old new : Sending} {done : A} → ((known : Known) → Gathers (text known) old new) → new.faults ≡ old.faults → EmitsBy text old new (Ok done)
 wholly whole quiet = record { whole = whole; part = tt; fault = λ is. absurd cc; quiet = quiet; later = omega (arith, quiet) }
 
--- or a part of it was written
+-- a part of a text was written, and the step was stopped
 partly : {Known A : Type 0} {text : Known → List ℕ} {old new : Sending} {why : WriteFault} → ((known : Known) → WritesPart old.written (old.block ++ text known) new.written)
     → (why ≡ write.Unwritten → Rose old.faults new.faults) → old.faults ≤ new.faults → EmitsBy {A = A} text old new (Err why)
 partly part fault later = record { whole = tt; part = part; fault = λ is. fault cc; quiet = tt; later = later }
 
--- a text came behind those that wait
+-- a text came after those that wait
 pub emits_waits : (text : List ℕ) (old new : Sending) → new.block ≡ old.block ++ text → new.written ≡ old.written → new.faults ≡ old.faults → Emits {A = Unit {0}} text old new (Ok tt)
 emits_waits text old new waits written faults = wholly (λ known. gathers_waits text old new waits written) faults
 
@@ -104,7 +104,7 @@ emits_longer {first = first} {old = old} {new = new} one joins =
     (WritesPart-longer old.written new.written (old.block ++ first p.0) p.1 (one.part p.0)))
     (λ is. one.fault (ap Err is)) one.later
 
--- the same text, said otherwise, and whatever is told with it
+-- a text that is on its way, said otherwise, and whatever is told with it
 pub emits_told : {Known First A B : Type 0} {first : First → List ℕ} {text : Known → List ℕ} {old new : Sending} {done : A} {more : B}
     → EmitsBy first old new (Ok done) → ((known : Known) → (i : First) × (text known ≡ first i)) → EmitsBy text old new (Ok more)
 emits_told {new = new} one same = emits_then one (emits_none {Known = ⊤} {text = λ nothing. []} new (λ nothing. refl)) (λ known. let p = same known in (p.0, tt, p.1 ∙ sym (append-nil _)))
@@ -123,12 +123,12 @@ pub emits_lacking : {Known First A B : Type 0} {first : First → List ℕ} {tex
     → EmitsBy first old new (Ok done) → ((known : Known) → (i : First) × (rest : List ℕ) × (text known ≡ first i ++ rest)) → EmitsBy {A = B} text old new (Err write.NoMemory)
 emits_lacking {new = new} one joins = emits_then one (emits_nothing (λ (rest : List ℕ). rest) new new refl refl) joins
 
--- the same of texts that go by nothing else
+-- two texts that go by nothing else, one after the other
 pub emits_both : {A B : Type 0} {first second text : List ℕ} {old middle new : Sending} {done : A} {outcome : Result B WriteFault}
     → Emits first old middle (Ok done) → Emits second middle new outcome → text ≡ first ++ second → Emits text old new outcome
 emits_both one two is = emits_then one two (λ known. (tt, tt, is))
 
--- and of texts that nobody knows
+-- two texts that nobody knows, one after the other
 pub any_then : {A B : Type 0} {old middle new : Sending} {done : A} {outcome : Result B WriteFault} → EmitsAny old middle (Ok done) → EmitsAny middle new outcome → EmitsAny old new outcome
 any_then one two = emits_then one two (λ none. absurd none)
 
@@ -137,7 +137,7 @@ any_then one two = emits_then one two (λ none. absurd none)
 abbrev pub emptied : Sending → Sending
 emptied now = record { written = now.written; block = []; faults = now.faults }
 
--- where no text waits before, nor afterwards
+-- a text that is on its way, where no text waits before, nor afterwards
 pub emits_settled : {Known A : Type 0} {text : Known → List ℕ} (outcome : Result A WriteFault) (old new : Sending) → old.block ≡ [] → OnOk outcome (new.block ≡ [])
     → EmitsBy text old new outcome → EmitsBy text (emptied old) (emptied new) outcome
 emits_settled {text = text} (Ok done) old new before after one =

@@ -58,7 +58,7 @@ item_events-same config rules xs ys item same =
 events-same : (config : Config) (rules : List Rule) (xs ys : List Hits) → matched xs ≡ matched ys → trail (item_events config rules) xs ≡ trail (item_events config rules) ys
 events-same config rules = trail-passed is_matched (item_events config rules) (item_events-none config rules) (item_events-same config rules)
 
--- the same beside their records
+-- the events of items beside their records are those of the items that a rule matches
 module _ (config : Config) (rules : List Rule) where
   behind : (b : Bool) (item : Hits) → is_matched item ≡ b → (before : List Hits) → matched (before ++ item ∷ []) ≡ matched before ++ cond b (item ∷ []) []
   behind b item is before = filter-append is_matched before (item ∷ []) ∙ ap (λ c. matched before ++ cond c (item ∷ []) []) is
@@ -81,7 +81,7 @@ module _ (config : Config) (rules : List Rule) where
           ∙ rest other left
           ∙ ap (λ c. carried (item_events config rules) other (cond c (b ∷ matched_sourced items) (matched_sourced items))) (sym is)
 
--- so their lines
+-- the lines of items are those of the items that a rule matches
 items_lines-matched : (form : Form) (config : Config) (rules : List Rule) (before : List Hits) (items : List SourcedItem) → items_lines form config rules before items ≡ items_lines form config rules before (matched_sourced items)
 unfolding items_lines
 items_lines-matched form config rules before items =
@@ -138,7 +138,7 @@ hit_count-same xs ys same = hit_count-matched xs ∙ ap hit_count same ∙ sym (
 
 -- ---- what is shown
 
--- with another count of items
+-- a showing with another count of items
 abbrev pub with_items : Showing → ℕ → Showing
 with_items showing count = record {
   writer = record (showing.writer) { tally = record (showing.writer.tally) { items = count } };
@@ -200,7 +200,7 @@ few_of_all : (source : ℕ → LinkedRecord) (found : Matches) (jobs : List JobH
     → sourced_items (by_place source 0 found.hits.items) ≡ matched_sourced (sourced_items (by_place source 0 jobs))
 few_of_all source found jobs are = ap (λ (hits : List JobHits). sourced_items (by_place source 0 hits)) are.hits ∙ told-matched source 0 jobs
 
--- and have the lines of all
+-- the matches have the lines of all items
 matches_lines : (form : Form) (config : Config) (rules : List Rule) (source : ℕ → LinkedRecord) (found : Matches) (before : List Hits) (jobs : List JobHits) → AreMatchesOf jobs found
     → items_lines form config rules before (sourced_items (by_place source 0 jobs)) ≡ items_lines form config rules before (sourced_items (by_place source 0 found.hits.items))
 matches_lines form config rules source found before jobs are =

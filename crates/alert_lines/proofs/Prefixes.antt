@@ -18,7 +18,7 @@ IsPrefix-nil whole = (whole, refl)
 pub IsPrefix-longer : (part text rest : List ℕ) → IsPrefix part text → IsPrefix part (text ++ rest)
 IsPrefix-longer part text rest (more, e) = (more ++ rest, sym (append_assoc part more rest) ∙ ap (λ (x : List ℕ). x ++ rest) e)
 
--- a beginning stays one behind the same front
+-- a beginning stays one after the same front
 pub IsPrefix-behind : (front part whole : List ℕ) → IsPrefix part whole → IsPrefix (front ++ part) (front ++ whole)
 IsPrefix-behind front part whole (rest, e) = (rest, append_assoc front part rest ∙ ap (λ (x : List ℕ). front ++ x) e)
 

@@ -7,7 +7,7 @@ use Rattle.unified2_out.specs.declared.record.U2.{U2}
 use Rattle.unified2_out.specs.declared.record.U2Event.{U2Event}
 use Rattle.alert_lines.specs.RecordLines.{end_text, entry_line, entry_lines, event_front, event_line, micro_text}
 
--- the parts of an event's line, one behind another
+-- the parts of an event's line, one after another
 pub event_parts : (event : U2Event) (out front micro blank src dst : List ℕ)
     → front ≡ out ++ event_front event → micro ≡ front ++ micro_text event.micro → blank ≡ micro ++ codes " "
     → src ≡ blank ++ (end_text event.src event.sport ++ codes " -> ") → dst ≡ src ++ (end_text event.dst event.dport ++ codes "\n")

@@ -1,4 +1,4 @@
--- Lines of items that are made one behind another.
+-- Lines of items that are made one after another.
 use Rattle.std.proofs.Common.{◌≡◌, ℕ, ◌+◌, ◌<◌, List, [], ◌∷◌, ◌++◌, Option, Some, None, Result, Ok, Err, length, get_or, take, drop, map, refl, sym, ap, subst, append_assoc, ◌∙◌, arith, slice_get, length-append, zero-add}
 use Rattle.std.specs.Prelude.{All, OnOk, ⊤}
 use Rattle.std.specs.Option.{ForSome, option_map, option_to_list}
@@ -103,12 +103,12 @@ place_passed s before place old is = record {
   counted = sym (place_count-none s.rules s.head place is);
 }
 
--- or it was stopped
+-- a rule's line was stopped
 pub place_part : {A : Type 0} (s : Subject) (before place : ℕ) (rule : Rule) (old new : Sending) (why : WriteFault) → slice_get s.rules place ≡ Some rule
     → Emits {A = A} (text_by s before (beside s.source (event_of s.head rule))) old new (Err why) → ShowsPlaces s before (place ∷ []) old new (Err why)
 place_part s before place rule old new why is line = record { emits = emits_stopped line (λ known. (tt, place_lines-some s before place rule is)); counted = tt }
 
--- no rule
+-- the rules at no places are shown
 pub places_none : (s : Subject) (before : ℕ) (old : Sending) → ShowsPlaces s before [] old old (Ok 0)
 unfolding places_lines places_count
 places_none s before old = record { emits = emits_none old (λ known. refl); counted = refl }
@@ -124,7 +124,7 @@ places_more s before places i number lt at =
     ap (places_lines s before) (take_more places i 0 lt) ∙ places_lines-append s before (take i places) (get_or places i 0 ∷ [])
     ∙ ap (λ (n : ℕ). places_lines s before (take i places) ++ places_lines s n (get_or places i 0 ∷ [])) (sym at)
 
--- memory was lacking behind some
+-- memory was lacking after some places
 pub places_nothing : (s : Subject) (before : ℕ) (places : List ℕ) (i count : ℕ) (old middle : Sending)
     → ShowsPlaces s before (take i places) old middle (Ok count) → ShowsPlaces s before places old middle (Err write.NoMemory)
 places_nothing s before places i count old middle so_far = record {
@@ -188,7 +188,7 @@ items_lines-append form config rules before front back =
 abbrev pub subject_for : Form → Config → List Rule → LinkedRecord → Hits → Subject
 subject_for form config rules source hits = record { form = form; classes = config.classes; rules = rules; source = source; head = hits.head }
 
--- by what they are shown
+-- by what items are shown
 abbrev pub shown_in : Form → Config → List Rule → Shown
 shown_in form config rules = record { form = form; config = config; rules = rules }
 
@@ -271,7 +271,7 @@ pub shows_nothing : (form : Form) (config : Config) (rules : List Rule) (items :
     → Shows {A = Unit {0}} (shown_in form config rules) items old new (Err write.NoMemory)
 shows_nothing form config rules items old new written faults = record { stands = tt; emits = emits_nothing _ (sending_of old) (sending_of new) written faults }
 
--- it was stopped
+-- an item was stopped while its lines were shown
 pub shows_part_of : (form : Form) (config : Config) (rules : List Rule) (source : LinkedRecord) (hits : Hits) (old new : Showing) (after : FiltersState) (places : List ℕ) (why : WriteFault)
     → Passes config rules old.writer.filters [] (filtered_item hits) after places
     → ShowsPlaces (subject_for form config rules source hits) old.writer.tally.alerts places (sending_of old) (sending_of new) (Err why)
@@ -281,7 +281,7 @@ shows_part_of form config rules source hits old new after places why passes show
   emits = emits_stopped shown.emits (λ before. (tt, item_lines_by form config rules source hits old.writer after places passes before));
 }
 
--- its lines came, and it couldn't be counted
+-- an item's lines came, and it couldn't be counted
 pub shows_uncounted : (form : Form) (config : Config) (rules : List Rule) (source : LinkedRecord) (hits : Hits) (old new : Showing) (after : FiltersState) (places : List ℕ) (count : ℕ)
     → Passes config rules old.writer.filters [] (filtered_item hits) after places
     → ShowsPlaces (subject_for form config rules source hits) old.writer.tally.alerts places (sending_of old) (sending_of new) (Ok count)

@@ -1,6 +1,6 @@
--- Answers along a list whose inputs stand beside what they come from.
+-- Answers along a list whose inputs are beside what they come from.
 --
--- The answers to an input stand beside the same source, and no answer looks at a source: so what is carried
+-- The answers to an input are beside the same source, and no answer looks at a source: so what is carried
 -- along changes nothing of what is answered. To try it on: where `f before x = x ∷ x ∷ []`, the inputs 5 and
 -- 6 beside `a` and `b` give 5 and 5 beside `a`, and 6 and 6 beside `b`.
 use Rattle.std.specs.Prelude.{ℕ, ◌+◌, List, [], ◌∷◌, ◌++◌, length, map, option_and_then, replicate, slice_get, unwrap_or}
@@ -13,11 +13,11 @@ pub record Beside (S X : Type 0) : Type 0 where
 abbrev pub beside : {S X : Type 0} → S → X → Beside S X
 beside source what = record { source = source; what = what }
 
--- without the sources
+-- what is beside its sources, without these
 abbrev pub whats : {S X : Type 0} → List (Beside S X) → List X
 whats {S} {X} all = map (λ (b : Beside S X). b.what) all
 
--- a list of answers to each input, joined, where these inputs stand before the first (`trail_from`), each
+-- a list of answers to each input, joined, where these inputs come before the first (`trail_from`), each
 -- answer beside its input's source
 abbrev pub carried : {S X A : Type 0} → (List X → X → List A) → List X → List (Beside S X) → List (Beside S A)
 carried f before [] = []

@@ -36,7 +36,7 @@ event_of head rule = record { head = head; rule = rule }
 abbrev pub event_at : List Rule → ItemHead → ℕ → List Event
 event_at rules head place = option_to_list (option_map (event_of head) (slice_get rules place))
 
--- the events of an item behind earlier items that are kept, in the order in which they are shown
+-- the events of an item after earlier items that are kept, in the order in which they are shown
 unfoldable pub item_events : Config → List Rule → List Hits → Hits → List Event
 item_events config rules before hits =
     flat_map (event_at rules hits.head) (kept config rules (map filtered_item before) (filtered_item hits))

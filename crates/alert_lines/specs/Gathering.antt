@@ -2,7 +2,7 @@
 --
 -- What a step says of its text and of the sink is one relation: the text came whole, or the step was stopped and
 -- a part of what was to be written was. To try it on: where 65530 bytes wait and a line of 90 comes, the block is
--- written, and the line with it; where the sink fails behind 100 of these bytes, they were written, its count of
+-- written, and the line with it; where the sink fails after 100 of these bytes, they were written, its count of
 -- faults rose, and the step ends with `Unwritten`.
 use Rattle.std.specs.Prelude.{◌≡◌, ℕ, ◌≤◌, List, [], ◌++◌, Option, Result, ⊤, OnOk, OnErr, IsErrOf}
 use Rattle.edge_io.specs.Told.{behind, Rose}
@@ -17,11 +17,11 @@ pub record Sending : Type 0 where
   pub block : List ℕ
   pub faults : ℕ
 
--- of a block and a sink
+-- what is seen of a block and a sink
 abbrev pub sending : {A : Type 0} → SinkOf A → List ℕ → A → Sending
 sending a block alerts = record { written = a.written alerts; block = block; faults = a.faults alerts }
 
--- a text came behind the block: a front of both was written, and the rest waits
+-- a text came after the block: a front of both was written, and the rest waits
 pub record Gathers (text : List ℕ) (old new : Sending) : Type 0 where
   pub part : List ℕ
   pub joined : old.block ++ text ≡ part ++ new.block
@@ -36,10 +36,10 @@ pub record EmitsBy {Known A : Type 0} (text : Known → List ℕ) (old new : Sen
   pub quiet : OnOk outcome (new.faults ≡ old.faults)
   pub later : old.faults ≤ new.faults
 
--- the same of a text that goes by nothing else
+-- a text is on its way, or the step was stopped, and the text goes by nothing else
 abbrev pub Emits : {A : Type 0} → List ℕ → Sending → Sending → Result A WriteFault → Type 0
 Emits text = EmitsBy {Known = ⊤} (λ known. text)
 
--- the same of a text that nobody knows: what is left is how the step ended
+-- a text that nobody knows is on its way, or the step was stopped: what is left is how the step ended
 abbrev pub EmitsAny : {A : Type 0} → Sending → Sending → Result A WriteFault → Type 0
 EmitsAny = EmitsBy {Known = ⊥} (λ none. [])

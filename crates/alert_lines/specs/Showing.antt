@@ -1,6 +1,6 @@
 -- Items on their way to lines: what the filters of events keep of them, and what is counted.
 --
--- Each item stands beside the record whose decoding made its job, which neither filters nor counts look at.
+-- Each item is beside the record whose decoding made its job, which neither filters nor counts look at.
 -- A step says what it does to whatever items were given before: so steps follow one another, and a batch
 -- is its items, one by one. To try it on: of two items of one address, of which each would alert, under
 -- `event_filter` with `type limit` and `count 1` the first has its line, and the second none.
@@ -47,17 +47,17 @@ subject_of subject = record {
   head = subject.head.now;
 }
 
--- the lines of the rules at these places, behind so many alerts
+-- the lines of the rules at these places, after this many alerts
 unfoldable pub places_lines : Subject → ℕ → List ℕ → List ℕ
 places_lines subject before places =
     texts_from (text_of subject.form subject.classes) before
     (map (beside subject.source) (flat_map (event_at subject.rules subject.head) places))
 
--- how many these are
+-- how many alerts the rules at these places give
 unfoldable pub places_count : List Rule → ItemHead → List ℕ → ℕ
 places_count rules head places = length (flat_map (event_at rules head) places)
 
--- their lines are on their way, and were counted
+-- the lines of the rules at these places are on their way, and were counted
 pub record ShowsPlaces (subject : Subject) (before : ℕ) (places : List ℕ) (old new : Sending) (outcome : Result ℕ WriteFault) :
     Type 0 where
   pub emits : Emits (places_lines subject before places) old new outcome
@@ -69,7 +69,7 @@ pub record ShowsPlaces (subject : Subject) (before : ℕ) (places : List ℕ) (o
 abbrev pub SourcedItem : Type 0
 SourcedItem = Beside LinkedRecord Hits
 
--- the lines of items behind earlier items, each of whose events was an alert
+-- the lines of items after earlier items, each of whose events was an alert
 unfoldable pub items_lines : Form → Config → List Rule → List Hits → List SourcedItem → List ℕ
 items_lines form config rules before items =
     texts_from (text_of form config.classes) (length (trail (item_events config rules) before))
@@ -91,7 +91,7 @@ tally_in writer = writer.tally
 abbrev pub waiting_in : AlertWriter → List ℕ
 waiting_in writer = writer.block.items
 
--- its filters were given these items, and these were counted
+-- a writer's filters were given these items, and these were counted
 pub record EventsStand (config : Config) (rules : List Rule) (before : List Hits) (writer : AlertWriter) : Type 0 where
   pub given : IsGiven config rules (map filtered_item before) writer.filters
   pub tally : tally_in writer ≡ tally_of config rules before

@@ -1,7 +1,7 @@
 -- What an alert is as Unified2 records: its event, and the packet of that event.
 --
--- The fields are those of Snort's own records (Snort Users Manual 2.9, "Unified2 File Format"); what stands
--- in them is this project's reading. There is one sensor, 0, and nothing is known of impact or blocking.
+-- The fields are those of Snort's own records (Snort Users Manual 2.9, "Unified2 File Format"); what is in
+-- them is this project's reading. There is one sensor, 0, and nothing is known of impact or blocking.
 -- Events are numbered over the whole run from 1 on; numbers and seconds are taken modulo 2^32, and what is less
 -- than a microsecond is cut off. An ICMP message has its type and code in place of ports. The packet is
 -- the record whose decoding made the event's item.
@@ -55,11 +55,11 @@ second_port (body.Icmp kind code id seq) = code
 second_port body.Other = 0
 second_port body.Fragment = 0
 
--- the number of an event behind so many
+-- the number of an event after this many others
 abbrev pub event_number : ℕ → ℕ
 event_number before = (before + 1) % 2 ^ 32
 
--- the record of an event behind so many
+-- the record of an event after this many others
 abbrev pub event_record : ℕ → Event → U2Event
 event_record before event = record {
   sensor = 0;
@@ -93,7 +93,7 @@ packet_record before moment source = record {
   bytes = source.captured.bytes;
 }
 
--- the bytes of an alert behind so many: its event, and then the packet
+-- the bytes of an alert after this many others: its event, and then the packet
 unfoldable pub records_text : ℕ → Alert → List ℕ
 records_text before alert =
     unified2_text (an_event (event_record before alert.what))

@@ -23,7 +23,7 @@ impl From<NoMemory> for WriteFault {
     }
 }
 
-/// Both faults of a batch of jobs: memory was refused in it, or in an earlier one.
+/// Each fault of a batch of jobs is want of memory: memory was refused in it, or in an earlier one.
 impl From<BatchFault> for WriteFault {
     ghost use Rattle.alert_lines.specs.declared.fault.WriteFault.TheVariants.{NoMemory as out_of_memory};
 

@@ -1,4 +1,4 @@
-//! Alerts on their way to the sink: their texts are made one behind another, and written in blocks.
+//! Alerts on their way to the sink: their texts are made one after another, and written in blocks.
 ghost use Rattle.std.specs.Prelude.{◌≡◌, ◌≢◌, ◌<◌, ◌≤◌, [], ◌∷◌, ◌++◌, Err, length, All, OnOk, IfOk};
 ghost use Rattle.std.specs.Option.{ForSome};
 ghost use Rattle.rule_types.specs.Sound.{IsSound};
@@ -61,7 +61,7 @@ fn offer_full<A: Sink>(block: &mut Vec<u8>, alerts: &mut A) -> Result<(), WriteF
     offer(block, alerts)
 }
 
-/// Appends the text of a rule that alerts on an item, behind so many alerts.
+/// Appends the text of a rule that alerts on an item, after `before` alerts.
 fn push_alert(
     subject: &Subject<'_>,
     before: u128,
@@ -79,7 +79,7 @@ fn push_alert(
     }
 }
 
-/// Makes the text of a rule that alerts on an item, behind those that wait; so many alerts came before.
+/// Makes the text of a rule that alerts on an item, after those that wait; `before` alerts came before.
 fn show_line<A: Sink>(
     subject: &Subject<'_>,
     before: u128,
@@ -116,7 +116,7 @@ fn show_place<A: Sink>(
     Ok(1)
 }
 
-/// Makes the texts of the rules at these places, on an item, behind so many alerts. It tells how many
+/// Makes the texts of the rules at these places, on an item, after `before` alerts. It tells how many
 /// alerts these are.
 pub(crate) fn show_places<A: Sink>(
     subject: &Subject<'_>,

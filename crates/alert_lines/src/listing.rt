@@ -22,7 +22,7 @@ fn push_micro(micro: u32, out: &mut Vec<u8>) -> Result<(), NoMemory>
     }
 }
 
-/// Appends an address with its port, and what stands behind it.
+/// Appends an address with its port, and what follows it.
 #[tactic(auto, unfolding(crate::specs::RecordLines::end_text))]
 fn push_end(address: Addr, port: u16, then: &[u8], out: &mut Vec<u8>) -> Result<(), NoMemory>
     ensures { OnOk result (out.new.items ≡ out.old.items ++ (end_text address port ++ then.now)) }
@@ -96,7 +96,7 @@ fn push_entry(entry: &U2, out: &mut Vec<u8>) -> Result<(), NoMemory>
     }
 }
 
-/// Appends the lines of records, one behind another.
+/// Appends the lines of records, one after another.
 fn push_entries(entries: &[U2], out: &mut Vec<u8>) -> Result<(), NoMemory>
     ensures { OnOk result (out.new.items ≡ out.old.items ++ entry_lines entries.now) }
 {

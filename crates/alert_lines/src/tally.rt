@@ -14,7 +14,7 @@ pub struct Tally {
 }
 
 impl Tally {
-    /// One item more, with so many rules that match it and so many alerts.
+    /// One item more, with this many rules that match it and this many alerts.
     pub(crate) fn with(self, hits: usize, alerts: usize) -> Result<Tally, NoMemory>
         ensures { IfOk result (λ tally. tally ≡ record {
           items = self.items + 1;

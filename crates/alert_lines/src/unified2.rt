@@ -52,7 +52,7 @@ fn ports_of(body: Body) -> (u16, u16)
     }
 }
 
-/// The number of an event behind so many, modulo 2^32.
+/// The number of an event after `before` others, modulo 2^32.
 fn event_number(before: u128) -> u32
     ensures { result ≡ event_number before }
 {
@@ -69,7 +69,7 @@ fn class_number(class: Option<u32>) -> u32
     }
 }
 
-/// The event of a rule that alerts on an item, behind so many.
+/// The event of a rule that alerts on an item, after `before` others.
 fn event_record(before: u128, head: &ItemHead, rule: &Rule) -> U2Event
     ensures { result ≡ event_record before (event_of head.now rule.now) }
 {
@@ -95,7 +95,7 @@ fn event_record(before: u128, head: &ItemHead, rule: &Rule) -> U2Event
     }
 }
 
-/// The packet of an event at this moment, behind so many, which was captured so.
+/// The packet of an event at this moment, after `before` others, which was captured so.
 fn packet_record<'a>(before: u128, moment: Moment, origin: &'a LinkedRecord) -> LentPacket<'a>
     ensures { packet_of result ≡ packet_record before moment origin.now }
 {
@@ -111,8 +111,8 @@ fn packet_record<'a>(before: u128, moment: Moment, origin: &'a LinkedRecord) -> 
     }
 }
 
-/// Appends the records of a rule that alerts on an item, behind so many alerts, with the record whose
-/// decoding made the item's job. Where memory is lacking, a part of them may stand there.
+/// Appends the records of a rule that alerts on an item, after `before` alerts, with the record whose
+/// decoding made the item's job. Where memory is lacking, a part of them may be left there.
 pub(crate) fn push_records(
     before: u128,
     origin: &LinkedRecord,

@@ -35,10 +35,10 @@ pub struct Shown<'a> {
 /// (`waiting_in`).
 #[derive(Drop)]
 pub struct AlertWriter {
-    /// They decide which events are kept.
+    /// The filters that decide which events are kept.
     filters: Filters,
     tally: Tally,
-    /// The places of the rules whose events of the item at hand are kept: they stand here for their memory.
+    /// The places of the rules whose events of the item at hand are kept: they are kept here for their memory.
     kept: Vec<u32>,
     /// The texts that wait for a write.
     block: Vec<u8>,

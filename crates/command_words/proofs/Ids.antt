@@ -15,7 +15,7 @@ ids_are (e ∷ entries) = ap (λ (ids : List Text). e.0.now ∷ ids) (ids_are en
 pub at_first : (found : Found) (left : List Text) → left ≡ map (λ (e : Entry). e.0.now) found.entries.items → others_in (rows_of found) ≡ others_among (rows_of found) left
 at_first found left is = ap (others_among (rows_of found)) (ids_are found.entries.items ∙ sym is)
 
--- the next one decides, or those behind it do
+-- the next one decides, or those after it do
 next : (rows : List Row) (left later : List Text) (id : Text) → Some id ≡ slice_get left 0 → later ≡ drop 1 left
     → others_among rows left ≡ ((not (stands_beside id) && is_some (given_in rows id)) || others_among rows later)
 next rows [] later id is behind = absurd cc
@@ -48,7 +48,7 @@ past_default rows left later id is behind lacks =
     and_false true = refl
     and_false false = refl
 
--- behind the last one there is none
+-- after the last one there is none
 pub at_end : (rows : List Row) (left : List Text) → None ≡ slice_get left 0 → others_among rows left ≡ false
 at_end rows [] is = refl
 at_end rows (id ∷ left) is = absurd cc

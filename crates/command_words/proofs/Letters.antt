@@ -24,7 +24,7 @@ module _ {X : Type 0} (known : List Choice) (all : AllFound known known) (out : 
   abbrev out_of : Held × Outcome → Option X
   out_of met = out met.0 met.1
 
-  -- a flag, and then the letters behind it
+  -- a flag, and then the letters after it
   flag_then : (use_here : Use) (choice : Choice) (tail : Option Reading) (rows : List Row) → use_here ≡ use_of choice (codes "true")
       → (add use_here rows >>= λ r. tail >>= λ reading. after_reading next reading r) ≡ (option_map (then_letters choice) tail >>= λ reading. after_reading next reading rows)
   flag_then use_here choice None rows is = bind-none (add use_here rows)
@@ -61,7 +61,7 @@ module _ {X : Type 0} (known : List Choice) (all : AllFound known known) (out : 
   letter_step (Some choice) rest tail fault met behind rows pending found =
       letter_found choice.label choice.takes_value rest tail fault met behind rows pending (found choice refl)
 
-  -- the first letter, where those behind it are read as they should be
+  -- the first letter, where those after it are read as they should be
   pub first_letter : (k x : ℕ) (xs : List ℕ) (so_far : Outcome) (rows : List Row) (pending : Option (Text × List Text)) → all_scalars (x ∷ xs) ≡ true
       → ((after : List Row) → guard (flags_fault c false k (encode_utf8_all xs) 0 (held after None)) (out_of (bundle_met c k (encode_utf8_all xs) 0 done (held after None)))
       ≡ (letters_uses known xs >>= λ reading. after_reading next reading after))
@@ -78,7 +78,7 @@ module _ {X : Type 0} (known : List Choice) (all : AllFound known known) (out : 
       ∙ letter_step (find (λ choice. is_letter x choice.label) known) xs (letters_uses known xs) (flags_fault c false k (encode_utf8_all xs) 0) (bundle_met c k (encode_utf8_all xs) 0 done) behind rows pending
       (λ choice e. found_is known (λ choice. is_letter x choice.label) known choice all e)
 
-  -- the letters behind a flag
+  -- the letters after a flag
   pub more_letters : (k : ℕ) (xs : List ℕ) → all_scalars xs ≡ true → length xs ≤ k → (rows : List Row)
       → guard (flags_fault c false k (encode_utf8_all xs) 0 (held rows None)) (out_of (bundle_met c k (encode_utf8_all xs) 0 done (held rows None)))
       ≡ (letters_uses known xs >>= λ reading. after_reading next reading rows)

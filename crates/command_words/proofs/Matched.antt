@@ -30,7 +30,7 @@ first_in (use_here ∷ uses) label = go (bytes_eq use_here.label label) (first_i
 
 -- ---- the defaults
 
--- a row behind the others that is no given one
+-- a row after the others that is no given one
 given_behind : (label : Text) (rows : List Row) (new_row : Row) → given_text new_row ≡ None → given_in (rows ++ new_row ∷ []) label ≡ given_in rows label
 given_behind label [] new_row lacks = go (bytes_eq new_row.id label)
   where

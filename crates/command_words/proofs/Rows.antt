@@ -38,7 +38,7 @@ all_rows_used : (uses : Option (List Use)) → (uses >>= λ found. add_all found
 all_rows_used None = refl
 all_rows_used (Some uses) = rows_used uses []
 
--- ---- behind the walk: each default has its form, and nothing is wanted
+-- ---- after the walk: each default has its form, and nothing is wanted
 
 none_either : (b : Bool) (kinds : Kinds) → cond b kinds kinds ≡ kinds
 none_either true kinds = refl

@@ -38,7 +38,7 @@ no_flags true version_on rest wanted is = absurd cc
 no_flags false true rest wanted is = absurd cc
 no_flags false false rest wanted is = is
 
--- and no records of a file
+-- no records of a file are asked for where a run is
 no_file : (text_of : List ℕ → Option (List ℕ)) (others : Bool) (values : Values) (file : Option (List ℕ)) (wanted : Run) → asked_of text_of others values file ≡ Some (run wanted)
     → run_by text_of values ≡ Some (run wanted)
 no_file text_of others values None wanted is = is

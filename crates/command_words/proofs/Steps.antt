@@ -12,7 +12,7 @@ use Rattle.command_words.proofs.Rules.{IsFound, add, add_all, bind-none, flag_us
 abbrev pub held : List Row → Option (Text × List Text) → Held
 held rows pending = record { rows = rows; pending = pending; skip = 0 }
 
--- the rows after the uses of a reading, and what comes behind it
+-- the rows after the uses of a reading, and what comes after it
 abbrev pub after_reading : {X : Type 0} → (Option Choice → List Row → Option X) → Reading → List Row → Option X
 after_reading next reading rows = add_all reading.uses rows >>= next reading.waiting
 

@@ -81,7 +81,7 @@ pub option_turn : (known : List Choice) (word id : Text) (h : Held) (rest : List
 unfolding walked
 option_turn known word id h rest = turned known (at h (option id) false) word rest ∙ as_parts known (option id) word h rest
 
--- behind `--` nothing may stand
+-- after `--` nothing may follow
 pub trailed : (known : List Choice) (h : Held) (waiting : Waiting) (rest : List Text)
     → ending known (at h waiting true) rest ≡ (settle (rules known) h >>= λ rows. if_last rest >>= λ uses. add_all uses rows)
 unfolding walk_fault walked

@@ -30,7 +30,7 @@ append_uses (use_here ∷ first) second rows = go (add use_here rows) (append_us
     go None more = refl
     go (Some r) more = more r
 
--- the uses of a word, and those of the words behind it
+-- the uses of a word, and those of the words after it
 joined_uses : (reading : Reading) (behind : Option (List Use)) (rows : List Row)
     → (add_all reading.uses rows >>= λ r. behind >>= λ uses. add_all uses r) ≡ (option_map (λ uses. reading.uses ++ uses) behind >>= λ uses. add_all uses rows)
 joined_uses reading None rows = bind-none (add_all reading.uses rows)
@@ -75,7 +75,7 @@ module _ (known : List Choice) (all : AllFound known known) (waiting : Waiting) 
       go [] e = absurd (omega (arith, ap length e))
       go (x ∷ xs) e = omega arith
 
--- the text behind a hyphen is text, and not empty
+-- the text after a hyphen is text, and not empty
 short_text : (word flags : Text) → IsUtf8 word → short_of word ≡ Some flags → IsUtf8 flags × (0 < length flags)
 short_text [] flags text is = absurd (true≢false (sym (ap is_some is)))
 short_text (b ∷ bs) flags text is = go (b == 45) refl is

@@ -83,7 +83,7 @@ given_text row = if_given row.source (slice_get row.values 0)
 abbrev pub given_in : List Row → Text → Option Text
 given_in rows label = option_and_then given_text (find (λ row. bytes_eq row.id label) rows)
 
--- the words gave one of these, and it may not stand beside `--read-unified2`
+-- the words gave one of these, and it may not be given beside `--read-unified2`
 abbrev pub others_among : List Row → List Text → Bool
 others_among rows labels = list_any (λ label. not (stands_beside label) && is_some (given_in rows label)) labels
 

@@ -82,7 +82,7 @@ abbrev pub is_console : Option (List ℕ) → Bool
 is_console None = true
 is_console (Some text) = bytes_eq text (codes "console")
 
--- the values behind `-A`, by the text that each option has
+-- the values after `-A`, by the text that each option has
 abbrev pub values_behind : (List ℕ → Option (List ℕ)) → Option Values
 values_behind text_of =
     maybe mode_named (text_of (codes "k")) >>= λ checks.
@@ -103,7 +103,7 @@ values_behind text_of =
 unfoldable pub values_by : (List ℕ → Option (List ℕ)) → Option Values
 values_by text_of = if is_console (text_of (codes "A")) then values_behind text_of else None
 
--- ---- the steps behind the reading
+-- ---- the steps after the reading
 
 -- a variable's name, and a value of at least one byte
 abbrev pub named : List ℕ → List ℕ → Option Defined
@@ -168,14 +168,14 @@ first_asked text_of others values =
     else if is_some (text_of (codes "V")) then Some version
     else asked_of text_of others values (text_of (codes "read-unified2"))
 
--- what is asked for, by the text that each option and flag has, and whether any use is one that may not stand
+-- what is asked for, by the text that each option and flag has, and whether any use is one that may not be given
 -- beside `--read-unified2`
 unfoldable pub asked_by : (List ℕ → Option (List ℕ)) → Bool → Option Asked
 asked_by text_of others = values_by text_of >>= first_asked text_of others
 
 -- ---- the command
 
--- what may stand beside `--read-unified2`
+-- what may be given beside `--read-unified2`
 abbrev pub stands_beside : List ℕ → Bool
 stands_beside label =
     bytes_eq label (codes "read-unified2") || (bytes_eq label (codes "help") || bytes_eq label (codes "V"))

@@ -6,7 +6,7 @@
 use Rattle.std.specs.Prelude.{ℕ, ◌==◌, Bool, true, false, List, [], ◌∷◌, codes}
 use Rattle.std.specs.Str.{bytes_eq}
 
--- what an option or a flag is called: by a letter behind `-`, or by a name behind `--`
+-- what an option or a flag is called: by a letter after `-`, or by a name after `--`
 pub data Label : Type 0 where
   letter : ℕ → Label
   name : List ℕ → Label

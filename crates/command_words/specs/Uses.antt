@@ -28,7 +28,7 @@ pub record Reading : Type 0 where
   pub uses : List Use
   pub waiting : Option Choice
 
--- one use, and none that waits
+-- a reading of one use, and no option that waits
 abbrev pub one : Use → Reading
 one use_here = record { uses = use_here ∷ []; waiting = None }
 
@@ -88,7 +88,7 @@ uses_in known (Some choice) (word ∷ rest) =
 abbrev pub is_used : List ℕ → List Use → Bool
 is_used label uses = list_any (λ use_here. bytes_eq use_here.label label) uses
 
--- each is used once, and none of those that were used before
+-- these uses after those before, if each is used once and none was used before
 abbrev pub used_once : List Use → List Use → Option (List Use)
 used_once before [] = Some before
 used_once before (use_here ∷ rest) = if is_used use_here.label before then None else used_once (before ++ use_here ∷ []) rest

@@ -46,7 +46,7 @@ pub struct Words<'a> {
     pub checks: Option<ChecksumMode>,
     /// `-n`: the number of records after which the capture ends, from 1 to 4294967295.
     pub limit: Option<u32>,
-    /// `-S`: a variable that stands before the configuration is read.
+    /// `-S`: a variable that is defined before the configuration is read.
     pub defined: Option<Definition<'a>>,
     /// `--host-table`: the name of the table of hosts.
     pub host_table: Option<&'a str>,

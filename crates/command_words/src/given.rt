@@ -33,14 +33,14 @@ pub(crate) fn is_given(matches: &ArgMatches<'_>, id: &str) -> bool
     given(matches, id).is_some()
 }
 
-/// Whether this letter or name may stand beside `--read-unified2`.
+/// Whether this letter or name may be given beside `--read-unified2`.
 fn stands_beside(id: &str) -> bool
     ensures { result ≡ stands_beside id.now }
 {
     id == "read-unified2" || id == "help" || id == "V"
 }
 
-/// Whether the words gave anything that may not stand beside `--read-unified2`.
+/// Whether the words gave anything that may not be given beside `--read-unified2`.
 pub(crate) fn has_others(matches: &ArgMatches<'_>) -> bool
     ensures { result ≡ others_in (rows_of (found_of matches.now)) }
 {

@@ -40,7 +40,7 @@ joined_lines-begin n line more = go (is_open line) (joined_lines (n + 1) more)
     go true (next ∷ rest) = refl
     go false rest = refl
 
--- the same of a text that is not empty
+-- joining nothing in front changes no lines of a text that is not empty
 pub joined_lines-start : (n : ℕ) (text : List ℕ) → 0 < length text → joined_lines n (lines text) ≡ joined_onto n [] (joined_lines n (lines text))
 joined_lines-start n [] some = absurd (never some)
   where

@@ -1,4 +1,4 @@
--- From the meaning of a line to how the reading goes on behind it.
+-- From the meaning of a line to how the reading goes on after it.
 use Rattle.std.proofs.Common.{◌≡◌, ℕ, List, length, Result, Ok, Err, ap, ◌∙◌}
 use Rattle.std.specs.Prelude.{⊤}
 use Rattle.net_lists.specs.declared.stop.Stop.{Stop}
@@ -15,7 +15,7 @@ use Rattle.conf_parser.specs.Reading.{Including, Ended, given_read, meaning_read
 use Rattle.conf_parser.specs.ConfLine.{conf_line}
 use Rattle.conf_parser.specs.Steps.{next_read, line_stop, StepsTo}
 
--- where a line of this file stands
+-- where a line of this file is
 abbrev pub spot_of : Source → Read → Spot
 spot_of source read = record { file = source.name; depth = source.depth; files = file_count read }
 

@@ -1,4 +1,4 @@
--- The draft behind settings, one after another.
+-- The draft after settings, one after another.
 use Rattle.std.proofs.Common.{◌≡◌, ℕ, Bool, List, [], ◌∷◌, Option, Result, Ok, refl, ap, ◌∙◌}
 use Rattle.net_lists.specs.Folds.{draft_behind}
 use Rattle.net_lists.proofs.Drafts.{draft_behind-ok, draft_behind-none}
@@ -6,7 +6,7 @@ use Rattle.conf_parser.specs.declared.line.ConfKind.{ConfKind}
 use Rattle.conf_parser.specs.Options.{Setting, setting, paired}
 
 module _ {D : Type 0} (alone : List ℕ → Bool) (step : D → List ℕ → Option (List ℕ) → Result D ConfKind) where
-  -- the draft behind the settings that words are
+  -- the draft after the settings that words are
   abbrev pub behind_words : D → List (List ℕ) → Result D ConfKind
   behind_words draft words = draft_behind (λ d setting. step d setting.name setting.value) draft (paired alone words)
 

@@ -1,10 +1,10 @@
--- What one line of a configuration means: from what stands before it to what stands behind it, with a rule
+-- What one line of a configuration means: from what comes before it to what comes after it, with a rule
 -- line, an include or a warning where the line is one; or the kind of its fault.
 --
 -- The line is one joined line without the blanks at its ends, and neither empty nor a comment. Its first word
 -- is the directive, and each directive has a definition of its own in the module of its family.
 -- (Snort Users Manual 2.9, chapter 2.)
--- To try it on: `config checksum_mode: none` behind nothing checks no checksum any more; `output x: y` is
+-- To try it on: `config checksum_mode: none` after nothing checks no checksum any more; `output x: y` is
 -- skipped with a warning of `output` and `x`; `fetch me` is no directive.
 use Rattle.std.specs.Prelude.{ℕ, Bool, false, Option, Some, None, Result, Ok, Err, List, [], ◌∷◌}
 use Rattle.net_lists.specs.Cutting.{first_word, behind_word}
@@ -45,26 +45,26 @@ drafted settings draft = record settings { draft = draft }
 abbrev pub with_variables : Settings → Variables → Settings
 with_variables settings variables = record settings { vars = variables }
 
--- the answer of a step that changes the settings in their place, with the settings behind it
+-- the answer of a step that changes the settings in their place, with the settings after it
 abbrev pub given_behind : {E : Type 0} → Result Given E → Settings → Result Behind E
 given_behind (Ok given) new = Ok (record { settings = new; given = given })
 given_behind (Err why) new = Err why
 
--- behind a line that defines a variable
+-- what comes after a line that defines a variable
 unfoldable pub definition_line : Settings → ValueForm → List ℕ → Result Behind ConfKind
 definition_line settings form rest =
     mapped (λ variables. silent (with_variables settings variables)) (definition settings.vars form rest)
 
--- behind an include, before its file is read
+-- what comes after an include, before its file is read
 unfoldable pub include_line : Settings → Spot → List ℕ → Result Behind ConfKind
 include_line settings spot rest = mapped (λ name. record { settings = settings; given = Include name })
     (include settings.vars spot rest)
 
--- behind a line that is skipped with a warning
+-- what comes after a line that is skipped with a warning
 abbrev pub skipped : Settings → List ℕ → List ℕ → Behind
 skipped settings word name = record { settings = settings; given = Skipped word name }
 
--- the draft behind a `config` line, by what stands behind its colon
+-- the draft after a `config` line, by what comes after its colon
 unfoldable pub config_draft : Draft → ConfigName → List ℕ → Result Draft ConfKind
 config_draft draft config.Classification value =
     mapped (λ classes. record draft { classes = classes }) (classification draft.classes value)
@@ -74,28 +74,28 @@ config_draft draft config.EventQueue value = mapped (λ queue. record draft { qu
 config_draft draft config.Detection value = Ok (record draft { inserts = detection draft.inserts value })
 config_draft draft config.Unread value = Ok draft
 
--- the draft behind a `config` line, by what stands behind its name
+-- the draft after a `config` line, by what comes after its name
 unfoldable pub config_value : Draft → ConfigName → List ℕ → Result Draft ConfKind
 config_value draft config.Unread rest = Ok draft
 config_value draft name rest = or_kind BadValue (behind_colon rest) >>= config_draft draft name
 
--- the settings behind a line with this draft
+-- the settings after a line with this draft
 abbrev pub behind_draft : Settings → Result Draft ConfKind → Result Behind ConfKind
 behind_draft settings read = mapped (λ draft. silent (drafted settings draft)) read
 
--- behind a line of a name that may be one of those that are read, else skipped
+-- what comes after a line whose name is one of those that are read; a line of another name is skipped
 abbrev pub named_or_skipped : {N : Type 0} → Settings → List ℕ → List ℕ → Option N → (N → Result Draft ConfKind)
     → Result Behind ConfKind
 named_or_skipped settings word name None read = Ok (skipped settings word name)
 named_or_skipped settings word name (Some known) read = behind_draft settings (read known)
 
--- behind a `config` line, by what stands behind the word
+-- what comes after a `config` line, by what comes after the word
 unfoldable pub config_line : Settings → List ℕ → List ℕ → Result Behind ConfKind
 config_line settings word rest =
     named_or_skipped settings word (name_of rest) (config_name (name_of rest))
     (λ name. config_value settings.draft name (behind_name rest))
 
--- the draft behind a `preprocessor` line, by what stands behind its name
+-- the draft after a `preprocessor` line, by what comes after its name
 unfoldable pub preprocessor_draft : Variables → Draft → PreprocessorName → List ℕ → Result Draft ConfKind
 preprocessor_draft variables draft preprocessor.FragGlobal rest =
     mapped (λ frag. record draft { frag = frag }) (frag3_global draft.frag rest)
@@ -109,23 +109,23 @@ preprocessor_draft variables draft preprocessor.StreamUdp rest =
     mapped (λ stream. record draft { stream = stream }) (stream5_udp draft.stream rest)
 preprocessor_draft variables draft preprocessor.Outside rest = Err OutsideProfile
 
--- behind a `preprocessor` line, by what stands behind the word
+-- what comes after a `preprocessor` line, by what comes after the word
 unfoldable pub preprocessor_line : Settings → List ℕ → List ℕ → Result Behind ConfKind
 preprocessor_line settings word rest =
     named_or_skipped settings word (name_of rest) (preprocessor_name (name_of rest))
     (λ name. preprocessor_draft settings.vars settings.draft name (behind_name rest))
 
--- behind an `event_filter` line
+-- what comes after an `event_filter` line
 unfoldable pub filter_line : Settings → List ℕ → Result Behind ConfKind
 filter_line settings rest = behind_draft settings (mapped (λ filters. record (settings.draft) { filters = filters })
     (event_filter settings.draft.filters rest))
 
--- behind a `suppress` line
+-- what comes after a `suppress` line
 unfoldable pub suppress_line : Settings → List ℕ → Result Behind ConfKind
 suppress_line settings rest = behind_draft settings (mapped (λ lines. record (settings.draft) { suppress = lines })
     (suppress settings.vars settings.draft.suppress rest))
 
--- the table of directives, by the first word and what stands behind it
+-- the table of directives, by the first word and what comes after it
 unfoldable pub directive_line : Spot → Settings → Directive → List ℕ → List ℕ → Result Behind ConfKind
 directive_line spot settings directive.Rule word rest = Ok (record { settings = settings; given = Rule })
 directive_line spot settings directive.Var word rest = definition_line settings form.Any rest

@@ -40,7 +40,7 @@ with_class classes class =
     else if nat_le 1024 (length classes) then Err Limit
     else Ok (classes ++ class ∷ [])
 
--- `classification`: the classes behind the line
+-- `classification`: the classes after the line
 unfoldable pub classification : List Class → List ℕ → Result (List Class) ConfKind
 classification classes value = class_of value >>= with_class classes
 

@@ -1,6 +1,6 @@
 -- The lines `event_filter` and `suppress`: which events are kept. (Snort Users Manual 2.9, sections 2.4.2 and 2.4.3.)
 --
--- Parts stand between commas; the first word names a part, and the rest is its value. An event filter has all
+-- Parts are between commas; the first word names a part, and the rest is its value. An event filter has all
 -- six parts, each once and in any order. A suppress line has two parts, or four, in their order; a part
 -- without its value lacks, and counts at the end of the line.
 -- To try it on: `suppress gen_id, sig_id 1, track by_src, ip 10.0` is a bad address list.
@@ -57,11 +57,11 @@ filter_kind value =
     else if is_word value (codes "both") then Some kind.Both
     else None
 
--- a part that stands for the first time, with what its value spells
+-- a part that is given for the first time, with what its value spells
 abbrev pub once : {A : Type 0} → Option A → Option A → Result A ConfKind
 once old read = if is_some old then Err BadValue else or_kind BadValue read
 
--- the draft behind a part
+-- the draft after a part
 abbrev pub filter_value : FilterDraft → FilterName → List ℕ → Result FilterDraft ConfKind
 filter_value draft name.GenId value = mapped (λ n. record draft { gid = Some n }) (once draft.gid (number_in 0 4294967295 value))
 filter_value draft name.SigId value = mapped (λ n. record draft { sid = Some n }) (once draft.sid (number_in 0 4294967295 value))
@@ -76,7 +76,7 @@ filter_value draft name.Seconds value =
 unfoldable pub filter_part : FilterDraft → List ℕ → Result FilterDraft ConfKind
 filter_part draft part = or_kind BadValue (filter_name (first_word part)) >>= λ name. filter_value draft name (behind_word part)
 
--- before the first part
+-- the draft of a filter before the first part
 abbrev pub no_parts : FilterDraft
 no_parts = record { gid = None; sid = None; kind = None; track = None; count = None; seconds = None }
 
@@ -84,7 +84,7 @@ no_parts = record { gid = None; sid = None; kind = None; track = None; count = N
 abbrev pub names_rule_alone : ℕ → ℕ → Bool
 names_rule_alone gid sid = gid == 0 && not (sid == 0)
 
--- the filter, where all six parts stood
+-- the filter, where all six parts were given
 unfoldable pub filter_of : FilterDraft → Result EventFilter ConfKind
 filter_of draft = do
   gid ← or_kind BadValue draft.gid
@@ -106,7 +106,7 @@ filter_of draft = do
 unfoldable pub has_filter : List EventFilter → ℕ → ℕ → Bool
 has_filter filters gid sid = list_any (λ filter. filter.gid == gid && filter.sid == sid) filters
 
--- one filter more: one for a generator and rule, and at most 1024 stand
+-- the filters with one more: one for a generator and rule, and at most 1024 in all
 unfoldable pub with_filter : List EventFilter → EventFilter → Result (List EventFilter) ConfKind
 with_filter filters filter =
     if has_filter filters filter.gid filter.sid then Err Duplicate
@@ -117,11 +117,11 @@ with_filter filters filter =
 unfoldable pub read_filter : List ℕ → Result EventFilter ConfKind
 read_filter rest = draft_behind filter_part no_parts (comma_parts rest) >>= filter_of
 
--- `event_filter`: the filters behind the line
+-- `event_filter`: the filters after the line
 unfoldable pub event_filter : List EventFilter → List ℕ → Result (List EventFilter) ConfKind
 event_filter filters rest = read_filter rest >>= with_filter filters
 
--- what the next part of a suppress line begins with; None behind the last
+-- what the next part of a suppress line begins with; None after the last
 abbrev pub next_word : NextPart → Option (List ℕ)
 next_word next.GenId = Some (codes "gen_id")
 next_word next.SigId = Some (codes "sig_id")
@@ -129,7 +129,7 @@ next_word next.Track = Some (codes "track")
 next_word next.Ip = Some (codes "ip")
 next_word next.End = None
 
--- the part behind a part
+-- the part after a part
 abbrev pub part_behind : NextPart → NextPart
 part_behind next.GenId = next.SigId
 part_behind next.SigId = next.Track
@@ -137,7 +137,7 @@ part_behind next.Track = next.Ip
 part_behind next.Ip = next.End
 part_behind next.End = next.End
 
--- the part stands in its place
+-- the word is the one that the next part begins with
 abbrev pub stands : Option (List ℕ) → List ℕ → Bool
 stands None word = false
 stands (Some wanted) word = is_word word wanted
@@ -154,11 +154,11 @@ suppress_value variables draft next.Ip value =
     mapped (λ list. record draft { list = Some list }) (expanded_addresses variables value)
 suppress_value variables draft next.End value = Err BadValue
 
--- the draft, with the part behind this one as the next
+-- the draft, with the part after this one as the next
 abbrev pub past : NextPart → SuppressDraft → SuppressDraft
 past part draft = record draft { next = part_behind part }
 
--- the draft behind a part that stands in its place, with its value or without
+-- the draft after a part that is in its place, with its value or without
 unfoldable pub placed_part : Variables → SuppressDraft → List ℕ → Result SuppressDraft ConfKind
 placed_part variables draft value =
     if is_empty value then Ok (record draft { next = part_behind draft.next; lacks = true })
@@ -169,7 +169,7 @@ unfoldable pub suppress_part : Variables → SuppressDraft → List ℕ → Resu
 suppress_part variables draft part =
     if stands (next_word draft.next) (first_word part) then placed_part variables draft (behind_word part) else Err BadValue
 
--- before the first part
+-- the draft of a suppress line before the first part
 abbrev pub first_part : SuppressDraft
 first_part = record { next = next.GenId; lacks = false; gid = 0; sid = 0; track = None; list = None }
 
@@ -184,13 +184,13 @@ tracked draft = do
   list ← or_kind BadValue draft.list
   Ok (record { gid = draft.gid; sid = draft.sid; track = Some (track, list) })
 
--- the line, where two or four parts stood, each with its value
+-- the line, where two or four parts were given, each with its value
 unfoldable pub suppress_of : SuppressDraft → Result Suppress ConfKind
 suppress_of draft =
     if draft.lacks then Err BadValue
     else elim (draft.next) [ next.Track ↦ untracked draft | next.End ↦ tracked draft | _ ↦ Err BadValue ]
 
--- one line more; at most 1024 stand
+-- the suppress lines with one more: at most 1024 in all
 unfoldable pub with_suppress : List Suppress → Suppress → Result (List Suppress) ConfKind
 with_suppress lines line = if nat_le 1024 (length lines) then Err Limit else Ok (lines ++ line ∷ [])
 
@@ -198,6 +198,6 @@ with_suppress lines line = if nat_le 1024 (length lines) then Err Limit else Ok 
 unfoldable pub read_suppress : Variables → List ℕ → Result Suppress ConfKind
 read_suppress variables rest = draft_behind (suppress_part variables) first_part (comma_parts rest) >>= suppress_of
 
--- `suppress`: the lines behind it
+-- `suppress`: the lines after it
 unfoldable pub suppress : Variables → List Suppress → List ℕ → Result (List Suppress) ConfKind
 suppress variables lines rest = read_suppress variables rest >>= with_suppress lines

@@ -22,7 +22,7 @@ unfoldable pub is_unread_global : List ℕ → Bool
 is_unread_global name =
     is_word name (codes "memcap") || is_word name (codes "prealloc_memcap") || is_word name (codes "prealloc_frags")
 
--- one setting of `frag3_global`: the greatest number of fragments behind it
+-- one setting of `frag3_global`: the greatest number of fragments after it
 unfoldable pub global_setting : ℕ → List ℕ → Option (List ℕ) → Result ℕ ConfKind
 global_setting frags name None = Err BadValue
 global_setting frags name (Some value) =
@@ -30,11 +30,11 @@ global_setting frags name (Some value) =
     else if is_unread_global name then mapped (λ n. frags) (or_kind BadValue (number_in 0 4294967295 value))
     else Err BadValue
 
--- the global line, which stands once
+-- the global line, which may be given once
 unfoldable pub with_max_frags : FragDraft → ℕ → Result FragDraft ConfKind
 with_max_frags draft frags = if is_some draft.max_frags then Err Duplicate else Ok (record draft { max_frags = Some frags })
 
--- `frag3_global`, by what stands behind the name
+-- `frag3_global`, by what comes after the name
 unfoldable pub frag3_global : FragDraft → List ℕ → Result FragDraft ConfKind
 frag3_global draft rest = do
   text ← setting_text rest
@@ -68,14 +68,14 @@ engine_setting variables engine name (Some value) =
 unfoldable pub has_default : List FragEngine → Bool
 has_default engines = list_any (λ engine. is_none engine.bind) engines
 
--- one engine more: one for all hosts stands once, and at most 1024 stand
+-- the draft with one engine more: one for all hosts may be given once, and at most 1024 in all
 unfoldable pub with_engine : FragDraft → FragEngine → Result FragDraft ConfKind
 with_engine draft engine =
     if is_none engine.bind && has_default draft.engines then Err Duplicate
     else if nat_le 1024 (length draft.engines) then Err Limit
     else Ok (record draft { engines = draft.engines ++ engine ∷ [] })
 
--- `frag3_engine`, by what stands behind the name
+-- `frag3_engine`, by what comes after the name
 unfoldable pub frag3_engine : Variables → FragDraft → List ℕ → Result FragDraft ConfKind
 frag3_engine variables draft rest = do
   text ← setting_text rest

@@ -1,4 +1,4 @@
--- The lines of a file: cut at line feeds and joined where a backslash stands at a line's end; which of them are
+-- The lines of a file: cut at line feeds and joined where a backslash is at a line's end; which of them are
 -- kept, and as what, is said by net_lists' specs/Lines.
 --
 -- A line whose last byte is a backslash is joined with the next one, without the backslash, and goes on

@@ -34,7 +34,7 @@ Tells (Some files) contents = (number : ℕ) (name : List ℕ) → contents numb
 
 -- ---- while the reading goes on
 
--- the same contents for the files from one number on, below another
+-- two contents are the same for the files from one number on, below another
 pub record AreSame (low high : ℕ) (seen contents : Contents) : Type 0 where
   pub at : (number : ℕ) (name : List ℕ) → low ≤ number → number < high → contents number name ≡ seen number name
 
@@ -46,7 +46,7 @@ pub record Goes (host : Option Files) (low high : ℕ) (reading next : Contents 
   pub later : low ≤ high
   pub goes : (contents : Contents) → AreSame low high seen contents → reading contents ≡ next contents
 
--- a reading asks for this file, over all contents that lack it behind the files that the host may have
+-- a reading asks for this file, over all contents that lack it after the files that the host may have
 pub record AsksFor (host : Option Files) (low : ℕ) (reading : Contents → Ended) (name : List ℕ) (output : Output) : Type 0 where
   pub seen : Contents
   pub tells : Tells host seen
@@ -60,13 +60,13 @@ Stops host low reading stopped.NoMemory = ⊤
 Stops host low reading (stopped.Refused fault output) = (high : ℕ) × Goes host low high reading (λ contents. Refused fault output)
 Stops host low reading (stopped.Asks name output) = AsksFor host low reading name output
 
--- a reading goes on behind what was read, or stops
+-- a reading goes on after what was read, or stops
 abbrev pub GoesOn : {A : Type 0} → Option Files → ℕ → (A → ℕ) → (A → Contents → Ended) → (Contents → Ended) → Result A Stopped
     → Type 0
 GoesOn host low count next reading (Ok x) = Goes host low (count x) reading (next x)
 GoesOn host low count next reading (Err stop) = Stops host low reading stop
 
--- what was read gives the reading behind it
+-- what was read gives the reading after it
 abbrev pub whole_next : Read → Contents → Ended
 whole_next read contents = Whole read
 
@@ -82,7 +82,7 @@ UnlessAsks holds result = holds
 
 -- ---- one file
 
--- how the files are read that a line includes, where includes may nest so many times more behind it
+-- how the files are read that a line includes, where includes may nest this many times more below that line
 abbrev pub inner : Contents → ℕ → Including
 inner contents zero name at read = Whole read
 inner contents (suc left) name at read = file_read contents left name at read
@@ -99,7 +99,7 @@ opened_of left name read bytes = record {
 abbrev pub opened_count : Opened → ℕ
 opened_count opened = file_count opened.read
 
--- the reading behind its lines
+-- the reading after the lines of a file
 abbrev pub opened_next : ℕ → Opened → Contents → Ended
 opened_next left opened contents = lines_read (inner contents left) opened.source opened.lines opened.read
 
@@ -129,7 +129,7 @@ StopsAtFile name at output load.NoMemory stop = stop ≡ stopped.NoMemory
 
 -- ---- the whole
 
--- the files and the warnings that stand there are those of the lines before
+-- the files and the warnings that are handed out are those of the lines before
 pub record AreHandedOut (output : Output) (out : Loaded) : Type 0 where
   pub files : out.files ≡ output.files
   pub warnings : out.warnings ≡ output.warnings

@@ -1,6 +1,6 @@
 -- Reading a configuration: the lines of its first file and of the files that it includes, in reading order.
 --
--- An include is read where its line stands, before the lines behind it. Each line is read from what stands
+-- An include is read where its line is, before the lines after it. Each line is read from what comes
 -- before it, by `conf_line`, and the first that is refused ends the reading, as does the first file whose
 -- contents lack. Contents are asked for by the number of the file among those read and by its name: where a
 -- host tells its files, the number does not matter.
@@ -45,7 +45,7 @@ Contents = ℕ → List ℕ → Option (List ℕ)
 abbrev pub told : Files → Contents
 told files number name = map.get files name
 
--- what goes on behind a reading that was not ended
+-- what goes on after a reading that was not ended
 abbrev pub onward : Ended → (Read → Ended) → Ended
 onward (Whole read) next = next read
 onward (Refused fault output) next = Refused fault output
@@ -63,18 +63,18 @@ line_at source line = record { file = source.place; line = line.number }
 abbrev pub file_count : Read → ℕ
 file_count read = length read.output.files
 
--- one more file
+-- the output with one more file
 abbrev pub with_file : Output → List ℕ → Output
 with_file output name = record output { files = output.files ++ name ∷ [] }
 
--- one more rule line
+-- the output with one more rule line
 abbrev pub with_rule : Output → Source → Numbered → Output
 with_rule output source line = record output {
   rules = output.rules
       ++ record { file = source.place; line = line.number; text = line.text } ∷ [];
 }
 
--- one more warning
+-- the output with one more warning
 abbrev pub with_warning : Output → Source → Numbered → List ℕ → List ℕ → Output
 with_warning output source line directive name =
     record output {
@@ -90,11 +90,11 @@ with_warning output source line directive name =
 abbrev pub read_with : Settings → Output → Read
 read_with settings output = record { settings = settings; output = output }
 
--- how an included file is read: by its name, where the line stands, and what was read before
+-- how an included file is read: by its name, where the line is, and what was read before
 abbrev pub Including : Type 0
 Including = List ℕ → At → Read → Ended
 
--- behind what a line hands on
+-- the reading after what a line hands on
 abbrev pub given_read : Including → Source → Numbered → Settings → Output → Given → Ended
 given_read including source line settings output Nothing = Whole (read_with settings output)
 given_read including source line settings output Rule = Whole (read_with settings (with_rule output source line))
@@ -102,23 +102,23 @@ given_read including source line settings output (Skipped directive name) =
     Whole (read_with settings (with_warning output source line directive name))
 given_read including source line settings output (Include name) = including name (line_at source line) (read_with settings output)
 
--- behind the meaning of a line
+-- the reading after the meaning of a line
 abbrev pub meaning_read : Including → Source → Numbered → Output → Result Behind ConfKind → Ended
 meaning_read including source line output (Ok behind) = given_read including source line behind.settings output behind.given
 meaning_read including source line output (Err kind) = Refused (fault_at (line_at source line) kind) output
 
--- behind one line
+-- the reading after one line
 unfoldable pub line_read : Including → Source → Numbered → Read → Ended
 line_read including source line read =
     meaning_read including source line read.output (conf_line
     (record { file = source.name; depth = source.depth; files = file_count read }) read.settings line.text)
 
--- behind all lines of a file
+-- the reading after all lines of a file
 unfoldable pub lines_read : Including → Source → List Numbered → Read → Ended
 lines_read including source [] read = Whole read
 lines_read including source (line ∷ rest) read = onward (line_read including source line read) (lines_read including source rest)
 
--- what was read where a file is too large: the first file's name stands, too, since the fault is its own
+-- what was read where a file is too large: the first file's name is there, too, since the fault is its own
 abbrev pub too_large : At → List ℕ → Output → Ended
 too_large at name output = Refused (fault_at at TooLarge) (if nat_le 1 at.line then output else with_file output name)
 
@@ -126,7 +126,7 @@ too_large at name output = Refused (fault_at at TooLarge) (if nat_le 1 at.line t
 abbrev pub most_bytes : ℕ
 most_bytes = 16777216
 
--- behind a file with these contents
+-- the reading after a file with these contents
 unfoldable pub contents_read : Including → ℕ → List ℕ → At → Read → Option (List ℕ) → Ended
 contents_read including depth name at read None = Asks name read.output
 contents_read including depth name at read (Some bytes) =
@@ -135,20 +135,20 @@ contents_read including depth name at read (Some bytes) =
     (read_with read.settings (with_file read.output name))
     else too_large at name read.output
 
--- Behind a file, where includes may nest so many times more. (Where none may, no line is an include.)
+-- The reading after a file, where includes may nest this many times more. (Where none may, no line is an include.)
 unfoldable pub file_read : Contents → ℕ → List ℕ → At → Read → Ended
 file_read contents zero name at read =
     contents_read (λ inner place before. Whole before) 16 name at read (contents (file_count read) name)
 file_read contents (suc left) name at read =
     contents_read (file_read contents left) (15 - left) name at read (contents (file_count read) name)
 
--- before the first file
+-- what is read before the first file
 abbrev pub nothing_read : Variables → Read
 nothing_read variables = record {
   settings = record { vars = variables; draft = first_draft };
   output = record { files = []; rules = []; warnings = [] };
 }
 
--- the reading of a configuration, from its first file and the variables that stand before it
+-- the reading of a configuration, from its first file and the variables that come before it
 unfoldable pub read_files : Contents → List ℕ → Variables → Ended
 read_files contents name variables = file_read contents 16 name (record { file = 0; line = 0 }) (nothing_read variables)

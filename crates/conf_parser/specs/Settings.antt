@@ -1,4 +1,4 @@
--- What stands before the first line, and the configuration that stands behind the last.
+-- What comes before the first line, and the configuration that comes after the last.
 --
 -- (Snort Users Manual 2.9, chapter 2; the defaults are those of its tables, but for those marked as our own.)
 -- To try it on: with no line at all all four checksums are checked, 3 of 8 events are written, and neither
@@ -26,11 +26,11 @@ no_checks = record { ip = false; tcp = false; udp = false; icmp = false }
 abbrev pub default_queue : QueueLimits
 default_queue = record { max_queue = 8; log = 3; by_priority = false }
 
--- the values where no `stream5_global` line stands
+-- the values where there is no `stream5_global` line
 abbrev pub default_global : StreamGlobal
 default_global = record { track_tcp = true; track_udp = true; max_tcp = 262144; max_udp = 131072 }
 
--- before the first line
+-- the draft before the first line
 unfoldable pub first_draft : Draft
 first_draft = record {
   checks = all_checks;
@@ -48,12 +48,12 @@ abbrev pub is_none_of : {X : Type 0} → List X → Bool
 is_none_of [] = true
 is_none_of (x ∷ xs) = false
 
--- frag3 works where an engine line stands
+-- frag3 works where there is an engine line
 unfoldable pub frag_of : FragDraft → Option FragConfig
 frag_of draft = if is_none_of draft.engines then None
     else Some (record { max_frags = unwrap_or draft.max_frags 8192; engines = draft.engines })
 
--- a protocol is tracked where its line stands and `stream5_global` does not say no
+-- a protocol is tracked where it has a line and `stream5_global` does not say no
 unfoldable pub stream_of : StreamDraft → StreamConfig
 stream_of draft =
     let global = unwrap_or draft.global default_global in

@@ -1,4 +1,4 @@
--- Where a line stands: what an include there depends on.
+-- Where a line is: what an include there depends on.
 use Rattle.std.specs.Prelude.{ℕ, List}
 
 pub record Spot : Type 0 where

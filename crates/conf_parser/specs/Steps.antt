@@ -1,6 +1,6 @@
--- One line of a reading: what goes on behind it, and where its file is read from.
+-- One line of a reading: what goes on after it, and where its file is read from.
 --
--- To try it on: behind a rule line the reading goes on with one more rule; behind `include b` the file `b` is
+-- To try it on: after a rule line the reading goes on with one more rule; after `include b` the file `b` is
 -- read first.
 use Rattle.std.specs.Prelude.{◌≡◌, ℕ, ◌<◌, true, List, Result, Ok, Err, ⊤}
 use Rattle.std.specs.Str.{is_utf8}
@@ -33,12 +33,12 @@ abbrev pub next_count : Next → ℕ
 next_count (Onward read) = file_count read
 next_count (Included name read) = file_count read
 
--- a file may be read behind so many: its name is UTF-8, and fewer than the most were read
+-- a file may be read after `count` others: its name is UTF-8, and fewer than the most were read
 pub record MayBeRead (count : ℕ) (name : List ℕ) : Type 0 where
   pub text : is_utf8 name ≡ true
   pub few : count < most_files
 
--- an included file may be read behind so many
+-- an included file may be read after `count` others
 abbrev pub MayGive : ℕ → Given → Type 0
 MayGive count (Include name) = MayBeRead count name
 MayGive count given = ⊤

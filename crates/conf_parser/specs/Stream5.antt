@@ -1,7 +1,7 @@
 -- The stream5 lines: which sessions are tracked, and how their data are put together. (Snort Users Manual 2.9,
 -- sections 2.2.2 and 2.2.3.)
 --
--- Settings stand between commas outside brackets; the first word names the setting, and the rest is its value.
+-- Settings are between commas outside brackets; the first word names the setting, and the rest is its value.
 -- A setting that is given again replaces the one before, but several `ports` add up. A setting without its
 -- value is a part that lacks, and counts at the end of the line.
 -- To try it on: `stream5_tcp: timeout, bind_to 10.0` is a bad address list, and `stream5_tcp: timeout` a bad
@@ -41,11 +41,11 @@ stream_parts text = if is_empty text then [] else comma_parts text
 abbrev pub complete : {D : Type 0} → D → Partial D
 complete draft = record { draft = draft; lacks = false }
 
--- behind a setting that lacks its value
+-- the draft after a setting that lacks its value
 abbrev pub lacking : {D : Type 0} → Partial D → Partial D
 lacking partial = record partial { lacks = true }
 
--- behind a setting that was read
+-- the draft after a setting that was read
 abbrev pub onward : {D : Type 0} → Partial D → Result D ConfKind → Result (Partial D) ConfKind
 onward partial read = mapped (λ draft. record partial { draft = draft }) read
 
@@ -109,18 +109,18 @@ global_part partial part =
 unfoldable pub global_values : List ℕ → Result StreamGlobal ConfKind
 global_values text = draft_behind global_part (complete default_global) (stream_parts text) >>= whole
 
--- the global line, which stands once
+-- the global line, which may be given once
 unfoldable pub with_global : StreamDraft → StreamGlobal → Result StreamDraft ConfKind
 with_global draft values = if is_some draft.global then Err Duplicate else Ok (record draft { global = Some values })
 
--- `stream5_global`, by what stands behind the name
+-- `stream5_global`, by what comes after the name
 unfoldable pub stream5_global : StreamDraft → List ℕ → Result StreamDraft ConfKind
 stream5_global draft rest = do
   text ← setting_text rest
   values ← global_values text
   with_global draft values
 
--- one setting of `stream5_udp`: its timeout, or `ignore_any_rules`, which stands alone
+-- one setting of `stream5_udp`: its timeout, or `ignore_any_rules`, which has no value
 unfoldable pub udp_part : Partial ℕ → List ℕ → Result (Partial ℕ) ConfKind
 udp_part partial part =
     if is_word (first_word part) (codes "ignore_any_rules") then
@@ -134,11 +134,11 @@ udp_part partial part =
 unfoldable pub udp_timeout : List ℕ → Result ℕ ConfKind
 udp_timeout text = draft_behind udp_part (complete 30) (stream_parts text) >>= whole
 
--- the line of UDP, which stands once
+-- the line of UDP, which may be given once
 unfoldable pub with_udp : StreamDraft → ℕ → Result StreamDraft ConfKind
 with_udp draft timeout = if is_some draft.udp_timeout then Err Duplicate else Ok (record draft { udp_timeout = Some timeout })
 
--- `stream5_udp`, by what stands behind the name
+-- `stream5_udp`, by what comes after the name
 unfoldable pub stream5_udp : StreamDraft → List ℕ → Result StreamDraft ConfKind
 stream5_udp draft rest = do
   text ← setting_text rest
@@ -168,15 +168,15 @@ tcp_name name =
     else if is_unread_tcp name then Some tcp.Unread
     else None
 
--- a limit of at least so many; 0 stands for the most that may be asked for
+-- a limit of at least `least`; 0 stands for the most that may be asked for
 abbrev pub limit_from : ℕ → ℕ → Option ℕ
 limit_from least number = if number == 0 then Some 1073741824 else if nat_le least number then Some number else None
 
--- a limit of at least so many, at most 1073741824
+-- a limit of at least `least`, at most 1073741824
 unfoldable pub queue_limit : ℕ → List ℕ → Option ℕ
 queue_limit least value = option_and_then (limit_from least) (number_in 0 1073741824 value)
 
--- the seconds behind `require_3whs`, 0 where they lack
+-- the seconds after `require_3whs`, 0 where they lack
 unfoldable pub handshake_seconds : List ℕ → Option ℕ
 handshake_seconds value = if is_empty value then Some 0 else number_in 0 86400 value
 
@@ -251,7 +251,7 @@ tcp_value variables draft tcp.Ports value = ports_value draft value
 tcp_value variables draft name value =
     mapped (λ engine. record draft { engine = engine }) (engine_value variables draft.engine name value)
 
--- a `ports` setting without a side, or without ports behind one
+-- a `ports` setting without a side, or without ports after one
 unfoldable pub lacks_ports : List ℕ → Bool
 lacks_ports value = is_empty value || (is_some (side (first_word value)) && is_empty (behind_word value))
 
@@ -272,15 +272,15 @@ unfoldable pub tcp_part : Variables → Partial TcpDraft → List ℕ → Result
 tcp_part variables partial part =
     or_kind BadValue (tcp_name (first_word part)) >>= λ name. named_tcp variables partial name (behind_word part)
 
--- an engine before its settings: its ports come behind the last of them
+-- an engine before its settings: its ports come after the last of them
 abbrev pub first_engine : StreamEngine
 first_engine = record default_stream_engine { client_ports = None }
 
--- before the first setting
+-- the draft of an engine before the first setting
 abbrev pub first_tcp : TcpDraft
 first_tcp = record { engine = first_engine; client = None; server = None; ports_stood = false }
 
--- the client's ports: the default where no `ports` setting stands
+-- the client's ports: the default where there is no `ports` setting
 abbrev pub client_ports_of : TcpDraft → Option (List (Part (Bounds ℕ)))
 client_ports_of draft = if draft.ports_stood then draft.client else Some (map one_port default_ports)
 
@@ -296,14 +296,14 @@ tcp_settings variables text = draft_behind (tcp_part variables) (complete first_
 unfoldable pub has_default : List StreamEngine → Bool
 has_default engines = list_any (λ engine. is_none engine.bind) engines
 
--- one engine more: one for all hosts stands once, and at most 1024 stand
+-- the draft with one engine more: one for all hosts may be given once, and at most 1024 in all
 unfoldable pub with_engine : StreamDraft → StreamEngine → Result StreamDraft ConfKind
 with_engine draft engine =
     if is_none engine.bind && has_default draft.engines then Err Duplicate
     else if nat_le 1024 (length draft.engines) then Err Limit
     else Ok (record draft { engines = draft.engines ++ engine ∷ [] })
 
--- `stream5_tcp`, by what stands behind the name
+-- `stream5_tcp`, by what comes after the name
 unfoldable pub stream5_tcp : Variables → StreamDraft → List ℕ → Result StreamDraft ConfKind
 stream5_tcp variables draft rest = do
   text ← setting_text rest

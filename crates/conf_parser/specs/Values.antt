@@ -1,8 +1,8 @@
 -- Forms of values that directives share, each with the kind of its fault.
 --
 -- A value is read part by part from the left, and the first fault decides. So a reader is a chain of steps,
--- and the first that is refused ends it. What needs the whole line stands behind the chain: first a part
--- that lacks, then whether the line may stand again, and last the counts.
+-- and the first that is refused ends it. What needs the whole line comes after the chain: first a part
+-- that lacks, then whether the line may be given again, and last the counts.
 -- A value is expanded whole before it is read as a list, so a fault of its expansion comes first.
 -- (Snort Users Manual 2.9, section 2.1; the kinds are our own.)
 -- To try it on: without variables `[$A,10.0.0]` is refused as an unknown variable A, not as a bad list.
@@ -29,7 +29,7 @@ abbrev pub mapped : {A B : Type 0} → (A → B) → Result A ConfKind → Resul
 mapped f (Ok x) = Ok (f x)
 mapped f (Err kind) = Err kind
 
--- the answer of a step that changes a value in its place, with the value behind it
+-- the answer of a step that changes a value in its place, with the value after it
 abbrev pub with_new : {A X E : Type 0} → Result A E → X → Result X E
 with_new (Ok done) new = Ok new
 with_new (Err why) new = Err why
@@ -62,7 +62,7 @@ expanded_or text (Err fault) = Err (expand_kind text fault)
 unfoldable pub expanded : Variables → List ℕ → Result (List ℕ) ConfKind
 expanded variables text = expanded_or text (expansion variables text)
 
--- at most 1024 parts
+-- parts of which there are at most 1024, else Limit
 abbrev pub within_limit : {B : Type 0} → List (Part B) → Result (List (Part B)) ConfKind
 within_limit parts = if nat_le (length parts) 1024 then Ok parts else Err Limit
 
@@ -74,7 +74,7 @@ address_list text = or_kind BadAddress (list_parts address_bounds text) >>= with
 unfoldable pub port_list : List ℕ → Result (List (Part (Bounds ℕ))) ConfKind
 port_list text = or_kind BadPort (list_parts port_bounds text) >>= within_limit
 
--- a list of addresses behind the expansion of its text
+-- a list of addresses after the expansion of its text
 unfoldable pub expanded_addresses : Variables → List ℕ → Result (List (Part AddrBounds)) ConfKind
 expanded_addresses variables text = expanded variables text >>= address_list
 
@@ -86,16 +86,16 @@ in_name byte = not (is_blank byte || byte == 58)
 unfoldable pub name_of : List ℕ → List ℕ
 name_of text = take (prefix_len in_name text) text
 
--- what stands behind the name, without blanks at its ends
+-- what comes after the name, without blanks at its ends
 unfoldable pub behind_name : List ℕ → List ℕ
 behind_name text = trimmed (drop (prefix_len in_name text) text)
 
--- what stands behind a colon in front
+-- what comes after a colon in front
 unfoldable pub behind_colon : List ℕ → Option (List ℕ)
 behind_colon [] = None
 behind_colon (first ∷ rest) = if first == 58 then Some (trimmed rest) else None
 
--- the settings of a preprocessor line: nothing, or what stands behind a colon
+-- the settings of a preprocessor line: nothing, or what comes after a colon
 unfoldable pub setting_text : List ℕ → Result (List ℕ) ConfKind
 setting_text rest = if is_empty rest then Ok [] else or_kind BadValue (behind_colon rest)
 

@@ -27,14 +27,14 @@ checked Ports value = mapped (λ list. value) (port_list value)
 unfoldable pub value_of : Variables → ValueForm → List ℕ → Result (List ℕ) ConfKind
 value_of variables form text = expanded variables text >>= checked form
 
--- the variables behind a definition with this name and text
+-- the variables after a definition with this name and text
 unfoldable pub named : Variables → ValueForm → List ℕ → List ℕ → Result Variables ConfKind
 named variables form name text =
     if is_name name && not (is_empty text)
     then mapped (λ value. defined variables name value false) (value_of variables form text)
     else Err BadValue
 
--- `var`, `ipvar` and `portvar`: the variables behind the line
+-- `var`, `ipvar` and `portvar`: the variables after the line
 unfoldable pub definition : Variables → ValueForm → List ℕ → Result Variables ConfKind
 definition variables form rest = named variables form (first_word rest) (behind_word rest)
 

@@ -49,7 +49,7 @@ fn include_line(
     Ok(Given::Include(name))
 }
 
-/// Changes the draft by a `config` line, by what stands behind its colon.
+/// Changes the draft by a `config` line, by what comes after its colon.
 #[tactic(auto, unfolding(crate::specs::ConfLine::config_draft))]
 fn config_draft(
     alloc: Global,
@@ -75,7 +75,7 @@ fn config_draft(
     }
 }
 
-/// Changes the draft by a `config` line, by what stands behind its name.
+/// Changes the draft by a `config` line, by what comes after its name.
 #[tactic(auto, unfolding(crate::specs::ConfLine::config_value))]
 fn config_value(
     alloc: Global,
@@ -103,7 +103,7 @@ fn skipped(alloc: Global, word: &[u8], name: &[u8]) -> Result<Given, Stop<ConfKi
     Ok(Given::Skipped(directive, name))
 }
 
-/// A `config` line, by what stands behind the word.
+/// A `config` line, by what comes after the word.
 #[tactic(auto, unfolding(crate::specs::ConfLine::config_line))]
 fn config_line(
     alloc: Global,
@@ -121,7 +121,7 @@ fn config_line(
     Ok(Given::Nothing)
 }
 
-/// Changes the draft by a `preprocessor` line, by what stands behind its name.
+/// Changes the draft by a `preprocessor` line, by what comes after its name.
 #[tactic(auto, unfolding(crate::specs::ConfLine::preprocessor_draft))]
 fn preprocessor_draft(
     alloc: Global,
@@ -142,7 +142,7 @@ fn preprocessor_draft(
     }
 }
 
-/// A `preprocessor` line, by what stands behind the word.
+/// A `preprocessor` line, by what comes after the word.
 #[tactic(auto, unfolding(crate::specs::ConfLine::preprocessor_line))]
 fn preprocessor_line(
     alloc: Global,
@@ -182,7 +182,7 @@ fn suppress_line(
     Ok(Given::Nothing)
 }
 
-/// The table of directives, by the first word and what stands behind it: what the line hands on.
+/// The table of directives, by the first word and what comes after it: what the line hands on.
 #[tactic(auto, unfolding(crate::specs::ConfLine::directive_line))]
 fn directive_line(
     alloc: Global,
@@ -209,7 +209,7 @@ fn directive_line(
     }
 }
 
-/// What stands behind a line, and what it hands on. The line is one joined line without the blanks at its
+/// What comes after a line, and what it hands on. The line is one joined line without the blanks at its
 /// ends, and neither empty nor a comment.
 #[tactic(auto, unfolding(crate::specs::ConfLine::conf_line))]
 pub fn conf_line(

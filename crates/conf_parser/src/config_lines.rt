@@ -124,7 +124,7 @@ impl PartStep<Checks, ConfKind> for ChecksStep {
     }
 }
 
-/// `checksum_mode`: the checksums that are checked behind the line.
+/// `checksum_mode`: the checksums that are checked after the line.
 #[tactic(auto, unfolding(crate::specs::Config::checksum_mode))]
 pub fn checksum_mode(checks: Checks, value: &[u8]) -> Result<Checks, ConfKind>
     ensures { result ≡ checksum_mode checks value.now }
@@ -195,7 +195,7 @@ impl SettingStep<QueueLimits> for QueueStep {
     }
 }
 
-/// `event_queue`: the limits of the queue behind the line.
+/// `event_queue`: the limits of the queue after the line.
 #[tactic(auto, unfolding(crate::specs::Config::event_queue))]
 pub fn event_queue(queue: &mut QueueLimits, value: &[u8]) -> Result<(), Stop<ConfKind>>
     ensures { Gives (with_new result queue.new) (event_queue queue.old value.now) }
@@ -203,7 +203,7 @@ pub fn event_queue(queue: &mut QueueLimits, value: &[u8]) -> Result<(), Stop<Con
     change_by_settings(value, &QueueStep, queue)
 }
 
-/// `detection`: whether packets whose data are queued are tried themselves, behind the line.
+/// `detection`: whether packets whose data are queued are tried themselves, after the line.
 #[tactic(auto, unfolding(crate::specs::Config::detection))]
 pub fn detection(inserts: bool, value: &[u8]) -> bool
     ensures { result ≡ detection inserts value.now }

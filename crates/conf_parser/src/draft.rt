@@ -22,7 +22,7 @@ pub struct Draft {
 /// The frag3 lines read so far.
 #[derive(Drop)]
 pub struct FragDraft {
-    /// What the `frag3_global` line gives, where it stood.
+    /// What the `frag3_global` line gives, where it was given.
     pub max_frags: Option<u32>,
     pub engines: Items<FragEngine>,
 }
@@ -39,21 +39,21 @@ pub struct StreamGlobal {
 /// The stream5 lines read so far.
 #[derive(Drop)]
 pub struct StreamDraft {
-    /// The `stream5_global` line, where it stood.
+    /// The `stream5_global` line, where it was given.
     pub global: Option<StreamGlobal>,
-    /// The timeout of the `stream5_udp` line, where it stood.
+    /// The timeout of the `stream5_udp` line, where it was given.
     pub udp_timeout: Option<u32>,
     pub engines: Items<StreamEngine>,
 }
 
-/// What stands before a line.
+/// What comes before a line.
 #[derive(Drop)]
 pub struct Settings {
     pub vars: Vars,
     pub draft: Draft,
 }
 
-/// Where a line stands.
+/// Where a line is.
 #[derive(Drop)]
 pub struct Spot<'a> {
     /// The name of its file.

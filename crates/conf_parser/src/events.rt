@@ -51,7 +51,7 @@ pub enum NextPart {
 #[derive(Drop)]
 pub struct SuppressDraft {
     pub next: NextPart,
-    /// A part stood without its value.
+    /// A part was given without its value.
     pub lacks: bool,
     pub gid: u32,
     pub sid: u32,
@@ -111,7 +111,7 @@ fn filter_kind(value: &[u8]) -> Option<FilterKind>
     }
 }
 
-/// Puts what a value spells in the place of a part that stands for the first time.
+/// Puts what a value spells in the place of a part that is given for the first time.
 fn put_once<T: Copy>(place: &mut Option<T>, value: Option<T>) -> Result<(), ConfKind>
     ensures { with_new result place.new ≡ mapped (λ part. Some part) (once place.old value) }
 {
@@ -168,7 +168,7 @@ fn is_source(track: Track) -> bool
     }
 }
 
-/// The filter, where all six parts stood.
+/// The filter, where all six parts were given.
 #[tactic(auto, unfolding(crate::specs::Events::filter_of))]
 fn filter_of(draft: FilterDraft) -> Result<EventFilter, ConfKind>
     ensures { result ≡ filter_of draft }
@@ -207,7 +207,7 @@ fn has_filter(filters: &[EventFilter], gid: u32, sid: u32) -> bool
         .any(|filter| filter.gid == gid && filter.sid == sid)
 }
 
-/// One filter more.
+/// Adds one filter more.
 #[tactic(auto, unfolding(crate::specs::Events::with_filter))]
 fn add_filter(filters: &mut Items<EventFilter>, filter: EventFilter) -> Result<(), Stop<ConfKind>>
     ensures { Gives (with_new result filters.new) (with_filter filters.old filter) }
@@ -249,7 +249,7 @@ pub fn event_filter(filters: &mut Items<EventFilter>, rest: &[u8]) -> Result<(),
 }
 
 impl NextPart {
-    /// What the part begins with; None behind the last.
+    /// What the part begins with; None after the last.
     fn word(self) -> Option<&'static [u8]>
         ensures { option_copied result ≡ next_word self }
     {
@@ -262,7 +262,7 @@ impl NextPart {
         }
     }
 
-    /// The part behind this one.
+    /// The part after this one.
     fn behind(self) -> NextPart
         ensures { result ≡ part_behind self }
     {
@@ -275,7 +275,7 @@ impl NextPart {
         }
     }
 
-    /// Whether a part that begins with this word may stand here.
+    /// Whether a part that begins with this word may come here.
     fn stands(self, word: &[u8]) -> bool
         ensures { result ≡ stands (next_word self) word.now }
     {
@@ -305,7 +305,7 @@ fn suppress_value(
     }
 }
 
-/// A part that stands in its place, with its value or without.
+/// A part that is in its place, with its value or without.
 #[tactic(auto, unfolding(crate::specs::Events::placed_part))]
 fn placed_part(
     alloc: Global,
@@ -362,7 +362,7 @@ fn tracked(draft: SuppressDraft) -> Result<Suppress, ConfKind>
     })
 }
 
-/// The line, where two or four parts stood, each with its value.
+/// The line, where two or four parts were given, each with its value.
 #[tactic(auto, unfolding(crate::specs::Events::suppress_of))]
 fn suppress_of(draft: SuppressDraft) -> Result<Suppress, ConfKind>
     ensures { result ≡ suppress_of draft }
@@ -381,7 +381,7 @@ fn suppress_of(draft: SuppressDraft) -> Result<Suppress, ConfKind>
     }
 }
 
-/// One line more.
+/// Adds one suppress line more.
 #[tactic(auto, unfolding(crate::specs::Events::with_suppress))]
 fn add_suppress(lines: &mut Items<Suppress>, line: Suppress) -> Result<(), Stop<ConfKind>>
     ensures { Gives (with_new result lines.new) (with_suppress lines.old line) }

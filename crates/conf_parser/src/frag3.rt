@@ -76,7 +76,7 @@ impl SettingStep<u32> for GlobalStep {
     }
 }
 
-/// The global line, which stands once.
+/// The global line, which may be given once.
 #[tactic(auto, unfolding(crate::specs::Frag3::with_max_frags))]
 fn put_max_frags(draft: &mut FragDraft, frags: u32) -> Result<(), Stop<ConfKind>>
     ensures { Gives (with_new result draft.new) (with_max_frags draft.old frags) }
@@ -88,7 +88,7 @@ fn put_max_frags(draft: &mut FragDraft, frags: u32) -> Result<(), Stop<ConfKind>
     Ok(())
 }
 
-/// `frag3_global`, by what stands behind the name.
+/// `frag3_global`, by what comes after the name.
 #[tactic(auto, unfolding(crate::specs::Frag3::frag3_global))]
 pub fn frag3_global(draft: &mut FragDraft, rest: &[u8]) -> Result<(), Stop<ConfKind>>
     ensures { Gives (with_new result draft.new) (frag3_global draft.old rest.now) }
@@ -193,7 +193,7 @@ fn has_default(engines: &[FragEngine]) -> bool
     engines.iter().any(|engine| engine.bind.is_none())
 }
 
-/// One engine more.
+/// Adds one engine more.
 #[tactic(auto, unfolding(crate::specs::Frag3::with_engine))]
 fn add_engine(draft: &mut FragDraft, engine: FragEngine) -> Result<(), Stop<ConfKind>>
     ensures { Gives (with_new result draft.new) (with_engine draft.old engine) }
@@ -208,7 +208,7 @@ fn add_engine(draft: &mut FragDraft, engine: FragEngine) -> Result<(), Stop<Conf
     Ok(())
 }
 
-/// `frag3_engine`, by what stands behind the name.
+/// `frag3_engine`, by what comes after the name.
 #[tactic(auto, unfolding(crate::specs::Frag3::frag3_engine))]
 pub fn frag3_engine(
     alloc: Global,

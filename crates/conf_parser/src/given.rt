@@ -9,13 +9,13 @@ pub enum Given {
     Nothing,
     /// The line is a rule.
     Rule,
-    /// The line is skipped with a warning of its first word and the name behind it.
+    /// The line is skipped with a warning of its first word and the name after it.
     Skipped(Text, Text),
     /// The file of this name is read here.
     Include(Text),
 }
 
-/// What stands behind a line.
+/// What comes after a line.
 #[derive(Drop)]
 pub struct Behind {
     pub settings: Settings,

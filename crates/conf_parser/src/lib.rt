@@ -3,7 +3,7 @@
 //! `conf_line` in specs/ConfLine says what one line means: a table of directives, each with a small
 //! definition of its own in the specs module of its family. The readers are named alike, and each meets
 //! its definition exactly: a value, or the kind of the leftmost fault. Rule lines and warnings are handed
-//! on in the order in which they are read. The setup of a run stands on this crate.
+//! on in the order in which they are read. The setup of a run builds on this crate.
 #![tactic(auto)]
 
 mod conf_line;

@@ -11,7 +11,7 @@ pub struct Line {
     pub text: Text,
 }
 
-/// A line that was skipped: the place of its file, its number, its first word and the name behind
+/// A line that was skipped: the place of its file, its number, its first word and the name after
 /// it.
 #[derive(Debug, Drop)]
 pub struct Warning {
@@ -32,7 +32,7 @@ pub enum ConfKind {
     UnknownVariable(Text),
     BadAddress,
     BadPort,
-    /// A line that may stand once stands again.
+    /// A line that may be given once is given again.
     Duplicate,
     /// Includes nest more than 16 deep.
     TooDeep,

@@ -30,7 +30,7 @@ fn with_line(joined: Vec<u8>, line: &[u8], goes_on: bool) -> Result<Vec<u8>, NoM
     Ok(joined)
 }
 
-/// A joined line, what stands behind it, and the number of the next line.
+/// A joined line, what comes after it, and the number of the next line.
 #[derive(Drop)]
 struct Joined<'a> {
     text: Vec<u8>,

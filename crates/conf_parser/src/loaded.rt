@@ -12,7 +12,7 @@ use std::alloc::Global;
 #[derive(Debug, Drop)]
 pub struct Loaded {
     pub config: Config,
-    /// The names of the files, in the order in which their reading began; a file stands here each time
+    /// The names of the files, in the order in which their reading began; a file is listed each time
     /// that it was read.
     pub files: Items<Text>,
     /// The rule lines, in reading order.

@@ -1,4 +1,4 @@
-//! Loading a configuration: its first file, and each included file where its line stands.
+//! Loading a configuration: its first file, and each included file where its line is.
 ghost use Rattle.std.specs.Prelude.{◌≡◌, ◌<◌, ◌≤◌, ◌⊎◌, true, Option, Some, length, IfOk, IfErr, OnOk, IsErrOf};
 ghost use Rattle.std.specs.Str.{is_utf8};
 ghost use Rattle.edge_io.specs.Told.{Rose};
@@ -82,7 +82,7 @@ fn opened(
     })
 }
 
-/// Why a file that is too large stops the reading: at the line that includes it; the first file itself stands
+/// Why a file that is too large stops the reading: at the line that includes it; the first file itself is
 /// among the files, too.
 fn too_large(name: Text, at: At, output: Output) -> Result<Stopped, NoMemory>
     ensures { IfOk result (StopsAtLarge name at output) }
@@ -142,7 +142,7 @@ fn open_file<H: Host>(
     }
 }
 
-/// Behind all lines of a file.
+/// Reads all lines of a file: the reading after them.
 #[cycle(reading)]
 fn read_lines<H: Host>(
     alloc: Global,
@@ -172,7 +172,7 @@ fn read_lines<H: Host>(
     Ok(read)
 }
 
-/// Behind one line of a file.
+/// Reads one line of a file: the reading after it.
 #[cycle(reading)]
 fn read_line<H: Host>(
     alloc: Global,
@@ -205,7 +205,8 @@ fn read_line<H: Host>(
     }
 }
 
-/// Behind a file that a line includes, where includes may nest `left` times more behind it.
+/// Reads a file that a line includes, where includes may nest `left` times more below
+/// that line: the reading after the file.
 #[cycle(reading)]
 fn included<H: Host>(
     alloc: Global,
@@ -231,7 +232,7 @@ fn included<H: Host>(
     read_file(alloc, host, left - 1, name, at, read)
 }
 
-/// Behind a file and all that it includes.
+/// Reads a file and all that it includes: the reading after them.
 #[cycle(reading)]
 fn read_file<H: Host>(
     alloc: Global,
@@ -257,7 +258,7 @@ fn read_file<H: Host>(
     read_lines(alloc, host, left, &source, lines.as_slice(), opened.read)
 }
 
-/// Before the first file.
+/// What is read before the first file.
 fn nothing_read(alloc: Global, vars: Vars) -> Read
     ensures { result ≡ nothing_read vars }
 {
@@ -309,8 +310,8 @@ fn stop_out(stopped: Stopped, out: &mut Loaded) -> LoadStop
 }
 
 /// Loads the configuration that begins in the file of this name: its lines, and those of the files that it
-/// includes where their lines stand, from the variables that stand before it. What it gives replaces `out`,
-/// and the variables behind all lines replace `vars`.
+/// includes where their lines are, from the variables that come before it. What it gives replaces `out`,
+/// and the variables after all lines replace `vars`.
 ///
 /// `Conf` is the first line that is refused, or the line whose file has more than 16777216 bytes (line 0 of
 /// the first file, if it has itself). `HostFailed` comes where the host failed at a file, or has none of this
@@ -331,7 +332,7 @@ pub fn load<H: Host>(
         → EndsUnlessFailed (Rose (H.faults host.old) (H.faults host.new))
         (read_files (told files) name.now vars.old) result vars.new out.new }
 
-    // The same by what the host tells.
+    // The answer is that of the reading, by what the host tells.
     ensures reading { IsLoading (H.contents host.old) name.now vars.old result vars.new out.new }
     ensures told { (files : Files) → H.contents host.old ≡ Some files
         → EndsUnlessFailed (Rose (H.faults host.old) (H.faults host.new))
@@ -339,7 +340,7 @@ pub fn load<H: Host>(
     ensures failed { IfErr result (HasFailed (Rose (H.faults host.old) (H.faults host.new)) (H.contents host.old)) }
     ensures sound { OnOk result (IsSound out.new.config) }
 
-    // The lines that are handed out, and a fault, stand in files that are named there.
+    // The lines that are handed out, and a fault, are in files that are named there.
     ensures places { StandInFiles result out.new }
 
     // The host is as before, but for its count.

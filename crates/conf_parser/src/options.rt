@@ -23,7 +23,7 @@ pub trait SettingStep<D> {
         ensures { Gives (with_new result draft.new) (next_draft self.now draft.old name.now (option_copied value.entry)) };
 }
 
-/// The value behind a name: the next word, if the name does not stand alone and there is one.
+/// The value after a name: the next word, if the name takes a value and there is one.
 #[tactic(auto, using(crate::proofs::Pairs::pairs))]
 fn value_behind<'a>(words: &mut Parts<'a>, alone: bool) -> Option<&'a [u8]>
     ensures pairs { (test : List ℕ → Bool) → (name : List ℕ) → test name ≡ alone

@@ -50,17 +50,17 @@ pub struct At {
     pub line: u32,
 }
 
-/// The file that a line stands in.
+/// The file that a line is in.
 #[derive(Drop)]
 pub struct Source {
     pub name: Text,
-    /// Its place among the files read.
+    /// The file's place among the files read.
     pub place: u32,
     /// How many includes lie between the first file and it.
     pub depth: usize,
 }
 
-/// What goes on behind a line.
+/// What goes on after a line.
 #[derive(Drop)]
 pub enum Next {
     Onward(Read),

@@ -1,4 +1,4 @@
-//! What stands before the first line, and the configuration behind the last.
+//! What comes before the first line, and the configuration after the last.
 ghost use Rattle.std.specs.Prelude.{◌≡◌};
 ghost use Rattle.conf_parser.specs.Settings.{all_checks, no_checks, default_queue, default_global, first_draft, frag_of, stream_of, config_of};
 
@@ -25,7 +25,7 @@ pub const NO_CHECKS: Checks = Checks {
     icmp: false,
 };
 
-/// The values where no `stream5_global` line stands.
+/// The values where there is no `stream5_global` line.
 pub const DEFAULT_GLOBAL: StreamGlobal = StreamGlobal {
     track_tcp: true,
     track_udp: true,
@@ -33,7 +33,7 @@ pub const DEFAULT_GLOBAL: StreamGlobal = StreamGlobal {
     max_udp: 131072,
 };
 
-/// Before the first line. Takes no memory.
+/// The draft before the first line. Takes no memory.
 #[tactic(auto, unfolding(crate::specs::Settings::first_draft))]
 pub fn first_draft(alloc: Global) -> Draft
     ensures { result ≡ first_draft }
@@ -61,7 +61,7 @@ pub fn first_draft(alloc: Global) -> Draft
     }
 }
 
-/// Frag3 works where an engine line stands.
+/// Frag3 works where there is an engine line.
 #[tactic(auto, unfolding(crate::specs::Settings::frag_of))]
 fn frag_of(draft: FragDraft) -> Option<FragConfig>
     ensures { result ≡ frag_of draft }
@@ -76,7 +76,7 @@ fn frag_of(draft: FragDraft) -> Option<FragConfig>
     })
 }
 
-/// A protocol is tracked where its line stands and `stream5_global` does not say no.
+/// A protocol is tracked where it has a line and `stream5_global` does not say no.
 #[tactic(auto, unfolding(crate::specs::Settings::stream_of))]
 fn stream_of(draft: StreamDraft) -> StreamConfig
     ensures { result ≡ stream_of draft }

@@ -1,4 +1,4 @@
-//! One line of a configuration, and what goes on behind it.
+//! One line of a configuration, and what goes on after it.
 ghost use Rattle.std.specs.Prelude.{◌≡◌, true, length, IfOk};
 ghost use Rattle.std.specs.Str.{is_utf8};
 ghost use Rattle.conf_parser.specs.Reading.{Including, given_read, file_count, with_rule, with_warning};
@@ -13,7 +13,7 @@ use edge_io::{NoMemory, Text};
 use net_lists::{Numbered, Stop};
 use std::alloc::Global;
 
-/// One more rule line.
+/// The output with one more rule line.
 fn with_rule(
     alloc: Global,
     output: Output,
@@ -41,7 +41,7 @@ fn with_rule(
     })
 }
 
-/// One more warning.
+/// The output with one more warning.
 fn with_warning(
     output: Output,
     source: &Source,
@@ -70,7 +70,7 @@ fn with_warning(
     })
 }
 
-/// How the reading goes on behind what a line hands on.
+/// How the reading goes on after what a line hands on.
 fn given_next(
     alloc: Global,
     source: &Source,
@@ -116,7 +116,7 @@ fn line_stop(source: &Source, line: &Numbered, output: Output, stop: Stop<ConfKi
     }
 }
 
-/// How the reading goes on behind a line of this file.
+/// How the reading goes on after a line of this file.
 pub fn line_step(
     alloc: Global,
     source: &Source,

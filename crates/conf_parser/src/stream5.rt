@@ -16,7 +16,7 @@ use net_lists::{PartStep, Parts, PortPart, first_word, number_in};
 #[derive(Drop)]
 pub struct Partial<D> {
     pub draft: D,
-    /// A setting stood without its value.
+    /// A setting was given without its value.
     pub lacks: bool,
 }
 
@@ -28,7 +28,7 @@ pub struct TcpDraft {
     pub client: Option<Items<PortPart>>,
     /// The ports for the server's data; without parts, all ports.
     pub server: Option<Items<PortPart>>,
-    /// A `ports` setting stood.
+    /// A `ports` setting was given.
     pub ports_stood: bool,
 }
 
@@ -195,7 +195,7 @@ pub fn stream_parts(text: &[u8]) -> Parts<'_>
     }
 }
 
-/// The global line, which stands once.
+/// The global line, which may be given once.
 #[tactic(auto, unfolding(crate::specs::Stream5::with_global))]
 fn put_global(draft: &mut StreamDraft, values: StreamGlobal) -> Result<(), ConfKind>
     ensures { with_new result draft.new ≡ with_global draft.old values }
@@ -218,7 +218,7 @@ fn whole_global(partial: Partial<StreamGlobal>) -> Result<StreamGlobal, ConfKind
     }
 }
 
-/// `stream5_global`, by what stands behind the name.
+/// `stream5_global`, by what comes after the name.
 #[tactic(auto, unfolding(crate::specs::Stream5::stream5_global))]
 pub fn stream5_global(draft: &mut StreamDraft, rest: &[u8]) -> Result<(), ConfKind>
     ensures { with_new result draft.new ≡ stream5_global draft.old rest.now }
@@ -289,7 +289,7 @@ fn whole_udp(partial: Partial<u32>) -> Result<u32, ConfKind>
     }
 }
 
-/// The line of UDP, which stands once.
+/// The line of UDP, which may be given once.
 #[tactic(auto, unfolding(crate::specs::Stream5::with_udp))]
 fn put_udp(draft: &mut StreamDraft, timeout: u32) -> Result<(), ConfKind>
     ensures { with_new result draft.new ≡ with_udp draft.old timeout }
@@ -301,7 +301,7 @@ fn put_udp(draft: &mut StreamDraft, timeout: u32) -> Result<(), ConfKind>
     Ok(())
 }
 
-/// `stream5_udp`, by what stands behind the name.
+/// `stream5_udp`, by what comes after the name.
 #[tactic(auto, unfolding(crate::specs::Stream5::stream5_udp))]
 pub fn stream5_udp(draft: &mut StreamDraft, rest: &[u8]) -> Result<(), ConfKind>
     ensures { with_new result draft.new ≡ stream5_udp draft.old rest.now }

@@ -69,7 +69,7 @@ fn tcp_name(name: &[u8]) -> Option<TcpName>
     }
 }
 
-/// A limit of at least so many; 0 stands for the most that may be asked for.
+/// A limit of at least `least`; 0 stands for the most that may be asked for.
 fn limit_from(least: u32, number: u32) -> Option<u32>
     ensures { result ≡ limit_from least number }
 {
@@ -82,7 +82,7 @@ fn limit_from(least: u32, number: u32) -> Option<u32>
     }
 }
 
-/// A limit of at least so many, at most 1073741824.
+/// A limit of at least `least`, at most 1073741824.
 #[tactic(auto, unfolding(crate::specs::Stream5::queue_limit))]
 fn queue_limit(least: u32, value: &[u8]) -> Option<u32>
     ensures { result ≡ queue_limit least value.now }
@@ -93,7 +93,7 @@ fn queue_limit(least: u32, value: &[u8]) -> Option<u32>
     }
 }
 
-/// The seconds behind `require_3whs`.
+/// The seconds after `require_3whs`.
 #[tactic(auto, unfolding(crate::specs::Stream5::handshake_seconds))]
 fn handshake_seconds(value: &[u8]) -> Option<u32>
     ensures { result ≡ handshake_seconds value.now }
@@ -171,7 +171,7 @@ fn port_words(alloc: Global, value: &[u8]) -> Result<Option<Items<PortPart>>, St
     Ok(Some(ports))
 }
 
-/// The ports of two lists that have parts, one behind the other.
+/// The ports of two lists that have parts, one after the other.
 fn appended(ports: Items<PortPart>, more: &[PortPart]) -> Result<Items<PortPart>, NoMemory>
     ensures { IfOk result (λ all. all ≡ ports ++ more.now) }
 {
@@ -313,7 +313,7 @@ fn tcp_value(
     engine_value(alloc, vars, &mut draft.engine, name, value)
 }
 
-/// Whether a `ports` setting stands without a side, or without ports behind one.
+/// Whether a `ports` setting is without a side, or without ports after one.
 #[tactic(auto, unfolding(crate::specs::Stream5::lacks_ports))]
 fn lacks_ports(value: &[u8]) -> bool
     ensures { result ≡ lacks_ports value.now }
@@ -383,7 +383,7 @@ impl<'a> TryPartStep<Partial<TcpDraft>, ConfKind> for TcpStep<'a> {
     }
 }
 
-/// The client's ports: the default where no `ports` setting stands.
+/// The client's ports: the default where there is no `ports` setting.
 fn client_ports(
     alloc: Global,
     client: Option<Items<PortPart>>,
@@ -426,7 +426,7 @@ fn has_default(engines: &[StreamEngine]) -> bool
     engines.iter().any(|engine| engine.bind.is_none())
 }
 
-/// One engine more.
+/// Adds one engine more.
 #[tactic(auto, unfolding(crate::specs::Stream5::with_engine))]
 fn add_engine(draft: &mut StreamDraft, engine: StreamEngine) -> Result<(), Stop<ConfKind>>
     ensures { Gives (with_new result draft.new) (with_engine draft.old engine) }
@@ -453,7 +453,7 @@ fn whole_tcp(partial: Partial<TcpDraft>) -> Result<TcpDraft, ConfKind>
     }
 }
 
-/// Before the first setting.
+/// The draft of an engine before the first setting.
 #[tactic(auto, unfolding(conf_types::specs::Defaults::default_stream_engine))]
 fn first_tcp() -> TcpDraft
     ensures { result ≡ first_tcp }
@@ -482,7 +482,7 @@ fn first_tcp() -> TcpDraft
     }
 }
 
-/// `stream5_tcp`, by what stands behind the name.
+/// `stream5_tcp`, by what comes after the name.
 #[tactic(auto, unfolding(crate::specs::Stream5::stream5_tcp))]
 pub fn stream5_tcp(
     alloc: Global,

@@ -22,14 +22,14 @@ pub fn put<T: Copy>(place: &mut T, value: Option<T>) -> Result<(), ConfKind>
     Ok(())
 }
 
-/// The same for a reader that may want memory.
+/// Puts a value in its place, where there is one, for a reader that may want memory.
 pub fn put_or_stop<T: Copy>(place: &mut T, value: Option<T>) -> Result<(), Stop<ConfKind>>
     ensures { Gives (with_new result place.new) (or_kind ConfKind.BadValue value) }
 {
     Ok(put(place, value)?)
 }
 
-/// The same in a place that may be empty.
+/// Puts a value in a place that may be empty, where there is one, for a reader that may want memory.
 pub fn put_some<T: Copy>(place: &mut Option<T>, value: Option<T>) -> Result<(), Stop<ConfKind>>
     ensures { Gives (with_new result place.new) (mapped (λ found. Some found) (or_kind ConfKind.BadValue value)) }
 {
@@ -102,7 +102,7 @@ pub fn port_list(alloc: Global, text: &[u8]) -> Result<PortList, Stop<ConfKind>>
     }
 }
 
-/// A list of addresses, read behind the expansion of its text.
+/// A list of addresses, read after the expansion of its text.
 #[tactic(auto, unfolding(crate::specs::Values::expanded_addresses))]
 pub fn expanded_addresses(
     alloc: Global,
@@ -129,21 +129,21 @@ pub fn put_addresses(
     Ok(())
 }
 
-/// Whether a byte may stand in a name.
+/// Whether a byte may be in a name.
 fn in_name(byte: u8) -> bool
     ensures { result ≡ in_name byte }
 {
     byte != b' ' && byte != b'\t' && byte != b':'
 }
 
-/// Where the name in front ends, if anything stands behind it.
+/// Where the name in front ends, if anything comes after it.
 fn name_end(text: &[u8]) -> Option<usize>
     ensures { result ≡ position (λ byte. not (in_name byte)) text.now }
 {
     text.iter().position(|byte| !in_name(*byte))
 }
 
-/// How many bytes of a name stand in front.
+/// How many bytes of a name are in front.
 fn name_len(text: &[u8]) -> usize
     ensures len { result ≡ prefix_len in_name text.now }
     ensures within { result ≤ length text.now }
@@ -151,7 +151,7 @@ fn name_len(text: &[u8]) -> usize
     name_end(text).unwrap_or(text.len())
 }
 
-/// The name in front, which ends at a blank or a colon, and what stands behind it, without blanks at its
+/// The name in front, which ends at a blank or a colon, and what comes after it, without blanks at its
 /// ends.
 #[tactic(auto, unfolding(crate::specs::Values::name_of, crate::specs::Values::behind_name))]
 pub fn name_and_rest(text: &[u8]) -> (&[u8], &[u8])
@@ -162,7 +162,7 @@ pub fn name_and_rest(text: &[u8]) -> (&[u8], &[u8])
     (name, trimmed(rest))
 }
 
-/// What stands behind a colon in front.
+/// What comes after a colon in front.
 #[tactic(auto, unfolding(crate::specs::Values::behind_colon))]
 pub fn behind_colon(text: &[u8]) -> Option<&[u8]>
     ensures { option_copied result ≡ behind_colon text.now }
@@ -173,7 +173,7 @@ pub fn behind_colon(text: &[u8]) -> Option<&[u8]>
     }
 }
 
-/// The settings of a preprocessor line: nothing, or what stands behind a colon.
+/// The settings of a preprocessor line: nothing, or what comes after a colon.
 #[tactic(auto, unfolding(crate::specs::Values::setting_text))]
 pub fn setting_text(rest: &[u8]) -> Result<&[u8], ConfKind>
     ensures { mapped (λ text. text.now) result ≡ setting_text rest.now }

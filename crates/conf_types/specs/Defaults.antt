@@ -3,7 +3,7 @@
 -- A reader starts each engine from these values, and a packet whose address no engine has goes by them.
 -- An engine of streams is named by its place among those of the configuration; their number names the
 -- defaults.
--- To try it on: where no line gives an engine of streams, a session ends 30 seconds behind its last packet,
+-- To try it on: where no line gives an engine of streams, a session ends 30 seconds after its last packet,
 -- and the data that a client sends to port 80 are put together.
 use Rattle.std.specs.Prelude.{ℕ, List, [], ◌∷◌, Some, None, map, slice_get, unwrap_or}
 use Rattle.edge_io.specs.declared.policy.FragPolicy.TheVariants as frag
@@ -34,6 +34,6 @@ default_stream_engine = record {
   server_ports = None;
 }
 
--- the engine of streams at a place; behind the last one stand the defaults
+-- the engine of streams at a place; after the last one come the defaults
 abbrev pub stream_engine_at : List StreamEngine → ℕ → StreamEngine
 stream_engine_at engines place = unwrap_or (slice_get engines place) default_stream_engine

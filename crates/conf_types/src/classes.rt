@@ -64,7 +64,7 @@ impl Classes {
         }
     }
 
-    /// The same as a place in memory.
+    /// The place of the class of this name as a place in memory.
     fn place_of(&self, name: &[u8]) -> Option<usize>
         ensures place { result ≡ class_place self.now name.now }
         ensures within { IfSome result (λ place. place < 1024) }
@@ -90,7 +90,7 @@ impl Classes {
         self.classes[class as usize].priority
     }
 
-    /// One class more, behind the last.
+    /// The classes with one more, after the last.
     pub fn with_class(self, class: Class) -> Result<Classes, NoMemory>
         requires { length self < 1024 }
         ensures { IfOk result (λ classes. classes ≡ self ++ class ∷ []) }

@@ -13,14 +13,14 @@ pub struct Config {
     pub classes: Classes,
     pub queue: QueueLimits,
     /// A packet whose data were queued for reassembly is tried itself, too; false where
-    /// `no_stream_inserts` stands.
+    /// `no_stream_inserts` is given.
     pub inserts: bool,
     /// How fragments are put together; None where no line gives an engine.
     pub frag: Option<FragConfig>,
     pub stream: StreamConfig,
-    /// In the order of their lines, at most 1024.
+    /// The `event_filter` lines in their order, at most 1024.
     pub filters: Items<EventFilter>,
-    /// In the order of their lines, at most 1024.
+    /// The `suppress` lines in their order, at most 1024.
     pub suppress: Items<Suppress>,
 }
 
@@ -29,7 +29,7 @@ pub struct Config {
 pub struct QueueLimits {
     /// The events that are kept, 1 to 1024; 8 where no line gives it.
     pub max_queue: u32,
-    /// Those of them that are written, 1 to 1024; 3 where no line gives it.
+    /// The events that are written of those kept, 1 to 1024; 3 where no line gives it.
     pub log: u32,
     /// Ordered by priority, else by the length of the longest content.
     pub by_priority: bool,
@@ -52,7 +52,7 @@ pub struct FragEngine {
 pub struct FragConfig {
     /// 1 to 1048576.
     pub max_frags: u32,
-    /// In the order of their lines, 1 to 1024.
+    /// The `frag3_engine` lines in their order, 1 to 1024.
     pub engines: Items<FragEngine>,
 }
 
@@ -90,6 +90,6 @@ pub struct StreamConfig {
     pub max_udp: u32,
     /// In seconds, 1 to 86400.
     pub udp_timeout: u32,
-    /// In the order of their lines, at most 1024.
+    /// The `stream5_tcp` lines in their order, at most 1024.
     pub engines: Items<StreamEngine>,
 }

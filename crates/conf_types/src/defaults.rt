@@ -40,14 +40,14 @@ pub const DEFAULT_STREAM_SETTINGS: StreamSettings = StreamSettings {
 };
 
 impl StreamConfig {
-    /// The engine at a place; behind the last one there is none.
+    /// The engine at a place; after the last one there is none.
     pub fn engine_at(&self, place: usize) -> Option<&StreamEngine>
         ensures { option_copied result ≡ slice_get self.now.engines place }
     {
         self.engines.as_slice().get(place)
     }
 
-    /// The settings of the engine at a place; behind the last one stand the defaults.
+    /// The settings of the engine at a place; after the last one come the defaults.
     #[tactic(auto, unfolding(crate::specs::Defaults::default_stream_engine))]
     pub fn settings_at(&self, place: usize) -> StreamSettings
         ensures policy { result.policy ≡ (stream_engine_at self.now.engines place).policy }

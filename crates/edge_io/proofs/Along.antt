@@ -1,4 +1,4 @@
--- The laws of answers along a list: joined inputs, maps, stages one behind the other, and the inputs of one
+-- The laws of answers along a list: joined inputs, maps, stages one after the other, and the inputs of one
 -- class.
 use Rattle.std.proofs.Common.{◌≡◌, Bool, true, false, cond, List, [], ◌∷◌, ◌++◌, length, map, refl, sym, ap, ◌∙◌, append_assoc, arith}
 use Rattle.std.proofs.lemmas.List.{append-nil, map-append}
@@ -23,7 +23,7 @@ along_from-append f before (x ∷ xs) ys =
 pub along-append : {X A : Type 0} (f : List X → X → A) (xs ys : List X) → along f (xs ++ ys) ≡ along f xs ++ along_from f xs ys
 along-append f xs ys = along_from-append f [] xs ys
 
--- the same where each input has a list of answers
+-- the answers along joined inputs, where each input has a list of answers
 pub trail_from-append : {X A : Type 0} (f : List X → X → List A) (before xs ys : List X) → trail_from f before (xs ++ ys) ≡ trail_from f before xs ++ trail_from f (before ++ xs) ys
 trail_from-append f before [] ys = ap (λ front. trail_from f front ys) (sym (append-nil before))
 trail_from-append f before (x ∷ xs) ys =
@@ -33,13 +33,13 @@ trail_from-append f before (x ∷ xs) ys =
 pub trail-append : {X A : Type 0} (f : List X → X → List A) (xs ys : List X) → trail f (xs ++ ys) ≡ trail f xs ++ trail_from f xs ys
 trail-append f xs ys = trail_from-append f [] xs ys
 
--- a batch more: what stood before it and what it gives is what all of it gives
+-- a batch more: what was given before it and what it gives is what all of it gives
 pub pipe_more : {X A : Type 0} (f : List X → X → List A) (before rs : List X) → trail f before ++ trail_from f before rs ≡ trail f (before ++ rs)
 pipe_more f before rs = sym (trail-append f before rs)
 
--- ---- functions before and behind the answers
+-- ---- functions before and after the answers
 
--- a function behind the answers
+-- a function after the answers
 pub map-along_from : {X A B : Type 0} (h : A → B) (f : List X → X → A) (before xs : List X) → map h (along_from f before xs) ≡ along_from (λ b x. h (f b x)) before xs
 map-along_from h f before [] = refl
 map-along_from h f before (x ∷ xs) = ap (λ rest. h (f before x) ∷ rest) (map-along_from h f (before ++ x ∷ []) xs)
@@ -82,7 +82,7 @@ trail_from-same f g same before [] = refl
 trail_from-same f g same before (x ∷ xs) =
     ap (λ answers. answers ++ trail_from f (before ++ x ∷ []) xs) (same before x) ∙ ap (λ rest. g before x ++ rest) (trail_from-same f g same (before ++ x ∷ []) xs)
 
--- ---- stages, one behind the other
+-- ---- stages, one after the other
 
 -- one input more
 pub trail-more : {X A : Type 0} (f : List X → X → List A) (before : List X) (x : X) → trail f before ++ f before x ≡ trail f (before ++ x ∷ [])
@@ -101,7 +101,7 @@ trail-chained g f xs = trail_from-chained g f [] xs
 
 -- ---- inputs of one class
 
--- a test behind a test
+-- a test after a test
 filter-filter : {X : Type 0} (p q : X → Bool) → ((x : X) → p x ≡ true → q x ≡ true) → (xs : List X) → filter p (filter q xs) ≡ filter p xs
 filter-filter p q implied [] = refl
 filter-filter p q implied (x ∷ xs) = by_case (p x) (q x) refl refl (filter-filter p q implied xs)

@@ -11,7 +11,7 @@ use Rattle.edge_io.specs.Along.{AscendsBy}
 
 -- ---- parts by class
 
--- two tests, one behind the other
+-- two tests, one after the other
 filter-both : {X : Type 0} (p q : X → Bool) (xs : List X) → filter p (filter q xs) ≡ filter (λ x. q x && p x) xs
 filter-both p q [] = refl
 filter-both p q (x ∷ xs) = by_case (q x) (filter-both p q xs)
@@ -25,7 +25,7 @@ filter-none : {X : Type 0} (p : X → Bool) → ((x : X) → p x ≡ false) → 
 filter-none p fails [] = refl
 filter-none p fails (x ∷ xs) = ap (λ b. cond b (x ∷ filter p xs) (filter p xs)) (fails x) ∙ filter-none p fails xs
 
--- the elements of the classes from one on are those of that class and those of the classes behind it
+-- the elements of the classes from one on are those of that class and those of the classes after it
 split_class : {X : Type 0} (class : X → ℕ) (k : ℕ) (xs : List X) → IsPermutation (filter (λ x. nat_le k (class x)) xs) (filter (λ x. nat_eq (class x) k) xs ++ filter (λ x. nat_le (suc k) (class x)) xs)
 split_class {X} class k xs =
     let here = filter-both (λ x. nat_eq (class x) k) (λ x. nat_le k (class x)) xs in
@@ -71,7 +71,7 @@ module _ {X A P : Type 0} (class : X → ℕ) (h : X → A) (items : P → List 
 
 -- ---- in the order of the keys
 
--- each key is below those behind it
+-- each key is below those after it
 abbrev Climbs : {X : Type 0} → (X → ℕ) → List X → Type 0
 Climbs key [] = Unit {0}
 Climbs key (x ∷ xs) = AllByRecursion (λ z. key x < key z) xs × Climbs key xs

@@ -4,7 +4,7 @@ use Rattle.std.proofs.lemmas.List.{get_or-drop, take_rest}
 use Rattle.byteorder.specs.Endian.{big_from, little_from}
 use Rattle.edge_io.specs.Bytes.{byte_at, be16, be32}
 
--- behind the first bytes each place is so much further on
+-- after the first bytes each place is further on by their number
 pub little_from-drop : (i n place : ℕ) (bytes : List ℕ) → little_from i n (drop place bytes) ≡ little_from (place + i) n bytes
 little_from-drop i zero place bytes = refl
 little_from-drop i (suc n) place bytes =

@@ -42,7 +42,7 @@ abbrev pub answers_code : Coded (List Answer)
 answers_code =
     coded_list (code_by Parts (coded× coded_ℕ (coded× (coded_list coded_ℕ) (coded_list coded_ℕ))) to_parts from_parts from_to)
 
--- what these files have left of the open capture behind these answers
+-- what these files have left of the open capture after these answers
 abbrev pub left_behind : List Answer → Files → Option (List ℕ)
 left_behind [] files = None
 left_behind (loaded name bytes ∷ earlier) files = left_behind earlier files
@@ -56,7 +56,7 @@ abbrev pub AreNext : Option (List ℕ) → List ℕ → Type 0
 AreNext None bytes = bytes ≡ []
 AreNext (Some rest) bytes = (rest ≡ bytes ++ drop (length bytes) rest) × (bytes ≡ [] → rest ≡ [])
 
--- these files give this answer, where so much of the open capture is left
+-- these files give this answer, where `left` is left of the open capture
 abbrev pub GivesAnswer : Files → Option (List ℕ) → Answer → Type 0
 GivesAnswer files left (loaded name bytes) = get files name ≡ Some bytes
 GivesAnswer files left (longer name limit) = IsLonger (Some files) name limit

@@ -42,7 +42,7 @@ be16 bytes place = big_from place 2 bytes
 unfoldable pub be32 : List ℕ → ℕ → ℕ
 be32 bytes place = big_from place 4 bytes
 
--- the plain sum of the 16-bit words of these bytes, an odd last byte with a zero byte behind it
+-- the plain sum of the 16-bit words of these bytes, an odd last byte with a zero byte after it
 unfoldable pub word_sum : List ℕ → ℕ
 word_sum [] = 0
 word_sum (high ∷ []) = high * 256

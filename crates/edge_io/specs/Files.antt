@@ -43,7 +43,7 @@ pub record IsAsTold (files : Files) (left : Option (List ℕ)) (agrees : Files �
   pub alone : (other : Files) → agrees other → other ≡ files
   pub left_is : left_of files ≡ left
 
--- the same where files are told; where none are, nothing is told to be left
+-- files that are told are `IsAsTold`; where none are told, nothing is told to be left
 abbrev pub AsTold : Option Files → Option (List ℕ) → (Files → Type 0) → (Files → Option (List ℕ)) → Type 0
 AsTold None left agrees left_of = left ≡ None
 AsTold (Some files) left agrees left_of = IsAsTold files left agrees left_of

@@ -1,7 +1,7 @@
--- Where a literal text stands in bytes, with ASCII case kept or folded.
+-- Where a literal text is in bytes, with ASCII case kept or folded.
 --
--- To try it on: "bc" in "abcbc" stands first at 1, and "BC" only where case is folded. An empty text
--- stands at 0, in no bytes too.
+-- To try it on: "bc" in "abcbc" is first at 1, and "BC" only where case is folded. An empty text
+-- is at 0, in no bytes too.
 use Rattle.std.specs.Prelude.{ℕ, ◌+◌, Bool, List, [], ◌∷◌, length, Option, position, nat_eq, if◌then◌else◌}
 use Rattle.std.specs.Option.{option_map}
 use Rattle.std.specs.List.{starts_with}

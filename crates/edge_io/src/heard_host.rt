@@ -19,7 +19,7 @@ pub struct HeardHost<R: Files> {
 }
 
 impl<R: Files> HeardHost<R> {
-    /// This host, of which nothing was asked yet.
+    /// A host over this one, of which nothing was asked yet.
     pub fn over(host: FileHost<R>) -> HeardHost<R>
         ensures host { result.host ≡ host }
         ensures nothing { result.heard.answers ≡ [] }

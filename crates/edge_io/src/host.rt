@@ -75,7 +75,7 @@ pub trait Host {
         ensures later { faults self.old ≤ faults self.new };
 
     /// Takes bytes off the front of the open capture into the front of `buf`, as many as the answer
-    /// says: 0 exactly where nothing is left or nothing is open. What stands in the rest of `buf`
+    /// says: 0 exactly where nothing is left or nothing is open. What is in the rest of `buf`
     /// afterwards, and in all of it after a refusal, is left open.
     fn read(&mut self, buf: &mut [u8]) -> Result<usize, Failed>
         requires { 0 < length buf.old }

@@ -29,7 +29,7 @@ impl<T> Items<T> {
         }
     }
 
-    /// Adds an element behind the last. Where memory is lacking the list stays, and the value is
+    /// Adds an element after the last. Where memory is lacking the list stays, and the value is
     /// dropped.
     pub fn push(&mut self, value: T) -> Result<(), NoMemory>
     where

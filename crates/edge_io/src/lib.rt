@@ -6,7 +6,7 @@
 //! about contents claim nothing; the clauses about faults hold all the same. The memory
 //! implementations tell their meanings and are proved against them. Those over real files and
 //! streams have clauses of their own as well, over what the standard library says of the bytes of a
-//! file or a stream. Beside the traits stand the base types that all crates share: text, lists,
+//! file or a stream. Beside the traits are the base types that all crates share: text, lists,
 //! addresses, moments; and the words that the definitions of all crates share: answers along a list
 //! (`Along`), steps one after another (`OnOption`, `OnResult`), places of bytes (`Bytes`).
 #![tactic(auto)]

@@ -20,7 +20,7 @@ struct HeldFile {
     bytes: Text,
 }
 
-/// Where the open capture stands: the place of its file, and how many of its bytes are left.
+/// Where the open capture is: the place of its file, and how many of its bytes are left.
 #[derive(Clone, Copy, Debug)]
 struct Reading {
     file: usize,
@@ -33,7 +33,7 @@ struct Reading {
 /// `open`, and the calls. An open capture keeps its bytes when its file is replaced.
 #[derive(Debug, Drop)]
 pub struct MemHost {
-    // In the order in which they were put: of those with one name the last counts.
+    // The files in the order in which they were put: of those with one name the last counts.
     held: Vec<HeldFile>,
     reading: Option<Reading>,
     faults: FaultCount,

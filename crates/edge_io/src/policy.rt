@@ -76,7 +76,7 @@ impl FragPolicy {
             .find(|policy| is_named(name, policy.name()))
     }
 
-    /// Its name in lower case.
+    /// The policy's name in lower case.
     fn name(self) -> &'static [u8]
         ensures { result.now ≡ frag_name self }
     {
@@ -135,7 +135,7 @@ impl StreamPolicy {
             .find(|policy| is_named(name, policy.name()))
     }
 
-    /// Its name in lower case.
+    /// The policy's name in lower case.
     fn name(self) -> &'static [u8]
         ensures { result.now ≡ stream_name self }
     {

@@ -19,7 +19,7 @@ use Rattle.event_filters.specs.Windows.{window_at, windows_after, answer_of, Sta
 use Rattle.event_filters.proofs.Stages.{counted-answer, stand-more, StandFor-same}
 use Rattle.event_filters.proofs.Tallies.{IsCountOf-match, IsCountOf-event}
 
--- what was written by two runs, one behind the other
+-- what was written by two runs, one after the other
 written-more : (f : List Event → Event → List Event) (earlier front back : List Event) (old mid new : List ℕ)
     → mid ≡ old ++ places_of (trail_from f earlier front) → new ≡ mid ++ places_of (trail_from f (earlier ++ front) back) → new ≡ old ++ places_of (trail_from f earlier (front ++ back))
 written-more f earlier front back old mid new first second =
@@ -78,7 +78,7 @@ Stays-more rules head old mid new places place first second = λ some earlier st
 abbrev pub state_of : List (Key × Window) → List (Key × Window) → List ℕ → Filtered
 state_of own global written = record { own = own; global = global; written = written }
 
--- the same with the places told that aren't suppressed
+-- the events at these places were counted, and those that are kept were appended
 abbrev KeepsThese : Lines → ItemHead → Filtered → List ℕ → Filtered → Type 0
 KeepsThese lines head old places new =
     AreTables lines → AreSome (event_line lines.filters) → (earlier : List Event) → BothStand lines earlier old
@@ -143,7 +143,7 @@ module _ (lines : Lines) (head : ItemHead) (event : ℕ) (shown : is_suppressed 
       (IsCountOf-event lines.filters (own_place lines.filters) lines.rules lines.own_places head event tables.own) stand
       ∙ ap (λ b. cond b (event_of head event ∷ []) []) (sym is)
 
-  -- its own filter drops the event
+  -- the event's own filter drops the event
   pub Keeps-dropped : (own_old own_new global : List (Key × Window)) (written : List ℕ)
       → false ≡ answer_of (window_at own_old) own_count head.moment.nanos
       → ((key : Key) → window_at own_new key ≡ windows_after (window_at own_old) own_count head.moment.nanos key)
@@ -170,7 +170,7 @@ module _ (lines : Lines) (head : ItemHead) (event : ℕ) (shown : is_suppressed 
   twice_one_place true = refl
   twice_one_place false = refl
 
-  -- its own filter lets it through, and the global one decides
+  -- the event's own filter lets it through, and the global one decides
   pub Keeps-passed : (own_old own_new global_old global_new : List (Key × Window)) (before after : List ℕ) (b : Bool)
       → true ≡ answer_of (window_at own_old) own_count head.moment.nanos
       → ((key : Key) → window_at own_new key ≡ windows_after (window_at own_old) own_count head.moment.nanos key)

@@ -1,4 +1,4 @@
--- One event through a line that counts: the answer, and what the windows stand for behind it.
+-- One event through a line that counts: the answer, and what the windows stand for after it.
 use Rattle.std.proofs.Common.{◌≡◌, ℕ, ◌+◌, ◌<◌, Bool, true, false, cond, List, [], ◌∷◌, ◌++◌, length, refl, sym, ap, subst, ◌∙◌, arith, Some, None}
 use Rattle.std.specs.Prelude.{Option}
 use Rattle.std.specs.Option.{option_map_or}
@@ -52,7 +52,7 @@ module _ (key_of : Event → Option Key) (line_at : Key → Line) (some : (key :
       moments_of-more key_of key events event ∙ ap (λ b. moments_of key_of key events ++ cond b (moment_of event ∷ []) []) other
       ∙ append-nil (moments_of key_of key events)
 
-  -- and the event's key has one more
+  -- the event's key has one moment more
   more_moments : (events : List Event) (event : Event) (key : Key) → has_key key_of key event ≡ true → moments_of key_of key (events ++ event ∷ []) ≡ moments_of key_of key events ++ moment_of event ∷ []
   more_moments events event key own =
       moments_of-more key_of key events event ∙ ap (λ b. moments_of key_of key events ++ cond b (moment_of event ∷ []) []) own
@@ -79,7 +79,7 @@ module _ (key_of : Event → Option Key) (line_at : Key → Line) (some : (key :
       let moments = ap (interval_of (line_at other).seconds) (same_moments events event other (key_with event key other false is apart)) in
       subst (λ (i : List ℕ). IsWindowOf (line_at other) i (windows other)) (sym moments) (stand other)
 
-  -- the windows behind the event stand for one event more
+  -- the windows after the event stand for one event more
   pub stand-more : (events : List Event) (event : Event) (old new : Windows) (count : Option Count) → IsCountOf key_of line_at event count → StandFor key_of line_at events old
       → ((key : Key) → new key ≡ windows_after old count (moment_of event) key) → StandFor key_of line_at (events ++ event ∷ []) new
   unfolding StandFor

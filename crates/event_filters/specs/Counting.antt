@@ -36,7 +36,7 @@ interval_after seconds (start ∷ later) moment =
 abbrev pub interval_of : ℕ → List ℕ → List ℕ
 interval_of seconds moments = fold (interval_after seconds) [] moments
 
--- the number in its interval of an event that comes at this moment, behind events at the earlier ones
+-- the number in its interval of an event that comes at this moment, after events at the earlier ones
 unfoldable pub windowed : List ℕ → ℕ → ℕ → ℕ
 windowed earlier moment seconds = length (interval_of seconds (earlier ++ moment ∷ []))
 
@@ -66,7 +66,7 @@ passes key_of line_at earlier event None = true
 passes key_of line_at earlier event (Some key) =
     lets (line_at key).kind (line_at key).count (number_of key_of (line_at key).seconds key earlier event)
 
--- the event where its line lets it through, behind these earlier events that came as far
+-- the event where its line lets it through, after these earlier events that came as far
 abbrev pub counted : (Event → Option Key) → (Key → Line) → List Event → Event → List Event
 counted key_of line_at earlier event =
     if passes key_of line_at earlier event (key_of event) then event ∷ [] else []

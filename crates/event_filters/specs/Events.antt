@@ -1,4 +1,4 @@
--- Which events of an item are kept, behind the items before it.
+-- Which events of an item are kept, after the items before it.
 --
 -- Each item goes through these steps, in order (Snort Users Manual 2.9, "Event Processing", and
 -- "detection_filter" under "Post-Detection Rule Options"):
@@ -62,11 +62,11 @@ event_of head place = record { head = head; rule = place }
 abbrev pub events_of : ItemHead → List ℕ → List Event
 events_of head places = map (event_of head) places
 
--- their places
+-- the places of the rules of events
 abbrev pub places_of : List Event → List ℕ
 places_of events = map (λ (event : Event). event.rule) events
 
--- what stands in the place of a line where there is none; no event has such a key
+-- what takes the place of a line where there is none; no event has such a key
 abbrev pub no_line : Line
 no_line = record { kind = Above; count = 1; seconds = 1 }
 
@@ -76,7 +76,7 @@ no_line = record { kind = Above; count = 1; seconds = 1 }
 abbrev pub period_key : ℕ → Rule → ItemHead → Period → Key
 period_key place rule head period = record { place = place; gid = rule.gid; sid = rule.sid; addr = tracked period.by_src head }
 
--- how it counts
+-- how a detection filter counts
 abbrev pub period_line : Period → Line
 period_line period = record { kind = Above; count = period.count; seconds = period.seconds }
 
@@ -94,11 +94,11 @@ match_line rules key =
 abbrev pub matches : Item → List Event
 matches item = events_of item.head item.hits
 
--- the match where it stays, behind these earlier matches
+-- the match where it stays, after these earlier matches
 abbrev pub match_stays : List Rule → List Event → Event → List Event
 match_stays rules = counted (match_key rules) (match_line rules)
 
--- the matches of an item that stay, behind these items
+-- the matches of an item that stay, after these items
 abbrev pub staying : List Rule → List Item → Item → List Event
 staying rules = chained (match_stays rules) (λ before item. matches item)
 
@@ -123,7 +123,7 @@ abbrev pub is_suppressed : List Suppress → List Rule → ItemHead → ℕ → 
 is_suppressed lines rules head place =
     option_map_or (λ (rule : Rule). list_any (λ line. speaks_of line rule && drops line head) lines) (slice_get rules place) false
 
--- the events of an item that event filters decide, behind these items
+-- the events of an item that event filters decide, after these items
 unfoldable pub arising : Config → List Rule → List Item → Item → List Event
 arising config rules before item =
     events_of item.head (filter (λ place. not (is_suppressed config.suppress rules item.head place))
@@ -155,7 +155,7 @@ own_place lines rule = filter_place lines rule.gid rule.sid
 abbrev pub global_place : List EventFilter → Rule → Option ℕ
 global_place lines rule = option_or (filter_place lines rule.gid 0) (filter_place lines 0 0)
 
--- the key of an event, where the filter that is chosen for its rule stands
+-- the key of an event, where there is a filter that is chosen for its rule
 abbrev pub event_key : (Rule → Option ℕ) → List EventFilter → List Rule → Event → Option Key
 event_key place_for lines rules event =
     option_and_then (λ (rule : Rule).
@@ -166,11 +166,11 @@ event_key place_for lines rules event =
 abbrev pub event_line : List EventFilter → Key → Line
 event_line lines key = unwrap_or (option_map filter_line (slice_get lines key.place)) no_line
 
--- the event where its own filter lets it through, behind the earlier events that came as far
+-- the event where its own filter lets it through, after the earlier events that came as far
 abbrev pub own_kept : List EventFilter → List Rule → List Event → Event → List Event
 own_kept lines rules = counted (event_key (own_place lines) lines rules) (event_line lines)
 
--- the same of the global filter
+-- the event where the global filter lets it through, after the earlier events that came as far
 abbrev pub global_kept : List EventFilter → List Rule → List Event → Event → List Event
 global_kept lines rules = counted (event_key (global_place lines) lines rules) (event_line lines)
 
@@ -178,7 +178,7 @@ global_kept lines rules = counted (event_key (global_place lines) lines rules) (
 unfoldable pub filtered : List EventFilter → List Rule → List Event → Event → List Event
 filtered lines rules = chained (global_kept lines rules) (own_kept lines rules)
 
--- the places of the rules whose events of an item are kept, behind these items, in the order of their lines
+-- the places of the rules whose events of an item are kept, after these items, in the order of their lines
 unfoldable pub kept : Config → List Rule → List Item → Item → List ℕ
 kept config rules before item =
     places_of (chained (filtered config.filters rules) (arising config rules) before item)

@@ -1,7 +1,7 @@
 -- Which of the rules that match an item give events, and in which order.
 --
 -- Where a pass rule is among them, none does. Else the first `max_queue` alert rules without noalert, in
--- the order of the rules, stand in a queue. It is ordered by the longest content that isn't negated, the
+-- the order of the rules, form a queue. It is ordered by the longest content that isn't negated, the
 -- longest first, or by priority, the smallest number first; equals keep the order of the rules. The first
 -- `log` of the queue are the events. (Snort Users Manual 2.9, "Event Logging": `config event_queue`.)
 -- To try it on: with max_queue 8 and log 3, of nine rules with contents of one length the first three give
@@ -44,23 +44,23 @@ longest_content rule = fold max 0 (map content_size rule.opts)
 abbrev pub priority_at : List Rule → ℕ → ℕ
 priority_at rules place = unwrap_or (option_map (λ (rule : Rule). rule.priority) (slice_get rules place)) 0
 
--- the first event stands before the second whatever the order of their rules, where these are the sizes
+-- the first event comes before the second whatever the order of their rules, where these are the sizes
 -- of the rules' longest contents
 abbrev pub comes_before : Bool → List Rule → List ℕ → ℕ → ℕ → Bool
 comes_before by_priority rules sizes first second =
     if by_priority then nat_lt (priority_at rules first) (priority_at rules second)
     else nat_lt (slice_index sizes second) (slice_index sizes first)
 
--- the same of the code's order
+-- the first event comes before the second, in the code's order
 abbrev pub order_of : Order → ℕ → ℕ → Bool
 order_of order = comes_before order.by_priority order.rules.now order.sizes.now
 
--- an event joins others in their order: it stands before the first one that it comes before
+-- an event joins others in their order: it is put before the first one that it comes before
 abbrev pub joined : (ℕ → ℕ → Bool) → List ℕ → ℕ → List ℕ
 joined before [] event = event ∷ []
 joined before (next ∷ later) event = if before event next then event ∷ next ∷ later else next ∷ joined before later event
 
--- these events in order; equals as they came
+-- the events in their order; equals as they came
 abbrev pub ordered : (ℕ → ℕ → Bool) → List ℕ → List ℕ
 ordered before events = fold (joined before) [] events
 

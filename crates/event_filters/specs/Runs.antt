@@ -39,7 +39,7 @@ pub record Lines : Type 0 where
   pub own_places : List (Option ℕ)
   pub global_places : List (Option ℕ)
 
--- the same of the code's
+-- what the code's lines are, as these definitions see them
 abbrev pub lines_of : CodeLines → Lines
 lines_of lines = record {
   filters = lines.filters.now;

@@ -46,7 +46,7 @@ Passes config rules old out item new written =
     (before : List Item) → IsGiven config rules before old
     → IsGiven config rules (before ++ item ∷ []) new × (written ≡ out ++ kept config rules before item)
 
--- the same windows at every key, and the same tables
+-- filters have the same windows at every key, and the same tables
 pub record IsSame (old new : FiltersState) : Type 0 where
   pub sizes : new.sizes ≡ old.sizes
   pub own_places : new.own_places ≡ old.own_places

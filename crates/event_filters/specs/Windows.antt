@@ -49,7 +49,7 @@ answer_of windows None moment = true
 answer_of windows (Some count) moment =
     shows count.line.kind count.line.count (next_window count.line (windows count.key) moment).number
 
--- the windows behind it
+-- the windows after an event that is counted so
 abbrev pub windows_after : Windows → Option Count → ℕ → Windows
 windows_after windows None moment key = windows key
 windows_after windows (Some count) moment key =

@@ -19,11 +19,11 @@ pub(crate) enum Kind {
     Threshold,
     /// The `count`th event is.
     Both,
-    /// Those behind the `count`th are.
+    /// The events after the `count`th are let through.
     Above,
 }
 
-/// A line that counts events in intervals of so many seconds.
+/// A line that counts events in intervals of this many seconds.
 #[derive(Clone, Copy, Debug, PartialEq, Eq)]
 pub(crate) struct Line {
     pub kind: Kind,
@@ -56,7 +56,7 @@ pub(crate) struct Window {
     pub number: u64,
 }
 
-/// Makes room for so many keys more.
+/// Makes room for this many keys more.
 pub(crate) fn reserve(windows: &mut Windows, keys: usize) -> Result<(), NoMemory>
     ensures same { (key : Key) → window_at windows.new.entries key
         ≡ window_at windows.old.entries key }
@@ -76,7 +76,7 @@ pub(crate) fn tracked(by_src: bool, head: &ItemHead) -> Addr
     if by_src { head.ip.src } else { head.ip.dst }
 }
 
-/// The number behind this one.
+/// The number after this one.
 fn next_number(line: Line, number: u64) -> u64
     ensures { result ≡ next_number line.kind line.count number }
 {
@@ -138,7 +138,7 @@ pub(crate) fn lets_through(windows: &mut Windows, count: Option<Count>, moment: 
     }
 }
 
-/// Counts an event, and gives the window behind it.
+/// Counts an event, and gives the window after it.
 fn counted_window(windows: &mut Windows, count: Count, moment: Moment) -> Window
     requires { 0 < spare windows.old }
     ensures window { result

@@ -71,7 +71,7 @@ fn global_place(filters: &[EventFilter], rule: &Rule) -> Option<u32>
     }
 }
 
-/// Those of each rule.
+/// The places of the own filters of each rule.
 pub(crate) fn own_places(
     alloc: Global,
     filters: &[EventFilter],
@@ -87,7 +87,7 @@ pub(crate) fn own_places(
     Ok(places)
 }
 
-/// Those of each rule.
+/// The places of the global filters of each rule.
 pub(crate) fn global_places(
     alloc: Global,
     filters: &[EventFilter],

@@ -88,7 +88,7 @@ pub(crate) struct Order<'a> {
     pub sizes: &'a [usize],
 }
 
-/// Whether the first event stands before the second, whatever the order of their rules.
+/// Whether the first event comes before the second, whatever the order of their rules.
 fn comes_before(order: Order<'_>, first: u32, second: u32) -> bool
     ensures { result ≡ order_of order.entry first second }
 {
@@ -99,7 +99,7 @@ fn comes_before(order: Order<'_>, first: u32, second: u32) -> bool
     }
 }
 
-/// Where an event stands among others in their order.
+/// The place of an event among others in their order.
 fn place_for(order: Order<'_>, queue: &[u32], event: u32) -> usize
     ensures place { result ≡ position_or_len (order_of order.entry event) queue.now }
     ensures within { result ≤ length queue.now }
@@ -128,7 +128,7 @@ fn join(order: Order<'_>, queue: &mut Vec<u32>, event: u32)
 }
 
 /// Puts the event of the rule at this place among others in their order, where the rule gives one and
-/// no more than `most` stand there; there is room for it.
+/// no more than `most` are there; there is room for it.
 fn add(order: Order<'_>, most: u32, queue: &mut Vec<u32>, place: u32)
     requires { vec_len queue.old < vec_capacity queue.old }
     ensures added { queue.new.items

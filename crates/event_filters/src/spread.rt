@@ -21,7 +21,7 @@ pub fn usual_hash(addr: Addr) -> u64 {
     hasher.hash_one(key_of(addr))
 }
 
-/// The hash of the key behind no rule.
+/// The hash of the key by the hasher whose seed no rule has a part in.
 pub fn seeded_hash(addr: Addr) -> u64 {
     Seed::of(&[]).hash_one(key_of(addr))
 }

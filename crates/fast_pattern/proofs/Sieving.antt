@@ -1,4 +1,4 @@
--- Where a pattern stands in a payload, its windows stand there too, so a place that doesn't pass begins none.
+-- Where a pattern occurs in a payload, its windows occur there too, so a place that doesn't pass begins none.
 use Rattle.std.proofs.Common.{◌≡◌, ℕ, ◌+◌, ◌-◌, ◌<◌, ◌≤◌, min, true, List, [], ◌++◌, length, take, map, reverse, get_or, slice_index, sym, ap, ◌∙◌, arith, ⊎_elim}
 use Rattle.std.specs.Int.Bits.{bit_and}
 use Rattle.std.proofs.lemmas.Bool.{cases_lt, eqb-true, eq-eqb}
@@ -11,7 +11,7 @@ use Rattle.fast_pattern.specs.Sieving.{window_bit, Sifts, Skips}
 use Rattle.fast_pattern.proofs.Finding.Occurring.{begins-split}
 use Rattle.fast_pattern.proofs.Slots.{same-lower, same-slot}
 
--- where a pattern ends, its letters stand
+-- where a pattern ends, its letters are there
 letters-stand : (letters pattern bytes : List ℕ) (end k : ℕ) → end ≤ length bytes → begins (word_of letters pattern) (word_of letters (take end bytes)) ≡ true → k < length pattern → slice_index letters (slice_index pattern k) ≡ slice_index letters (slice_index bytes (end - length pattern + k))
 unfolding word_of
 letters-stand letters pattern bytes end k h b low =

@@ -88,7 +88,7 @@ lowers-tell (suc n) byte all h =
 pub same-lower : (one other : ℕ) → one < 256 → other < 256 → lower one ≡ lower other → bit_and one 223 ≡ bit_and other 223
 same-lower one other h k e = sym (lowers-tell 256 one lowers-all h) ∙ ap (λ x. bit_and x 223) e ∙ lowers-tell 256 other lowers-all k
 
--- so they have the same slot
+-- windows whose letters are the same, whatever their case, have the same slot
 pub same-slot : (wide i j : ℕ) (one other : List ℕ) → ((k : ℕ) → slice_index one k < 256) → ((k : ℕ) → slice_index other k < 256) → ((k : ℕ) → k < wide → bit_and (slice_index one (i + k)) 223 ≡ bit_and (slice_index other (j + k)) 223)
     → slot_of (window_at one i) (folding_mask wide) ≡ slot_of (window_at other j) (folding_mask wide)
 unfolding slot_of window_at

@@ -69,7 +69,7 @@ blocks_of entries = map (λ entry. entry.block) entries
 abbrev pub AreBlocks : List Entry → Type 0
 AreBlocks entries = All (λ entry. (0 < entry.block) × (entry.block < 131072)) entries
 
--- the entries of each block stand in a chain
+-- the entries of each block form a chain
 abbrev pub IsChained : PortIndex → Type 0
 IsChained index = AreOwned (blocks_of index.entries.items) 131072 index.heads.items index.nexts.items (length index.entries.items)
 

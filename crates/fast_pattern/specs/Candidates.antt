@@ -40,7 +40,7 @@ header_fits _ sports dports both carried = false
 unfoldable pub fits : Rule → Body → Bool
 fits rule carried = header_fits rule.proto rule.sports rule.dports rule.both carried
 
--- the pattern stands somewhere in the payload, ASCII letters in either case
+-- the pattern occurs somewhere in the payload, ASCII letters in either case
 unfoldable pub occurs : List ℕ → List ℕ → Bool
 occurs pattern payload = list_any (begins true pattern) (tails payload)
 
@@ -63,7 +63,7 @@ places_from place test (x ∷ xs) =
 unfoldable pub candidates : List Rule → Body → List ℕ → List ℕ
 candidates rules carried payload = places_from 0 (is_candidate carried payload) rules
 
--- each content of the options that isn't negated stands somewhere in the payload, with case kept or folded
+-- each content of the options that isn't negated occurs somewhere in the payload, with case kept or folded
 pub record ContentsOccur (options : List Opt) (payload : List ℕ) : Type 0 where
   pub each : (place : ℕ) (content : Content) → slice_get options place ≡ Some (opt.Content content) → content.negated ≡ false
       → (nocase : Bool) × (start : ℕ) × OccursAt (folded nocase payload) (folded nocase content.bytes) start

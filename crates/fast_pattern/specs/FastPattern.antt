@@ -1,7 +1,7 @@
 -- The fast pattern of a rule: the bytes that are looked for first (Snort Users Manual 2.9, section 3.5.22).
 --
 -- It is the content that is marked `fast_pattern`, or the part of it that the option names; where none is
--- marked, the longest content. A content behind a `!` is never the fast pattern.
+-- marked, the longest content. A content after a `!` is never the fast pattern.
 -- To try it on: of the contents `GET`, `!"administrator"` and `/etc` the fast pattern is `/etc`; of `abc`
 -- and `xyz` it is `abc`, the first of the longest; with `fast_pattern:1,2` on `xyz` it is `yz`.
 use Rattle.std.specs.Prelude.{ℕ, ◌+◌, List, [], ◌∷◌, Option, Some, None, length, take, drop, nat_lt, slice_get, if◌then◌else◌}

@@ -14,7 +14,7 @@ use Rattle.fast_pattern.specs.Outputs.{AreWords, is_left, IsHead, IsNext, AreFai
 use Rattle.fast_pattern.specs.Sieving.{Sifts}
 use Rattle.fast_pattern.specs.Rows.{sparse, few_letters, place_of, state_of, HasEntry, AreRows, AreEntries}
 
--- the numbers from one on, so many, for which the test holds, in ascending order
+-- of this many numbers from one on those for which the test holds, in ascending order
 unfoldable pub numbers : (ℕ → Bool) → ℕ → ℕ → List ℕ
 numbers test from zero = []
 numbers test from (suc count) = if test from then from ∷ numbers test (from + 1) count else numbers test (from + 1) count
@@ -29,7 +29,7 @@ IsClosedUnder patterns seen = (one other : ℕ) → one < length patterns → ot
     → 0 < length (word_at patterns one) → begins (word_at patterns one) (word_at patterns other) ≡ true
     → is_marked seen one ≡ true
 
--- behind each pattern the chain goes on as told
+-- after each pattern the chain goes on as told
 abbrev pub AreChained : List (List ℕ) → List ℕ → Type 0
 AreChained patterns nexts =
     (place : ℕ) → place < length patterns → 0 < length (word_at patterns place) → IsNext patterns place (slice_index nexts place)
@@ -46,7 +46,7 @@ pub record Follows (nexts : List ℕ) (head : ℕ) (old : Seen) (old_hits : List
   pub listed : IsPermutation (numbers (is_marked old) 0 (length nexts)) old_hits
       → IsPermutation (numbers (is_marked new) 0 (length nexts)) new_hits
 
--- the same on the way, where the chain from a place on is left
+-- a chain's patterns are being marked and listed: those of the chain from a place on are left
 pub record IsFollowing (nexts : List ℕ) (head : ℕ) (old : Seen) (old_hits : List ℕ) (at : ℕ) (new : Seen)
     (new_hits : List ℕ) : Type 0 where
   pub begins : (patterns : List (List ℕ)) → length patterns ≡ length nexts → AreChained patterns nexts → MayBegin patterns head
@@ -115,7 +115,7 @@ pub record Steps (automaton : Automaton) (at letter entry : ℕ) : Type 0 where
       → at ≡ place_of automaton.trie.width automaton.dense state → letter < automaton.trie.width
       → HasEntry finds.words automaton.entries.items state letter entry
 
--- the same, from a state that has no row
+-- a move from a state that has no row
 pub record StepsBack (automaton : Automaton) (state letter entry : ℕ) : Type 0 where
   pub stepped : (patterns : List (List ℕ)) (finds : Finds automaton patterns) → state < length finds.words
       → letter < automaton.trie.width → HasEntry finds.words automaton.entries.items state letter entry
@@ -139,7 +139,7 @@ pub record IsCovered (letters : List ℕ) (patterns : List (List ℕ)) (bytes : 
   pub closed : IsClosedUnder patterns seen
   pub listed : IsPermutation (numbers (is_marked seen) 0 (length patterns)) hits
 
--- the same for whatever patterns the automaton finds
+-- whatever patterns the automaton finds, none is marked but such as occur, and each one is that begins before a place
 pub record Covers (automaton : Automaton) (bytes : List ℕ) (done : ℕ) (seen : Seen) (hits : List ℕ) : Type 0 where
   pub covered : (patterns : List (List ℕ)) → Finds automaton patterns
       → IsCovered automaton.letters (words_in automaton.letters patterns) bytes done seen hits

@@ -1,7 +1,7 @@
 -- What the groups keep of the rules, and when they stand for a list of rules. How they are grouped is this
 -- project's own choice.
 --
--- To try it on: of `alert udp ..` without a content and `alert ip ..` with one, the first stands in the
+-- To try it on: of `alert udp ..` without a content and `alert ip ..` with one, the first is in the
 -- indexes of UDP, and the automaton has the pattern of the second.
 use Rattle.std.specs.Prelude.{◌≡◌, ℕ, Bool, true, false, ◌&&◌, ◌||◌, List, [], ◌++◌, Option, Some, None, length, map, slice_get}
 use Rattle.packet_decode.specs.declared.item.ItemHead.{ItemHead}

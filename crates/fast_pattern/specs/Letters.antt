@@ -1,6 +1,6 @@
 -- The letters that an automaton tells apart: the bytes of its patterns, ASCII case folded.
 --
--- Each byte that stands in a pattern has a letter of its own, which it shares with the byte in the other
+-- Each byte that occurs in a pattern has a letter of its own, which it shares with the byte in the other
 -- case alone; all other bytes share the letter 0. So a row of the automaton's table is as short as can be.
 -- To try it on: for the patterns `Ab` and `ba` the letter of `a` and `A` is 1, of `b` and `B` 2, of `c` 0.
 use Rattle.std.specs.Prelude.{◌≡◌, ℕ, ◌<◌, ◌≤◌, ◌==◌, Bool, true, false, List, length, slice_index, slice_index_or, All}

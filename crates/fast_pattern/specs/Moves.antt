@@ -15,24 +15,24 @@ pub record IsMove (words : List (List ℕ)) (state letter next : ℕ) : Type 0 w
   pub within : next < length words
   pub at : IsAt words (letter ∷ word_at words state) (word_at words next)
 
--- back along the fails from a state, where the same words end behind the letter
+-- back along the fails from a state, where the same words end after the letter
 pub record IsBack (words : List (List ℕ)) (state letter at : ℕ) : Type 0 where
   pub within : at ≤ state
   pub same : IsAt words (letter ∷ word_at words state) (letter ∷ word_at words at)
 
--- there a state is longer by the letter, or it is below the number
+-- back along the fails, to a state that another is longer than by the letter, or that is below the number
 pub record IsReached (words : List (List ℕ)) (below state letter : ℕ) (reached : Reached) : Type 0 where
   pub back : IsBack words state letter reached.state
   pub none : 0 < below → reached.child ≡ 0 → reached.state < below
   pub some : 0 < reached.child → (reached.child < length words)
       × (word_at words reached.child ≡ letter ∷ word_at words reached.state)
 
--- whatever the words are of whose trie these are the fails, the walk back comes there
+-- whatever the words are of whose trie these are the fails, the walk back comes to such a state
 pub record Reaches (trie : Trie) (fails : List ℕ) (below state letter : ℕ) (reached : Reached) : Type 0 where
   pub comes : (words : List (List ℕ)) (deep done : ℕ) → IsTrieOf words trie deep → AreFailing words fails done
       → done ≤ length words → state < done → IsReached words below state letter reached
 
--- and has come so far
+-- the walk back along the fails has come so far, whatever the words are of whose trie these are the fails
 pub record IsReaching (trie : Trie) (fails : List ℕ) (state letter at : ℕ) : Type 0 where
   pub back : (words : List (List ℕ)) (deep done : ℕ) → IsTrieOf words trie deep → AreFailing words fails done
       → done ≤ length words → state < done → IsBack words state letter at

@@ -1,9 +1,9 @@
 -- Which patterns have ended where, found from the states of an automaton.
 --
--- Patterns stand as words, the latest letter first; an empty one is no pattern. Those that end a state's
--- word stand in a chain, the longest first, of equal ones the last first: each has the next one's place,
+-- Patterns are given as words, the latest letter first; an empty one is no pattern. Those that end a state's
+-- word form a chain, the longest first, of equal ones the last first: each has the next one's place,
 -- plus one, and 0 stands for none.
--- To try it on: of the patterns he, she and he again, behind `she` the chain is she, the last he, the
+-- To try it on: of the patterns he, she and he again, after `she` the chain is she, the last he, the
 -- first he: 2, 3, 1.
 use Rattle.std.specs.Prelude.{◌≡◌, ℕ, ◌+◌, ◌-◌, ◌<◌, ◌≤◌, ◌==◌, Bool, false, ◌&&◌, ◌||◌, List, length, nat_lt, slice_index, slice_set, if◌then◌else◌}
 use Rattle.fast_pattern.specs.declared.trie.Trie.{Trie}
@@ -13,7 +13,7 @@ use Rattle.fast_pattern.specs.Words.{begins, word_at, words_of, IsFail, IsTrie}
 unfoldable pub ends_word : List (List ℕ) → List ℕ → ℕ → Bool
 ends_word patterns word place = nat_lt 0 (length (word_at patterns place)) && begins (word_at patterns place) word
 
--- the pattern stands in the chain from this place, plus one, on
+-- the pattern is in the chain from this place, plus one, on
 unfoldable pub is_left : List (List ℕ) → ℕ → ℕ → Bool
 is_left patterns at place =
     nat_lt 0 at && (ends_word patterns (word_at patterns (at - 1)) place
@@ -50,7 +50,7 @@ pub record IsHead (patterns : List (List ℕ)) (word : List ℕ) (head : ℕ) : 
   pub some : 0 < head → 0 < length (word_at patterns (head - 1))
   pub left : (place : ℕ) → place < length patterns → is_left patterns head place ≡ ends_word patterns word place
 
--- behind a pattern the chain goes on here
+-- after a pattern the chain goes on here
 pub record IsNext (patterns : List (List ℕ)) (place next : ℕ) : Type 0 where
   pub within : next ≤ length patterns
   pub some : 0 < next → 0 < length (word_at patterns (next - 1))
@@ -82,7 +82,7 @@ pub record IsLinking (trie : Trie) (firsts fails heads : List ℕ) (done : ℕ) 
       → AreOwned ends (length (words_of trie.steps.items)) firsts sames (length patterns)
       → done ≤ length (words_of trie.steps.items) → AreLinked (words_of trie.steps.items) patterns fails heads done
 
--- behind each pattern the chain goes on at the one before it of its state, else with that of the fail
+-- after each pattern the chain goes on at the one before it of its state, else with that of the fail
 abbrev pub next_of : List ℕ → List ℕ → List ℕ → List ℕ → ℕ → ℕ
 next_of ends sames fails heads place =
     either (slice_index sames place) (slice_index heads (slice_index fails (slice_index ends place)))

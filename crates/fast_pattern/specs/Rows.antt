@@ -2,7 +2,7 @@
 --
 -- The first states have a row each, with a move for each letter; for the others only the states that are longer
 -- by a letter are kept, and where they fail to. A state with a row has the place at which its row begins, and each
--- other state a place behind all rows.
+-- other state a place after all rows.
 -- To try it on: with two rows of three letters the states 0 and 1 have the places 0 and 3, and the state 2 has the
 -- place 1073741826.
 use Rattle.std.specs.Prelude.{◌≡◌, ℕ, ◌+◌, ◌-◌, ◌*◌, ◌/◌, ◌<◌, ◌≤◌, ◌==◌, List, ◌∷◌, length, nat_lt, slice_index, if◌then◌else◌}
@@ -50,7 +50,7 @@ pub record IsNextEntry (trie : Trie) (fails entries table : List ℕ) (state let
       → state < length words → letter < trie.width → length table ≡ state * trie.width + letter
       → AreRows words trie.width entries table → HasEntry words entries state letter entry
 
--- a table has the rows of the states below one, and so many moves of that state's row
+-- a table has the rows of the states below one, and the first `letter` moves of that state's row
 pub record HasRows (trie : Trie) (fails entries : List ℕ) (state letter : ℕ) (table : List ℕ) : Type 0 where
   pub long : length table ≡ state * trie.width + letter
   pub rows : (words : List (List ℕ)) (deep : ℕ) → IsTrieOf words trie deep → AreFailing words fails (length words)
@@ -64,7 +64,7 @@ pub record IsLayout (trie : Trie) (fails heads : List ℕ) (laid : Rows) : Type 
   pub moves : AreEntries trie.width laid.dense heads laid.entries.items (length trie.steps.items + 1)
   pub rows : HasRows trie fails laid.entries.items laid.dense 0 laid.table.items
 
--- so many letters are few
+-- this many letters are few
 abbrev pub few_letters : ℕ
 few_letters = 3
 
@@ -75,7 +75,7 @@ pub record IsParent (trie : Trie) (state up : ℕ) : Type 0 where
       → length (word_at words state) ≤ length (word_at words up) + 1
   pub root : state ≡ 0 → up ≡ 0
 
--- so many of the first states have words of few letters
+-- the first `count` states have words of few letters
 pub record AreShallow (trie : Trie) (count : ℕ) : Type 0 where
   pub short : (words : List (List ℕ)) (deep : ℕ) → IsTrieOf words trie deep → (state : ℕ) → state < count → state < length words
       → length (word_at words state) ≤ few_letters

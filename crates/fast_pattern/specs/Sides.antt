@@ -3,7 +3,7 @@
 -- A rule of ip is asked for at every port. Another one has one list that tells: that of the destination, or
 -- that of the source where the destination is `any`. It is asked for by the side that the list is of, and
 -- under `<>` by either.
--- To try it on: `any -> 80` stands in the index by destination at 80, `53 -> any` in that by source at 53,
+-- To try it on: `any -> 80` is in the index by destination at 80, `53 -> any` in that by source at 53,
 -- `any <> 80` in both at 80, and `any -> any` in that by destination at the block of all ports, once.
 use Rattle.std.specs.Prelude.{◌≡◌, ℕ, ◌==◌, ◌<◌, Bool, true, false, not, ◌&&◌, ◌||◌, List, [], Option, Some, None, length, slice_get, nat_lt, All, if◌then◌else◌}
 use Rattle.std.specs.List.{list_any}
@@ -36,7 +36,7 @@ is_ip _ = false
 unfoldable pub key_of : Asked → List (Part (Bounds ℕ))
 key_of asked = if is_ip asked.proto then [] else (if is_any asked.dports then asked.sports else asked.dports)
 
--- the rule stands in the index of a side
+-- the rule is in the index of a side
 unfoldable pub stands_in : Side → Asked → Bool
 stands_in side.Destination asked = is_ip asked.proto || (asked.both || (not (is_any asked.dports) || is_any asked.sports))
 stands_in side.Source asked = not (is_ip asked.proto) && (if is_any asked.dports then not (is_any asked.sports) else asked.both)
@@ -50,11 +50,12 @@ is_asked of port (Some asked) = stands_in of asked && has_port (key_of asked) po
 abbrev pub is_sought : List Asked → List (List ℕ) → Kind → Side → ℕ → ℕ → Bool
 is_sought rules patterns kind of port place = is_plain rules patterns kind place && is_asked of port (slice_get rules place)
 
--- the rule at a place has no pattern, may fit the kind, and stands in the index of a side
+-- the rule, if there is one, is in the index of a side
 abbrev pub stands_some : Side → Option Asked → Bool
 stands_some of None = false
 stands_some of (Some asked) = stands_in of asked
 
+-- the rule at a place has no pattern, may fit the kind, and is in the index of a side
 abbrev pub stands_at : List Asked → List (List ℕ) → Kind → Side → ℕ → Bool
 stands_at rules patterns kind of place = is_plain rules patterns kind place && stands_some of (slice_get rules place)
 
@@ -71,13 +72,13 @@ pub record AreFiled (rules : List Asked) (patterns : List (List ℕ)) (kind : Ki
   pub filed : (port : ℕ) → port < 65536 → (place : ℕ)
       → is_filed (lies_in 16 0 port) entries place ≡ (nat_lt place count && is_sought rules patterns kind of port place)
 
--- the index of a side has them
+-- the index of a side has the rules that are sought at its ports, and no others
 pub record IsSide (rules : List Asked) (patterns : List (List ℕ)) (kind : Kind) (of : Side) (index : PortIndex) : Type 0 where
   pub chained : IsChained index
   pub filed : (port : ℕ) → port < 65536 → (place : ℕ)
       → is_filed (lies_in 16 0 port) index.entries.items place ≡ is_sought rules patterns kind of port place
 
--- both sides have
+-- the index of each side has the rules that are sought at its ports
 pub record AreSides (rules : List Asked) (patterns : List (List ℕ)) (kind : Kind) (sides : Sides) : Type 0 where
   pub source : IsSide rules patterns kind side.Source sides.source
   pub destination : IsSide rules patterns kind side.Destination sides.destination

@@ -26,7 +26,7 @@ pub record Sifts (sieve : Sieve) (patterns : List (List ℕ)) : Type 0 where
       → sieve.shortest ≤ length (word_at patterns place)
   pub windows : HaveWindows sieve.table.items sieve.mask sieve.stride patterns
 
--- a pattern, with the letters that bytes have, stands in a payload and ends before a place
+-- a pattern, with the letters that bytes have, occurs in a payload and ends before a place
 pub record Stands (letters pattern bytes : List ℕ) (end : ℕ) : Type 0 where
   pub some : 0 < length pattern
   pub within : end ≤ length bytes

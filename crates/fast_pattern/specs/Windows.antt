@@ -1,6 +1,6 @@
 -- Windows of patterns and of payloads, and a table of windows. All of this is this project's own choice.
 --
--- A window is eight bytes from a place on, as a number, the first byte lowest; past the end stand zeros. A mask
+-- A window is eight bytes from a place on, as a number, the first byte lowest; past the end there are zeros. A mask
 -- leaves the first letters of it, without the bit that tells an upper from a lower case letter. A window has a
 -- slot, and so may others: the table has a bit for each slot.
 -- To try it on: of `abcdefghi` the first four windows of six letters are abcdef, bcdefg, cdefgh and defghi.
@@ -29,7 +29,7 @@ golden = 11400714819323198485
 unfoldable pub window_at : List ℕ → ℕ → ℕ
 window_at bytes at = little_number 8 (drop at bytes)
 
--- the mask that leaves so many letters
+-- the mask that leaves this many letters
 unfoldable pub folding_mask : ℕ → ℕ
 folding_mask zero = 0
 folding_mask (suc letters) = caseless + 256 * folding_mask letters
@@ -62,6 +62,6 @@ pub record HasWindows (table : List ℕ) (mask stride : ℕ) (pattern : List ℕ
   pub has : (offset : ℕ) → offset < stride → offset < length pattern
       → 0 < slot_bit table (slot_of (window_at pattern offset) mask)
 
--- the same of all patterns
+-- the table has the windows of all patterns at their first places
 pub record HaveWindows (table : List ℕ) (mask stride : ℕ) (patterns : List (List ℕ)) : Type 0 where
   pub each : (place : ℕ) → place < length patterns → HasWindows table mask stride (word_at patterns place)

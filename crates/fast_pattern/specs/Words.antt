@@ -1,8 +1,8 @@
 -- Words, and the states of an automaton that finds many of them at once.
 --
 -- Aho and Corasick, Efficient String Matching (Communications of the ACM 18, 1975). Words and what was
--- read stand with the latest letter first, so that what ends at a moment is what the list begins with.
--- To try it on: behind the letters h, s, h, e the words `he` and `she` have ended, `his` hasn't; as lists
+-- read are written with the latest letter first, so that what ends at a moment is what the list begins with.
+-- To try it on: after the letters h, s, h, e the words `he` and `she` have ended, `his` hasn't; as lists
 -- they are e h, e h s and s i h, and what was read is e h s h.
 use Rattle.std.specs.Prelude.{◌≡◌, ℕ, ◌+◌, ◌-◌, ◌<◌, ◌≤◌, ◌==◌, Bool, true, false, ◌&&◌, ◌||◌, ◌⊎◌, List, [], ◌∷◌, ◌++◌, length, map, reverse, slice_index, slice_index_or}
 use Rattle.fast_pattern.specs.declared.trie.Step.{Step}
@@ -32,7 +32,7 @@ abbrev pub IsClosed : List (List ℕ) → Type 0
 IsClosed words = (state : ℕ) → state < length words → 0 < length (word_at words state)
     → (up : ℕ) × (by : ℕ) × (up < length words) × (word_at words state ≡ by ∷ word_at words up)
 
--- the same words have ended behind what was read as behind this word: it is the state there
+-- the same words have ended after what was read as after this word: it is the state there
 abbrev pub IsAt : List (List ℕ) → List ℕ → List ℕ → Type 0
 IsAt words read word = (state : ℕ) → state < length words → begins (word_at words state) read ≡ begins (word_at words state) word
 
@@ -42,7 +42,7 @@ pub record IsFail (words : List (List ℕ)) (word fail : List ℕ) : Type 0 wher
   pub same : (state : ℕ) → state < length words → length (word_at words state) < length word
       → begins (word_at words state) word ≡ begins (word_at words state) fail
 
--- the words of a trie: a letter behind an earlier word each, behind the words that there are
+-- the words of a trie: each is an earlier word with a letter after it, and follows the words that there are
 unfoldable pub words_from : List (List ℕ) → List Step → List (List ℕ)
 words_from words [] = words
 words_from words (step ∷ steps) = words_from (words ++ (step.by ∷ word_at words step.up) ∷ []) steps
@@ -57,17 +57,17 @@ pub record IsChild (words : List (List ℕ)) (state letter child : ℕ) : Type 0
   pub within : child < length words
   pub grown : 0 < child → word_at words child ≡ letter ∷ word_at words state
 
--- the step of a state behind the empty word
+-- the step with this number: that of the state with the next one, for the empty word has none
 abbrev pub step_at : List Step → ℕ → Step
 step_at steps number = slice_index_or steps number (record { up = 0; by = 0; same = 0 })
 
--- of the states up to a number the last that is a state's with a letter behind it; 0 where there is none
+-- of the states up to a number the last that is a state's with a letter after it; 0 where there is none
 pub record IsLastChild (steps : List Step) (upto state child : ℕ) : Type 0 where
   pub within : child ≤ upto
   pub own : 0 < child → (step_at steps (child - 1)).up ≡ state
   pub greatest : (number : ℕ) → number < upto → (step_at steps number).up ≡ state → number < child
 
--- the numbers of a trie whose words have at most so many letters
+-- a trie's numbers are those of these words, which have at most `deep` letters
 pub record IsTrieOf (words : List (List ℕ)) (trie : Trie) (deep : ℕ) : Type 0 where
   pub count : length words ≡ length trie.steps.items + 1
   pub first_count : length trie.firsts.items ≡ length words
@@ -95,7 +95,7 @@ pub record Extends (old new : List (List ℕ)) : Type 0 where
   pub longer : length old ≤ length new
   pub kept : (state : ℕ) → state < length old → word_at new state ≡ word_at old state
 
--- the trie has a state whose word is this state's with the letter behind it
+-- the trie has a state whose word is this state's with the letter after it
 pub record HasChild (old : Trie) (state letter child : ℕ) (new : Trie) : Type 0 where
   pub trie : IsTrie new (length (word_at (words_of old.steps.items) state) + 1)
   pub width : new.width ≡ old.width
@@ -103,7 +103,7 @@ pub record HasChild (old : Trie) (state letter child : ℕ) (new : Trie) : Type 
   pub within : child < length (words_of new.steps.items)
   pub grown : word_at (words_of new.steps.items) child ≡ letter ∷ word_at (words_of old.steps.items) state
 
--- which word is a state's with a letter behind it, of whatever words this is the trie
+-- which word is a state's with a letter after it, of whatever words this is the trie
 pub record FindsChild (trie : Trie) (state letter child : ℕ) : Type 0 where
   pub found : (words : List (List ℕ)) (deep : ℕ) → IsTrieOf words trie deep → state < length words
       → IsChild words state letter child
@@ -113,7 +113,7 @@ pub record AreChildren (trie : Trie) (state : ℕ) (children : List ℕ) : Type 
   pub count : length children ≡ trie.width
   pub each : (letter : ℕ) → letter < trie.width → FindsChild trie state letter (slice_index children letter)
 
--- the state is still sought among those up to a number that are another's with a letter behind it
+-- the state is still sought among those up to a number that are another's with a letter after it
 pub record IsSought (steps : List Step) (state letter at : ℕ) : Type 0 where
   pub within : at ≤ length steps
   pub own : 0 < at → (step_at steps (at - 1)).up ≡ state

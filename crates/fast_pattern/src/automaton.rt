@@ -35,7 +35,7 @@ pub struct Automaton {
     pub fails: Vec<u32>,
     /// The first pattern of each state's chain: its place, plus one.
     pub heads: Vec<u32>,
-    /// The pattern behind each one in the chains: its place, plus one.
+    /// The pattern after each one in the chains: its place, plus one.
     pub nexts: Vec<u32>,
     /// A state whose place is below this has a word of at most `FEW_LETTERS` letters.
     pub shallow: u64,
@@ -56,7 +56,7 @@ fn mark(seen: &mut Seen, count: usize, at: u32) -> Result<bool, AllocError>
     Ok(fresh)
 }
 
-/// Marks the patterns of a chain, up to one that is marked: those behind it are marked too. Lists those that
+/// Marks the patterns of a chain, up to one that is marked: those after it are marked too. Lists those that
 /// weren't marked.
 fn follow(nexts: &[u32], head: u32, seen: &mut Seen, hits: &mut Vec<u32>) -> Result<(), AllocError>
     ensures { OnOk result (Follows nexts.now head seen.old hits.old.items seen.new hits.new.items) }
@@ -73,16 +73,16 @@ fn follow(nexts: &[u32], head: u32, seen: &mut Seen, hits: &mut Vec<u32>) -> Res
     Ok(())
 }
 
-/// How far the first walk goes at least, and each one behind a long skip: a walk gives back the last `FEW_LETTERS` bytes.
+/// How far the first walk goes at least, and each one after a long skip: a walk gives back the last `FEW_LETTERS` bytes.
 const SHORT_REACH: usize = FEW_LETTERS + 1;
 
-/// How far a walk goes at least behind many short skips, which cost more than they spare.
+/// How far a walk goes at least after many short skips, which cost more than they spare.
 const LONG_REACH: usize = 256;
 
 /// A skip over fewer bytes is short: beginning a walk anew takes longer than it spares.
 const SHORT_SKIP: usize = 16;
 
-/// How far the next walk goes at least: twice as far behind a short skip.
+/// How far the next walk goes at least: twice as far after a short skip.
 fn next_reach(reach: usize, skipped: usize) -> usize {
     if skipped < SHORT_SKIP {
         reach.saturating_mul(2).min(LONG_REACH)

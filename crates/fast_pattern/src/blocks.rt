@@ -8,7 +8,7 @@ ghost use Rattle.fast_pattern.specs.Blocks.{number, half_with, has_whole, meets,
 use net_lists::PortPart;
 use std::alloc::AllocError;
 
-/// How many ports a block with so many bits has.
+/// How many ports a block with this many bits has.
 fn size(bits: u32) -> u32
     requires { bits ≤ 16 }
     ensures { result ≡ 2 ^ bits }

@@ -1,7 +1,7 @@
 //! Which ports rules ask for, so that of an item whose ports fit no rule the payload isn't looked at.
 //!
-//! Ports stand in a table of bits, which has a part for each side of TCP and of UDP. A list of ports with a long
-//! range stands there as all ports: so the table may tell of a port that no rule asks for, and never hides one.
+//! Ports are kept in a table of bits, which has a part for each side of TCP and of UDP. A list of ports with a long
+//! range is there as all ports: so the table may tell of a port that no rule asks for, and never hides one.
 
 ghost use Rattle.std.specs.Prelude.{◌≡◌, ℕ, ◌+◌, ◌<◌, ◌≤◌, true, length, IfOk};
 ghost use Rattle.fast_pattern.specs.Windows.{table_words, KeepsSlots};
@@ -29,7 +29,7 @@ const ICMP: u32 = 4;
 
 const OTHER: u32 = 5;
 
-/// A longer range of ports stands in the table as all ports.
+/// A longer range of ports is in the table as all ports.
 const LONGEST_RANGE: usize = 255;
 
 /// Lets all ports of a part in.
@@ -41,7 +41,7 @@ fn open_all(table: &mut [u32], part: u32)
     set_slot(table, 262_144 + part as usize);
 }
 
-/// Lets so many ports in, from one on.
+/// Lets this many ports in, from one on.
 fn open_ports(table: &mut [u32], part: u32, low: usize, count: usize)
     requires table { length table.old ≡ table_words }
     requires part { part < 4 }

@@ -8,7 +8,7 @@ pub struct Effort {
     pub sieved: u64,
     /// How many walks of the automaton began.
     pub walks: u64,
-    /// How many bytes they left behind.
+    /// How many bytes the walks went past.
     pub walked: u64,
 }
 
@@ -20,7 +20,7 @@ impl Effort {
         walked: 0,
     };
 
-    /// The sieve went over so many bytes.
+    /// The sieve went over this many bytes.
     pub(crate) fn add_sieved(&mut self, bytes: usize) {
         self.sieved = self.sieved.saturating_add(bytes as u64);
     }

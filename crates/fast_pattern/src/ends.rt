@@ -1,4 +1,4 @@
-//! The trie of all patterns, grown a letter at a time, so that its states stand in the order of their depth.
+//! The trie of all patterns, grown a letter at a time, so that its states are in the order of their depth.
 
 ghost use Rattle.std.specs.Prelude.{◌≡◌, ℕ, ◌+◌, ◌<◌, ◌≤◌, length, take, slice_index, All, IfOk, OnOk};
 ghost use Rattle.fast_pattern.specs.Words.{IsTrie, words_of};
@@ -39,7 +39,7 @@ impl Grown {
         Ok(next)
     }
 
-    /// Grows the trie by one letter of each pattern that has so many.
+    /// Grows the trie by one letter of each pattern that is longer than `depth`.
     fn deepen(
         trie: &mut Trie,
         letters: &[u16; 256],

@@ -18,7 +18,7 @@ use rule_types::{Opt, Rule};
 use std::alloc::{AllocError, Global};
 
 /// Rules by what a packet must have to be worth a try: one automaton has the fast patterns of them all, and
-/// those that have none stand in indexes by port, or in a list where an item has no ports.
+/// those that have none are in indexes by port, or in a list where an item has no ports.
 #[derive(Drop)]
 pub struct Groups {
     rules: Vec<Asked>,
@@ -30,7 +30,7 @@ pub struct Groups {
     other: Vec<u32>,
 }
 
-/// So many bytes from a place on, as far as they are there.
+/// `len` bytes from a place on, as far as they are there.
 fn part(bytes: &[u8], from: usize, len: usize) -> &[u8]
     ensures { result.now ≡ take len (drop from bytes.now) }
 {
@@ -39,7 +39,7 @@ fn part(bytes: &[u8], from: usize, len: usize) -> &[u8]
     &rest[..len.min(rest.len())]
 }
 
-/// The bytes of the content at a place; none where no content stands there.
+/// The bytes of the content at a place; none where there is no content.
 fn content_bytes(options: &[Opt], place: usize) -> &[u8]
     ensures { result.now ≡ bytes_of (slice_get options.now place) }
 {
@@ -157,7 +157,7 @@ impl Groups {
         rules[place as usize].fits(body)
     }
 
-    /// Those of the places whose rules' headers fit.
+    /// Of these places those whose rules' headers fit.
     fn fitting(
         alloc: Global,
         rules: &[Asked],
@@ -214,7 +214,7 @@ impl Groups {
         Ok(())
     }
 
-    /// The same, and tells what finding them took.
+    /// Appends the candidates of an item, as `candidates` does, and tells what finding them took.
     #[inline(always)]
     pub fn find_candidates(
         &self,

@@ -1,4 +1,4 @@
-//! An index of places by the ports that they are asked for at. A place stands at each of the largest blocks
+//! An index of places by the ports that they are asked for at. A place is filed at each of the largest blocks
 //! of ports that its list has whole, and a port looks at the 17 blocks that it lies in.
 //!
 //! It takes half a megabyte, and twelve bytes for each block of each place.
@@ -25,7 +25,7 @@ pub struct Entry {
 /// Which places are asked for at which ports: the entries, and a chain of them for each block, the last entry first.
 #[derive(Drop)]
 pub struct PortIndex {
-    /// The places, each with a block; a place stands once at each of its blocks.
+    /// The places, each with a block; a place is there once for each of its blocks.
     pub entries: Vec<Entry>,
     /// The last entry of each block: its place in the list, plus one.
     pub heads: Vec<u32>,

@@ -7,7 +7,7 @@
 //! payload once and appends exactly the candidates of specs/Candidates.antt, which looks for each pattern
 //! in the whole payload. A sieve before the automaton (specs/Sieving.antt) skips the places where no pattern
 //! begins, unless there are very short ones. A byte costs a few look-ups, however many rules there are; nothing
-//! is allocated before the first pattern has ended. What tries rules on items stands on this crate.
+//! is allocated before the first pattern has ended. What tries rules on items rests on this crate.
 //!
 //! The automaton takes at most 124 bytes a byte of a pattern: rows of moves for the first states, and for the others
 //! the states that are longer by a letter. The sieve takes 128 KB. The four indexes take half a megabyte each, and

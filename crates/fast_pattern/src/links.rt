@@ -25,7 +25,7 @@ fn own(firsts: &mut [u32], end: u32, owner: u32)
 }
 
 impl Owned {
-    /// The patterns of so many states, by the states at which they end.
+    /// The patterns of this many states, by the states at which they end.
     pub fn of(alloc: Global, states: usize, ends: &[u32]) -> Result<Owned, NoMemory>
         requires few { length ends.now < 4294967295 }
         requires within { All (λ end. end < states) ends.now }
@@ -77,7 +77,7 @@ impl Links {
     }
 }
 
-/// Where the chain goes on behind each pattern.
+/// Where the chain goes on after each pattern.
 pub fn nexts(
     alloc: Global,
     ends: &[u32],

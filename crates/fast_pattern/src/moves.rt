@@ -12,7 +12,7 @@ pub struct Reached {
     pub child: u32,
 }
 
-/// Goes back from a state along the fails, to the first one that is longer by the letter or stands below a number.
+/// Goes back from a state along the fails, to the first one that is longer by the letter or is below a number.
 pub fn reach(trie: &Trie, fails: &[u32], below: u32, state: u32, letter: u16) -> Reached
     ensures { Reaches trie.now fails.now below state letter result }
 {

@@ -11,7 +11,7 @@ use std::alloc::{AllocError, Global};
 /// The first place that no row has.
 pub const SPARSE: u32 = 1_073_741_824;
 
-/// So many letters are few: a state with a shorter word lies near the root.
+/// This many letters are few: a state with a shorter word lies near the root.
 pub const FEW_LETTERS: usize = 3;
 
 /// How many moves rows have for each state, all in all.
@@ -156,7 +156,7 @@ fn parent(trie: &Trie, state: u32) -> u32
     step_at(&trie.steps, state as usize - 1).up
 }
 
-/// So many of the first states have words of at most `FEW_LETTERS` letters: all that do, where the numbers suffice.
+/// How many of the first states have words of at most `FEW_LETTERS` letters: all that do, where the numbers suffice.
 fn shallow_count(trie: &Trie) -> u32
     ensures { AreShallow trie.now result }
 {

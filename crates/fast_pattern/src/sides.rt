@@ -46,7 +46,7 @@ fn key_of(asked: &Asked) -> &[PortPart]
     }
 }
 
-/// Whether the rule stands in the index of a side.
+/// Whether the rule is in the index of a side.
 #[tactic(auto, unfolding(crate::specs::Sides::stands_in))]
 fn stands_in(side: Side, asked: &Asked) -> bool
     ensures { result ≡ stands_in side asked.now }
@@ -72,7 +72,7 @@ pub fn is_plain(rules: &[Asked], patterns: &[Text], kind: Kind, place: usize) ->
     patterns[place].bytes().is_empty() && kind.has(rules[place].proto)
 }
 
-/// Whether the rule at a place has no pattern, may fit the kind, and stands in the index of a side.
+/// Whether the rule at a place has no pattern, may fit the kind, and is in the index of a side.
 fn stands_at(rules: &[Asked], patterns: &[Text], kind: Kind, side: Side, place: usize) -> bool
     requires same { length rules.now ≡ length patterns.now }
     requires within { place < length rules.now }
@@ -81,7 +81,7 @@ fn stands_at(rules: &[Asked], patterns: &[Text], kind: Kind, side: Side, place: 
     is_plain(rules, patterns, kind, place) && stands_in(side, &rules[place])
 }
 
-/// The blocks at which a rule without a pattern stands in the index of a side; none where it doesn't.
+/// The blocks at which a rule without a pattern is filed in the index of a side; none where it isn't.
 fn blocks_at(
     alloc: Global,
     rules: &[Asked],

@@ -17,19 +17,19 @@ const TURN: usize = 4;
 /// The longest stride: each pattern has a window in the table for each place of it.
 const LONGEST_STRIDE: usize = 8;
 
-/// A pattern of so many letters is long: a longer one would be sought no otherwise.
+/// A pattern of this many letters is long: a longer one would be sought no otherwise.
 const LONG: usize = 16;
 
 /// The table of the windows that patterns have, and how a payload is asked for them.
 #[derive(Drop)]
 pub struct Sieve {
-    /// Whether a window with this slot stands at one of the first places of a pattern, as many as the stride.
+    /// Whether a window with this slot is at one of the first places of a pattern, as many as the stride.
     pub table: Vec<u32>,
     /// From each place that is asked to the next one.
     pub stride: usize,
     /// What leaves the letters of a window that all patterns have at these places.
     pub mask: u64,
-    /// No pattern is shorter.
+    /// No pattern is shorter than this.
     pub shortest: usize,
 }
 
@@ -60,7 +60,7 @@ fn shortest_length(patterns: &[Text]) -> usize
     shortest
 }
 
-/// The stride for a shortest length: the longest one where whole windows still fit behind it, and else as long as
+/// The stride for a shortest length: the longest one where whole windows still fit after it, and else as long as
 /// windows of four letters do.
 fn stride_for(shortest: usize) -> usize
     requires { 0 < shortest }

@@ -1,4 +1,4 @@
-//! The words that patterns begin with, each behind a shorter one.
+//! The words that patterns begin with, each one letter longer than an earlier one.
 
 ghost use Rattle.std.specs.Prelude.{◌≡◌, ◌+◌, ◌*◌, ◌<◌, ◌∷◌, [], ◌++◌, length, slice_index, slice_set, IfOk, OnOk};
 ghost use Rattle.fast_pattern.specs.Words.{step_at};
@@ -6,8 +6,8 @@ ghost use Rattle.fast_pattern.specs.Words.{step_at};
 use edge_io::NoMemory;
 use std::alloc::Global;
 
-/// A state: the word of an earlier state, with a letter behind it. Before it the last state that is that state's
-/// word with another letter behind it; 0 where there is none.
+/// A state: the word of an earlier state, with a letter after it. Before it the last state that is that state's
+/// word with another letter after it; 0 where there is none.
 #[derive(Clone, Copy)]
 pub struct Step {
     pub up: u32,
@@ -15,15 +15,15 @@ pub struct Step {
     pub same: u32,
 }
 
-/// So many steps there are at most, so that a move to each state has 32 bits. Rules never give so many: they are at
-/// most 65,536, of at most 2,048 letters each.
+/// There are at most this many steps, so that a move to each state has 32 bits. Rules never give that many: they are
+/// at most 65,536, of at most 2,048 letters each.
 const MOST_STEPS: usize = 1_073_741_823;
 
 /// The states. The state 0 is the empty word, and has no step.
 #[derive(Drop)]
 pub struct Trie {
     pub steps: Vec<Step>,
-    /// The last state that is each state's word with a letter behind it; 0 where there is none.
+    /// The last state that is each state's word with a letter after it; 0 where there is none.
     pub firsts: Vec<u32>,
     pub width: u16,
 }
@@ -83,7 +83,7 @@ impl Trie {
         })
     }
 
-    /// The state whose word is this state's with the letter behind it; 0 where there is none.
+    /// The state whose word is this state's with the letter after it; 0 where there is none.
     pub fn found(&self, state: u32, letter: u16) -> u32
         ensures { FindsChild self.now state letter result }
     {
@@ -98,7 +98,7 @@ impl Trie {
         0
     }
 
-    /// Writes, for each letter, the state whose word is this state's with the letter behind it; 0 where there is none.
+    /// Writes, for each letter, the state whose word is this state's with the letter after it; 0 where there is none.
     pub fn put_children(&self, state: u32, children: &mut [u32])
         requires { length children.old ≡ self.now.width }
         ensures { AreChildren self.now state children.new }
@@ -112,7 +112,7 @@ impl Trie {
         }
     }
 
-    /// Adds the state behind `up` that is longer by the letter.
+    /// Adds the state whose word is that of `up` with the letter after it.
     fn grow(&mut self, up: u32, by: u16) -> Result<u32, NoMemory>
         ensures state { IfOk result (λ state. state ≡ length self.old.steps.items + 1) }
         ensures steps { OnOk result (self.new.steps.items
@@ -133,7 +133,7 @@ impl Trie {
         Ok(state)
     }
 
-    /// The state whose word is this state's with the letter behind it, which is added where it lacks. The
+    /// The state whose word is this state's with the letter after it, which is added where it lacks. The
     /// state's word is one of the longest but one.
     pub fn child(&mut self, state: u32, letter: u16) -> Result<u32, NoMemory>
         requires trie { IsTrie self.old (length (word_at (words_of self.old.steps.items) state) + 1) }

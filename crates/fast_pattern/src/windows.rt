@@ -25,7 +25,7 @@ const GOLDEN: u64 = 0x9E37_79B9_7F4A_7C15;
 /// How many bits of the product are left out: the twenty highest ones are the slot.
 const SLOT_SHIFT: u32 = 44;
 
-/// For each number of letters the mask that leaves so many bytes of a window: 0xDF for each of them, which is a
+/// For each number of letters the mask that leaves this many bytes of a window: 0xDF for each of them, which is a
 /// byte without the bit that tells an upper from a lower case letter.
 const FOLDING_MASKS: [u64; 9] = [
     0,
@@ -39,7 +39,7 @@ const FOLDING_MASKS: [u64; 9] = [
     0xDFDF_DFDF_DFDF_DFDF,
 ];
 
-/// The mask that leaves so many letters of a window, whatever their case.
+/// The mask that leaves this many letters of a window, whatever their case.
 pub fn folding_mask(letters: usize) -> u64
     requires { letters ≤ 8 }
     ensures { result ≡ folding_mask letters }

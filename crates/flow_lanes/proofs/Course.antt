@@ -118,7 +118,7 @@ course_next lanes done jobs course are = record {
   above = above_all lanes.greatest done jobs course.numbers are.numbers;
 }
 
--- behind the batch
+-- the greatest number after a batch is below the number of all jobs so far
 greatest_below : (greatest : Option ℕ) (done : ℕ) (jobs : List Job) → IfSome greatest (λ g. g < done) → map (λ (job : Job). job.number) jobs ≡ range_with_len done (length jobs)
     → IfSome (fold (λ most (job : Job). Some job.number) greatest jobs) (λ g. g < done + length jobs)
 greatest_below None done [] below numbers = tt

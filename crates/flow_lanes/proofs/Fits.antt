@@ -49,7 +49,7 @@ told_ends ip body.Other len moment (fits, ports) = record { version = fits.versi
 told_ends ip body.Fragment len moment (fits, ports) = record { version = fits.version; src = fits.src; dst = fits.dst; sport = no_port; dport = no_port }
 told_ends ip (body.Stream sport dport) len moment (fits, ports) = record { version = fits.version; src = fits.src; dst = fits.dst; sport = no_port; dport = no_port }
 
--- and the head of what one end sends to the other
+-- the head of what one end sends to the other is within its limits, where the ends are
 stream_head : (from to : End) (of_client : Bool) (moment : Moment) (sizes : ℕ × ℕ) → FitEnds from to → OfItemHead FitHead (head_between from to of_client moment sizes)
 stream_head from to of_client moment sizes fits = (record { version = fits.version; src = fits.src; dst = fits.dst; protocol = tcp_number }, (fits.sport, fits.dport))
 
@@ -58,7 +58,7 @@ as_heads (work.Alone head payload) fits = fits
 as_heads (work.Packet flow head payload to_dst to_src) fits = fits
 as_heads (work.Finish flow) fits = tt
 
--- the items of a job behind earlier ones
+-- the items of a job after earlier ones
 pub job_fits : (d : Detection) (before : List Job) (job : Job) → All FitsJob before → FitsJob job → All FitsHits (answer d before job).items
 job_fits d before job earlier own =
     items_have FitHead FitEnds turned_ends told_ends stream_head d (filter (same_flow job) before) job

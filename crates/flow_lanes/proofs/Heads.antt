@@ -27,7 +27,7 @@ use Rattle.flow_lanes.specs.Items.{JobItems, acked_items, both_sides, closing_it
 use Rattle.flow_lanes.specs.Sessions.{Packet, Session, ack_of, acked_side, after_ack, after_data, begun_session, client_end, is_from_client, receiver, sender, seq_of, server_end, session_of, settled, sizes_of, state_of, step_of, with_bases}
 use Rattle.flow_lanes.specs.Sides.{Side, acked_payloads, held_payloads, left_payloads, side_after_ack, side_after_data, with_base, without_left}
 
--- this holds of a head, and of what a job and an item have of heads
+-- something holds of a head, and of what a job and an item have of heads
 abbrev pub OfItemHead : (IpHead → Body → Type 0) → ItemHead → Type 0
 OfItemHead OfHead head = OfHead head.ip head.body
 
@@ -47,7 +47,7 @@ OfHits OfHead hits = OfItemHead OfHead hits.head
 module _ (OfHead : IpHead → Body → Type 0) (OfEnds : End → End → Type 0) (turned_ends : (from to : End) → OfEnds from to → OfEnds to from)
     (told_ends : (ip : IpHead) (carried : Body) (len : ℕ) (moment : Moment) → OfHead ip carried → OfEnds (segment_of ip carried len moment).sender (segment_of ip carried len moment).receiver)
     (stream_head : (from to : End) (of_client : Bool) (moment : Moment) (sizes : ℕ × ℕ) → OfEnds from to → OfItemHead OfHead (head_between from to of_client moment sizes)) where
-  -- a side, a session, and one that may stand
+  -- a side, a session, and a session that may be there
   abbrev OfSide : Side → Type 0
   OfSide side = OfEnds side.from side.to
 
@@ -121,7 +121,7 @@ module _ (OfHead : IpHead → Body → Type 0) (OfEnds : End → End → Type 0)
   unfolding steered
   steered_has rules items session has = record { client = has.client; server = has.server }
 
-  -- its client's end and its server's
+  -- the client's end of a session and the server's, as a test tells them apart
   chosen : (test : Bool) (a b : End) → OfEnds a b → OfEnds (if test then a else b) (if test then b else a)
   chosen true a b ends = ends
   chosen false a b ends = turned_ends a b ends
@@ -177,7 +177,7 @@ module _ (OfHead : IpHead → Body → Type 0) (OfEnds : End → End → Type 0)
       (both_have left_payloads session moment (sizes_of session) has)
       (both_have held_payloads (settled session) moment (sizes_of session) (settled_has session has))
 
-  -- the items of a session that may stand
+  -- the items of a session that may be there
   maybe_have : (f : Session → List Item) (found : Option Session) → ((session : Session) → OfSession session → All OfItem (f session)) → OfMaybe found
       → All OfItem (option_map_or f found [])
   maybe_have f None each has = All-nil OfItem
@@ -212,7 +212,7 @@ module _ (OfHead : IpHead → Body → Type 0) (OfEnds : End → End → Type 0)
       (All-append OfItem (one ++ two) three (All-append OfItem one two first second) third)
       (own_have making p step session after head)
 
-  -- the items of a job, and the session behind it
+  -- the items of a job, and the session after it
   record OfItems (items : JobItems) : Type 0 where
     ended : All OfItem items.ended
     current : All OfItem items.current
@@ -286,7 +286,7 @@ module _ (OfHead : IpHead → Body → Type 0) (OfEnds : End → End → Type 0)
       All-cons (OfHits OfHead) (hit trying bits item) (hits_of trying (bits_after_item trying bits item) later) (All-head OfItem item later all)
       (hits_have trying (bits_after_item trying bits item) later (All-tail OfItem item later all))
 
-  -- so of the items of a job behind the earlier ones of its flow
+  -- the heads of the items of a job, after the earlier jobs of its flow, have what the heads of all these jobs have
   pub items_have : (d : Detection) (earlier : List Job) (job : Job) → All (OfJob OfHead) earlier → OfJob OfHead job → All (OfHits OfHead) (hits d earlier job).items
   unfolding hits hits_in flow_state
   items_have d earlier job all own =

@@ -9,7 +9,7 @@ pub mod IsDone
 pub mod AnswersOfFlow
 -- the answers of all lanes, put together
 pub mod AnswersJoined
--- so lanes change nothing
+-- the answers of lanes are those of one list of jobs: lanes change nothing
 pub mod AreLaneAnswers
 -- one lane's jobs of a batch
 pub mod OwnJobs
@@ -17,7 +17,7 @@ pub mod OwnJobs
 pub mod TakenParts
 -- what the lanes did of a batch, beside each other
 pub mod HaveSearched
--- what they give away are the parts of its answers
+-- what the lanes give away of a batch are the parts of its answers
 pub mod AreParts
 -- a slice that is cut in two
 pub mod ChangesFrom

@@ -12,7 +12,7 @@ use Rattle.flow_lanes.specs.Open.{is_end, is_open, open_behind}
 use Rattle.flow_lanes.specs.Sound.{FlowFacts, facts_behind_work}
 use Rattle.flow_lanes.specs.Standing.{KeptFlow, LaneState, LanesStand, LanesState, facts_kept, is_in_lane, is_of_flow, kept_after, kept_behind, kept_of, lane_of, state_kept}
 
--- a job of a flow is kept behind, unless it is the flow's end
+-- a flow is kept after one of its jobs, unless it is the flow's end
 kept_work : (flow : ℕ) (make : FlowFacts → KeptFlow) (facts : Option FlowFacts) (moment : Moment) (w : Work) → same_number (Some flow) (flow_of_work w) ≡ true → is_some (option_map make (facts_behind_work facts moment w)) ≡ not (is_end w)
 kept_work flow make facts moment (work.Alone head payload) own = absurd (false≢true own)
 kept_work flow make facts moment (work.Packet other head payload to_dst to_src) own = refl

@@ -13,11 +13,11 @@ pub mod Sides
 pub mod StepOf
 -- the items of a packet, step by step
 pub mod ItemsOn
--- those items, tried in place
+-- the items of a packet, tried in place
 pub mod DetectsOn
 -- a packet that leaves its session as it is
 pub mod StaysAt
--- what is kept of a flow behind one more packet
+-- what is kept of a flow after one more packet
 pub mod IsKeptBy
 -- stream items are short
 pub mod AreShort

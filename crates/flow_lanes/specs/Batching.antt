@@ -21,11 +21,11 @@ use Rattle.flow_lanes.specs.ItemHits.{told_entry}
 use Rattle.flow_lanes.specs.Sound.{IsSoundFor, facts_after}
 use Rattle.flow_lanes.specs.Standing.{AnswersBatch, AreShort, DetectsBy, LaneState, LanesStand, LanesState, LearnsJob, SearchesBatch, Stands, is_in_lane, known_in, known_of}
 
--- the jobs of one lane among so many
+-- the jobs of the lane at a place among `count`
 abbrev pub own_jobs : ℕ → ℕ → List Job → List Job
 own_jobs count place jobs = filter (is_in_lane count place) jobs
 
--- each job of the lane is sound, behind what the lane knows and the batch's earlier jobs of its flow
+-- each job of the lane is sound, after what the lane knows and the batch's earlier jobs of its flow
 abbrev pub AreSoundIn : ℕ → ℕ → ℕ → LaneState → List Job → Type 0
 AreSoundIn engines count place lane jobs =
     (front : List Job) (job : Job) (rest : List Job) → jobs ≡ front ++ job ∷ rest → is_in_lane count place job ≡ true
@@ -52,7 +52,7 @@ SearchesJob by old job found new =
     (means : Means) (d : Detection) (before : List Job) → DetectsBy by.finds means by.stream by.set d → Stands d old before
     → IsSearched by.all d before job found new
 
--- the same with the job's number
+-- what is found of a job, with the job's number
 abbrev pub numbered_out : Bool → Detection → List Job → Job → Numbered JobFound
 numbered_out all d before job = record { number = job.number; value = found_of all d before job }
 
@@ -71,7 +71,7 @@ pub record GoesOn {P : Type 0} (by : Inspection P) (old : LaneState) (jobs : Lis
   pub known : (other : Job) → known_of new other ≡ facts_after (known_of old other) (filter (same_flow other) jobs)
   pub numbers : map (λ (out : Numbered JobFound). out.number) outs ≡ map (λ (job : Job). job.number) jobs
 
--- a lane searches a job more, of which something is found: with the job's number it stands behind what was found
+-- a lane searches a job more, of which something is found: with the job's number it is put after what was found
 -- before
 pub record AddsFound {P : Type 0} (by : Inspection P) (job : Job) (old : LaneState) (outs : List (Numbered JobFound))
     (new : LaneState) (more : List (Numbered JobFound)) : Type 0 where
@@ -80,7 +80,7 @@ pub record AddsFound {P : Type 0} (by : Inspection P) (job : Job) (old : LaneSta
   pub searches : SearchesJob by old job found new
   pub learns : LearnsJob old job new
 
--- a job of a batch is looked at by a lane among so many, with which only its own jobs go on
+-- a job of a batch is looked at by one lane of several, with which only its own jobs go on
 abbrev pub AddsOwn : {P : Type 0} → Inspection P → Share → Job → LaneState → List (Numbered JobFound) → LaneState
     → List (Numbered JobFound) → Type 0
 AddsOwn by share job old outs new more =
@@ -129,7 +129,7 @@ HaveSearched by olds jobs found news =
     → (means : Means) (d : Detection) (before : List Job) → DetectsBy by.finds means by.stream by.set d
     → LanesStand d old before → AreSearched by.all d before jobs found new
 
--- so the batch is answered, or its matches are told
+-- the batch is answered, or its matches are told, by lanes that stood for any jobs
 abbrev pub HaveAnswered : {P : Type 0} → Inspection P → List LaneState → List Job → BatchOut → List LaneState → Type 0
 HaveAnswered by olds jobs out news =
     (old new : LanesState) → old.lanes ≡ olds → new.lanes ≡ news

@@ -1,7 +1,7 @@
 -- A course of batches in which all packets go between the same two ends: what tests give to lanes.
 --
 -- A flow is known by its number alone, so that several flows between the same ends are a sound course; each
--- job of it is sound whatever stands before it, as long as there are not too many.
+-- job of it is sound whatever comes before it, as long as there are not too many.
 -- To try it on: two packets of flow 7 from 10.0.0.1 port 1000 to 10.0.0.2 port 2000, numbered 3 and 4, follow
 -- a course of 3 jobs.
 use Rattle.std.specs.Prelude.{◌≡◌, ℕ, ◌<◌, ◌≤◌, ⊤, false, List, [], None, IfSome, length, map}
@@ -72,12 +72,12 @@ pub record AreFrom (first : ℕ) (jobs : List Job) : Type 0 where
   pub plain : AllByRecursion IsPlain jobs
   pub numbers : map (λ (job : Job). job.number) jobs ≡ range_with_len first (length jobs)
 
--- what is known of a flow behind so many jobs of a course
+-- what is known of a flow after at most `bound` jobs of a course
 pub record IsFew (bound : ℕ) (facts : FlowFacts) : Type 0 where
   pub ends : facts.ends ≡ ends_of plain_packet
   pub packets : facts.packets ≤ bound
 
--- lanes behind so many jobs of a course
+-- lanes after `done` jobs of a course
 pub record IsCourse (lanes : LanesState) (done : ℕ) : Type 0 where
   pub known : (job : Job) → IfSome (known_in lanes job) (IsFew done)
   pub numbers : IfSome lanes.greatest (λ greatest. greatest < done)

@@ -47,7 +47,7 @@ GoesOn trying making p step state old new =
     new ≡ option_map (after_items trying (bits_on step old) (items_on making p step state (session_at_hand old)))
     (if step.ends then None else session_behind p step (session_of making p (session_at_hand old) step state))
 
--- the same of a packet that leaves the session at hand as it is
+-- what is gained of a packet that leaves the session at hand as it is
 abbrev pub gain_at : Making → Packet → Step → Option FlowState → Gain
 gain_at making p step before = gain_on making p step (state_of making p (session_at_hand before)) before
 

@@ -1,9 +1,9 @@
 -- A flow job by job: its items with all rules that match, and what its next job finds.
 --
--- Between two jobs there is the session at hand, if one stands, with its bits. Bits begin empty with their
+-- Between two jobs there is the session at hand, if there is one, with its bits. Bits begin empty with their
 -- session (Snort Users Manual 2.9, section 3.6.10). What rules ask of reassembly (section 3.6,
 -- `stream_reassemble`) is done after the job, item by item, rule by rule and option by option, and only
--- where the item's session still stands then; the last word on a side holds from the flow's next job on.
+-- where the item's session is still there then; the last word on a side holds from the flow's next job on.
 -- The answer to a job depends on the earlier jobs of its flow and on nothing else.
 -- To try it on: a rule that matches a packet and disables the client's side leaves that packet's own data
 -- queued; they are an item of the next job, and the data of that job are not queued.
@@ -73,7 +73,7 @@ abbrev pub sides_behind : SidesOn → Opt → SidesOn
 sides_behind sides (opt.Reassemble on side) = with_side on side sides
 sides_behind sides option = sides
 
--- the sides behind a rule that matches, and behind all rules that match an item
+-- the sides after a rule that matches, and after all rules that match an item
 abbrev pub sides_after_rule : List Rule → SidesOn → ℕ → SidesOn
 sides_after_rule rules sides place =
     option_map_or (λ (rule : Rule). fold sides_behind sides rule.opts) (slice_get rules place) sides
@@ -93,7 +93,7 @@ steered rules hits session =
 abbrev pub all_items : JobItems → List Item
 all_items items = items.ended ++ items.current
 
--- the same with all rules that match: a session that has ended sees its own bits to its last item
+-- a job's items with all rules that match: a session that has ended sees its own bits to its last item
 unfoldable pub hits_in : Trying → JobItems → Option FlowState → List Hits
 hits_in trying items found =
     hits_of trying (bits_at_hand found) items.ended ++ hits_of trying (bits_found items found) items.current
@@ -107,21 +107,21 @@ state_after trying items found =
       bits = unwrap_or (bits_after_items trying bits items.current) empty;
     }) items.session
 
--- what stands behind one more job of the flow
+-- what is there after one more job of the flow
 unfoldable pub state_behind : Detection → Option FlowState → Job → Option FlowState
 state_behind d found job = state_after d.trying (work_items d.making job.moment job.work (session_at_hand found)) found
 
--- what stands behind these jobs of a flow: nothing behind its end
+-- what is there after these jobs of a flow: nothing after its end
 unfoldable pub flow_state : Detection → List Job → Option FlowState
 flow_state d jobs = fold (state_behind d) None jobs
 
--- The answer to a job, behind the earlier jobs of its flow.
+-- The answer to a job, after the earlier jobs of its flow.
 
--- its items
+-- the items of a job
 unfoldable pub items : Detection → List Job → Job → List Item
 items d earlier job = all_items (work_items d.making job.moment job.work (session_at_hand (flow_state d earlier)))
 
--- its items with all rules that match
+-- the items of a job with all rules that match
 unfoldable pub hits : Detection → List Job → Job → JobHits
 hits d earlier job = record {
   number = job.number;
@@ -134,7 +134,7 @@ unfoldable pub tries : Detection → List Job → Job → ℕ
 tries d earlier job =
     sum_by (λ (item : Item). length (candidates d.trying.rules item.head.body item.payload)) (items d earlier job)
 
--- The answer to a job, behind all earlier jobs.
+-- The answer to a job, after all earlier jobs.
 
 -- the flow of a job, if it is of one
 abbrev pub flow_of_work : Work → Option ℕ
@@ -158,6 +158,6 @@ same_flow a b = same_number (flow_of a) (flow_of b)
 abbrev pub answer : Detection → List Job → Job → JobHits
 answer d = within same_flow (hits d)
 
--- and so does the number of its candidates
+-- the number of a job's candidates goes by the earlier jobs of its flow alone
 abbrev pub answer_tries : Detection → List Job → Job → ℕ
 answer_tries d = within same_flow (tries d)

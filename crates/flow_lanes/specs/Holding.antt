@@ -17,7 +17,7 @@ use Rattle.flow_lanes.specs.Sessions.{is_tcp}
 use Rattle.flow_lanes.specs.Standing.{KeptFlow, LaneState, LanesState, is_of_flow, kept_of}
 use Rattle.flow_lanes.specs.Streams.{places_below}
 
--- how many bytes wait of one direction: so many of the places from its base on have one
+-- how many bytes wait of one direction: this many of the places from its base on have one
 abbrev pub waiting_bytes : DirectionState → ℕ
 waiting_bytes direction = count_by is_some (places_below direction (top direction))
 
@@ -30,7 +30,7 @@ abbrev pub of_sides : (DirectionState → ℕ) → KeptFlow → ℕ
 of_sides counted kept =
     option_map_or (λ (s : FlowState). counted s.session.client.direction + counted s.session.server.direction) kept.found 0
 
--- the same of what all lanes keep of a flow
+-- what is counted of what all lanes keep of a flow
 abbrev pub in_lanes : (DirectionState → ℕ) → LanesState → ℕ → ℕ
 in_lanes counted lanes flow =
     sum_by (λ (lane : LaneState). option_map_or (of_sides counted) (kept_of lane flow) 0) lanes.lanes
@@ -41,12 +41,12 @@ held_bytes lanes flow = in_lanes waiting_bytes lanes flow
 abbrev pub held_segments : LanesState → ℕ → ℕ
 held_segments lanes flow = in_lanes counted_segments lanes flow
 
--- the engine of an end queues so many bytes and segments at most
+-- the engine of an end queues `bytes` bytes and `segs` segments at most
 pub record IsLimited (making : Making) (bytes segs : ℕ) (to : Toward) : Type 0 where
   pub bytes_few : (engine_for making to.engine).bytes_limit ≤ bytes
   pub segs_few : (engine_for making to.engine).segs_limit ≤ segs
 
--- and so do those of both ends of a job's packet
+-- the engines of both ends of a job's packet queue `bytes` bytes and `segs` segments at most
 abbrev pub IsLimitedWork : Making → ℕ → ℕ → Work → Type 0
 IsLimitedWork making bytes segs (work.Alone head payload) = ⊤
 IsLimitedWork making bytes segs (work.Packet flow head payload to_dst to_src) =
@@ -65,6 +65,6 @@ seen_after was (work.Finish flow) = false
 abbrev pub seen_of : ℕ → Bool → Job → Bool
 seen_of flow was job = if is_of_flow flow job then seen_after was job.work else was
 
--- the same after these jobs of all flows
+-- a packet of TCP was seen of a flow since it began, after these jobs of all flows
 abbrev pub is_seen : ℕ → List Job → Bool
 is_seen flow jobs = fold (seen_of flow) false jobs

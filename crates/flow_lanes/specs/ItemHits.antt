@@ -10,7 +10,7 @@ use Rattle.rule_eval.specs.Picking.{bits_after_all}
 use Rattle.flow_lanes.specs.declared.answer.Hits.{Hits}
 use Rattle.flow_lanes.specs.declared.answer.JobHits.{JobHits}
 
--- the bits behind an item
+-- the bits after an item
 abbrev pub bits_after_item : Trying → Option Bits → Item → Option Bits
 bits_after_item trying bits item = bits_after_all trying.rules bits (matching trying item bits)
 
@@ -23,7 +23,7 @@ unfoldable pub hits_of : Trying → Option Bits → List Item → List Hits
 hits_of trying bits [] = []
 hits_of trying bits (item ∷ items) = hit trying bits item ∷ hits_of trying (bits_after_item trying bits item) items
 
--- the bits behind items of one session
+-- the bits after items of one session
 abbrev pub bits_after_items : Trying → Option Bits → List Item → Option Bits
 bits_after_items trying bits items = fold (bits_after_item trying) bits items
 
@@ -37,7 +37,7 @@ is_matched hits = not (length hits.rules == 0)
 abbrev pub matched : List Hits → List Hits
 matched items = filter is_matched items
 
--- those of a job
+-- a job with those of its items that a rule matches
 abbrev pub matched_entry : JobHits → JobHits
 matched_entry entry = record { number = entry.number; items = matched entry.items }
 
@@ -45,6 +45,6 @@ matched_entry entry = record { number = entry.number; items = matched entry.item
 abbrev pub told : Bool → List Hits → List Hits
 told all items = if all then items else matched items
 
--- those of a job
+-- a job with those of its items that are told
 abbrev pub told_entry : Bool → JobHits → JobHits
 told_entry all entry = record { number = entry.number; items = told all entry.items }

@@ -3,9 +3,9 @@
 -- A packet of a flow has these items, in this order: what is left of stretches that rules have ended with
 -- the flow's last job; the streams of a session that ended before it; the streams that its acknowledgement
 -- flushes; then, with its data added, the streams of a session that it ends; last the packet itself. At the
--- end of a flow stand what is left, and the streams of the session at hand. Of two sides the client's
+-- end of a flow come what is left, and the streams of the session at hand. Of two sides the client's
 -- streams come first. This order is this project's own; what a session, an acknowledgement and a segment
--- are stands in RFC 9293, and what is a stream item in the Snort Users Manual 2.9, section 2.2.3.
+-- are is said in RFC 9293, and what is a stream item in the Snort Users Manual 2.9, section 2.2.3.
 -- To try it on: with the flush point 1, "ab" of the client and then an acknowledgement of it by the server
 -- give two jobs: the first has the packet "ab", the second the stream "ab" and then the packet without data.
 use Rattle.std.specs.Prelude.{ℕ, Bool, true, false, not, ◌&&◌, List, [], ◌∷◌, ◌++◌, Option, Some, None, map, option_map, unwrap_or, if◌then◌else◌}
@@ -24,8 +24,8 @@ use Rattle.flow_lanes.specs.Sessions.{Packet, Session, ack_of, acked_side, after
 use Rattle.flow_lanes.specs.Sides.{Side, acked_payloads, held_payloads, left_payloads, queues}
 
 -- what the items of a job belong to: those of a session that has ended before the packet, or with the
--- flow; those of the packet's session, or the packet alone where it has none; and that session behind the
--- job, if it stands
+-- flow; those of the packet's session, or the packet alone where it has none; and that session after the
+-- job, if there is one then
 pub record JobItems : Type 0 where
   pub ended : List Item
   pub current : List Item
@@ -57,7 +57,7 @@ head_between from to of_client moment sizes = record {
   session = record { tracked = true; established = true; from_client = Some of_client; sizes = Some sizes };
 }
 
--- the same of a side's data
+-- the head of a side's data, as a stream item has it
 abbrev pub stream_head : Side → Bool → Moment → ℕ × ℕ → ItemHead
 stream_head side of_client moment sizes = head_between side.from side.to of_client moment sizes
 
@@ -66,7 +66,7 @@ abbrev pub stream_items : Side → Bool → Moment → ℕ × ℕ → List (List
 stream_items side of_client moment sizes payloads =
     map (λ payload. record { head = stream_head side of_client moment sizes; payload = payload }) payloads
 
--- those of both sides, the client's first
+-- the stream items of both sides, the client's first
 abbrev pub both_sides : (Side → List (List ℕ)) → Session → Moment → ℕ × ℕ → List Item
 both_sides payloads session moment sizes =
     stream_items session.client true moment sizes (payloads session.client)
@@ -100,7 +100,7 @@ facts_of p step after = record {
 abbrev pub packet_item : Packet → Step → Option Session → Item
 packet_item p step after = record { head = record (p.head) { session = facts_of p step after }; payload = p.payload }
 
--- its data count, and are queued
+-- the packet's data count, and are queued
 abbrev pub is_queued : Packet → Step → Option Session → Bool
 is_queued p step None = false
 is_queued p step (Some session) = step.takes_data && queues (sending_side step session) (seq_of p) p.payload
@@ -118,12 +118,12 @@ acked_items p step session sizes =
     (acked_payloads (acked_side step session) (ack_of p))
     else []
 
--- the session behind the packet, and before an end
+-- the session after the packet, and before an end
 abbrev pub session_behind : Packet → Step → Option Session → Option Session
 session_behind p step session = option_map (λ (s : Session). after_data p step (after_ack p step s)) session
 
--- the items of the packet's own session, with the sizes behind the packet: `found` is the session at hand
--- before it, `session` is its own before its acknowledgement and its data, `after` the same behind them
+-- the items of the packet's own session, with the sizes after the packet: `found` is the session at hand
+-- before it, `session` is its own before its acknowledgement and its data, `after` its own after them
 abbrev pub session_items : Making → Packet → Step → Option Session → Option Session → Option Session → List Item
 session_items making p step found session after =
     let sizes : ℕ × ℕ = option_map_or sizes_of after (0, 0) in
@@ -132,7 +132,7 @@ session_items making p step found session after =
     ++ (if step.ends then option_map_or (λ s. held_items s p.moment sizes) after [] else [])
     ++ own_items making p step session after
 
--- by what the packet tells of its session
+-- the items of a packet, by what it tells of its session
 abbrev pub items_told : Making → Packet → Option Session → Step → State → JobItems
 items_told making p found step state =
     let session : Option Session = session_of making p found step state in

@@ -1,6 +1,6 @@
 -- What holds of a flow that is kept, and what its jobs find of it.
 --
--- To try it on: behind two packets of a flow, no side of its session reaches further than 2 * 2^31 places.
+-- To try it on: after two packets of a flow, no side of its session reaches further than 2 * 2^31 places.
 use Rattle.std.specs.Prelude.{◌≡◌, ℕ, ◌+◌, ◌*◌, ◌^◌, ◌≤◌, ◌==◌, Bool, List, Option, IfSome, if◌then◌else◌}
 use Rattle.std.specs.Map.{lookup}
 use Rattle.std.specs.Option.{option_map_or}
@@ -11,11 +11,11 @@ use Rattle.flow_lanes.specs.Sessions.{Packet, Session}
 use Rattle.flow_lanes.specs.Sound.{FlowFacts, ends_of}
 use Rattle.flow_lanes.specs.Standing.{KeptFlow}
 
--- the session, if one stands, is of this protocol
+-- the session, if there is one, is of this protocol
 abbrev pub IsOf : Bool → Option Session → Type 0
 IsOf tcp found = IfSome found (λ (session : Session). session.state.tcp ≡ tcp)
 
--- the session, if one stands, is of this protocol and reaches so far at most
+-- the session, if there is one, is of this protocol and reaches `places` places at most
 pub record IsFound (tcp : Bool) (places : ℕ) (found : Option Session) : Type 0 where
   pub same : IsOf tcp found
   pub within : IsWithin found places
@@ -37,7 +37,7 @@ abbrev pub GrowsFound : Option FlowState → Option FlowState → Type 0
 GrowsFound old new =
     (tcp : Bool) (places : ℕ) → IsFound tcp places (session_at_hand old) → IsFound tcp (places + 2 ^ 31) (session_at_hand new)
 
--- what is known of a flow behind one more of its packets
+-- what is known of a flow after one more of its packets
 abbrev pub facts_after_packet : Packet → Option FlowFacts → FlowFacts
 facts_after_packet p facts = record { ends = ends_of p; packets = option_map_or (λ (f : FlowFacts). f.packets + 1) facts 1 }
 

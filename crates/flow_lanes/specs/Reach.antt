@@ -2,13 +2,13 @@
 --
 -- A packet moves each of them by at most 2^31 places. A flow has fewer than 2^32 packets, so none passes
 -- 2^63.
--- To try it on: behind the first packet of a flow, no side's size is above 2147483648.
+-- To try it on: after the first packet of a flow, no side's size is above 2147483648.
 use Rattle.std.specs.Prelude.{ℕ, ◌+◌, ◌^◌, ◌≤◌, Bool, Option, IfSome, if◌then◌else◌}
 use Rattle.stream5_reassembly.specs.Segments.{passed}
 use Rattle.flow_lanes.specs.Sessions.{Session}
 use Rattle.flow_lanes.specs.Sides.{Side}
 
--- a side's base has moved by at most so many places, and its size is at most so much
+-- a side's base has moved by at most this many places, and its size is at most as much
 pub record Reaches (side : Side) (places : ℕ) : Type 0 where
   pub base : passed side.direction ≤ places
   pub size : side.extent.size ≤ places
@@ -26,11 +26,11 @@ pub record AreWithin (session : Session) (most_client most_server : ℕ) : Type 
   pub client : Reaches session.client most_client
   pub server : Reaches session.server most_server
 
--- a session of which both sides reach so far, if it stands
+-- a session, if there is one, of which both sides reach so far
 abbrev pub IsWithin : Option Session → ℕ → Type 0
 IsWithin found places = IfSome found (λ (session : Session). AreWithin session places places)
 
--- neither side comes further
+-- neither side of a session comes further
 abbrev pub KeepsWithin : Session → Session → Type 0
 KeepsWithin old new = (client server : ℕ) → AreWithin old client server → AreWithin new client server
 

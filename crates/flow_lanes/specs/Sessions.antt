@@ -1,10 +1,10 @@
 -- A session of a flow between two packets, and what a packet does to it.
 --
 -- What a packet is for its session, and which phase follows, is `session_step` (stream5_sessions
--- specs/Phases, after RFC 9293, sections 3.5 and 3.6). Here stands what goes by it: the settings of the end
+-- specs/Phases, after RFC 9293, sections 3.5 and 3.6). Here is what goes by it: the settings of the end
 -- to which the session's first packet went, the two sides at its begin, the bases that a packet sets, and
 -- its acknowledgement and its data.
--- To try it on: behind SYN, SYN with ACK and ACK from 10.0.0.1 port 1000 to 10.0.0.2 port 80, the client's
+-- To try it on: after SYN, SYN with ACK and ACK from 10.0.0.1 port 1000 to 10.0.0.2 port 80, the client's
 -- side goes from 10.0.0.1 to 10.0.0.2 and its base is the SYN's number and one.
 use Rattle.std.specs.Prelude.{ℕ, Bool, true, false, not, List, Option, Some, None, length, option_map, unwrap_or, if◌then◌else◌}
 use Rattle.edge_io.specs.declared.moment.Moment.{Moment}
@@ -52,12 +52,12 @@ ack_of p = (segment_of p.head.ip p.head.body (length p.payload) p.moment).ack
 abbrev pub toward : Packet → End → Toward
 toward p end = if same_end end (receiver p) then p.to_dst else p.to_src
 
--- where the session stands that the packet finds
+-- the state of the session that the packet finds
 abbrev pub state_found : Packet → Option Session → State
 state_found p None = no_session (is_tcp p.head.body) (record { nanos = 0 })
 state_found p (Some session) = session.state
 
--- the end to which its first packet went; it is the packet's own where none stands
+-- the end to which the session's first packet went; it is the packet's own where there is no session
 abbrev pub opening_end : Packet → Option Session → End
 opening_end p None = receiver p
 opening_end p (Some session) = session.opened_to
@@ -70,7 +70,7 @@ session_rules making p found = record {
   needed_new = p.to_dst.needed;
 }
 
--- what the packet tells of its session, and where the session stands behind it
+-- what the packet tells of its session, and the session's state after it
 unfoldable pub step_of : Making → Packet → Option Session → Step
 step_of making p found = (session_step (state_found p found) (segment_of p.head.ip p.head.body (length p.payload) p.moment)
     (session_rules making p found)).step
@@ -138,14 +138,14 @@ acked_side step session = if is_from_client step then session.server else sessio
 abbrev pub sending_side : Step → Session → Side
 sending_side step session = if is_from_client step then session.client else session.server
 
--- the session behind the packet's acknowledgement, where that counts
+-- the session after the packet's acknowledgement, where that counts
 unfoldable pub after_ack : Packet → Step → Session → Session
 after_ack p step session =
     if not step.counts_ack then session
     else if is_from_client step then record session { server = side_after_ack session.server (ack_of p) }
     else record session { client = side_after_ack session.client (ack_of p) }
 
--- the session behind its data, where those count
+-- the session after the packet's data, where those count
 unfoldable pub after_data : Packet → Step → Session → Session
 after_data p step session =
     if not step.takes_data then session

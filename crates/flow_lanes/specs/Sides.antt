@@ -42,15 +42,15 @@ with_base side (Some seq) = record side {
 abbrev pub started_by : DirectionState → ℕ → DirectionState
 started_by direction seq = if direction.started then direction else started_at direction seq
 
--- the direction behind a segment, whatever becomes of that
+-- the direction after a segment, whatever becomes of that
 abbrev pub with_data : DirectionState → ℕ → List ℕ → DirectionState
 with_data direction seq bytes = after_fate (segment_fate direction seq bytes) direction seq bytes
 
--- the side's direction behind data that count
+-- the side's direction after data that count
 abbrev pub direction_after_data : Side → ℕ → List ℕ → DirectionState
 direction_after_data side seq bytes = if side.on then with_data (started_by side.direction seq) seq bytes else side.direction
 
--- the side behind data that count; no bytes are no data
+-- the side after data that count; no bytes are no data
 unfoldable pub side_after_data : Side → ℕ → List ℕ → Side
 side_after_data side seq [] = side
 side_after_data side seq bytes = record side {
@@ -73,7 +73,7 @@ unfoldable pub acked_payloads : Side → ℕ → List (List ℕ)
 acked_payloads side ack =
     if ack_flushes side.direction ack then flushed_payloads side.direction (ack_place side.direction ack) else []
 
--- the side behind an acknowledgement
+-- the side after an acknowledgement
 unfoldable pub side_after_ack : Side → ℕ → Side
 side_after_ack side ack =
     if ack_flushes side.direction ack

@@ -1,8 +1,8 @@
--- When a job is sound behind the earlier jobs of its flow.
+-- When a job is sound after the earlier jobs of its flow.
 --
 -- All packets of a flow are of one protocol and between the same two ends, and each of these goes by one
 -- engine and one preference. A packet has no more data than a datagram (RFC 791, section 3.1).
--- To try it on: a packet between other ends than those of its flow's first packet is not sound; behind the
+-- To try it on: a packet between other ends than those of its flow's first packet is not sound; after the
 -- flow's end it is.
 use Rattle.std.specs.Prelude.{◌≡◌, ℕ, ◌+◌, ◌^◌, ◌<◌, ◌≤◌, ⊤, List, Option, Some, None, IfSome, length, fold}
 use Rattle.std.specs.Option.{option_map_or}
@@ -34,7 +34,7 @@ ends_of p = record {
   high = way_of (toward p (key_of_packet p).high);
 }
 
--- what is known of the flow behind one more job
+-- what is known of the flow after one more job
 abbrev pub facts_behind_work : Option FlowFacts → Moment → Work → Option FlowFacts
 facts_behind_work facts moment (work.Alone head payload) = facts
 facts_behind_work facts moment (work.Packet flow head payload to_dst to_src) =
@@ -47,7 +47,7 @@ facts_behind_work facts moment (work.Finish flow) = None
 abbrev pub facts_behind : Option FlowFacts → Job → Option FlowFacts
 facts_behind facts job = facts_behind_work facts job.moment job.work
 
--- what is known behind these jobs of one flow, of which this was known
+-- what is known after these jobs of one flow, of which this was known
 abbrev pub facts_after : Option FlowFacts → List Job → Option FlowFacts
 facts_after facts jobs = fold facts_behind facts jobs
 

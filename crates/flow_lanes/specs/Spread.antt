@@ -2,7 +2,7 @@
 use Rattle.std.specs.Prelude.{◌≡◌, ℕ, ◌+◌, ◌^◌, ◌<◌, List, length, slice_index_or}
 use Rattle.flow_lanes.specs.declared.spread.Part.{Part}
 
--- P holds of each place and of what stands there
+-- P holds of each place and of what is there
 abbrev pub AcceptsFrom : {X : Type 0} → (ℕ → X → Type 0) → ℕ → List X → Type 0
 AcceptsFrom {X} P base xs = (k : ℕ) (d : X) → k < length xs → P (base + k) (slice_index_or xs k d)
 
@@ -12,7 +12,7 @@ pub record IsReady {X : Type 0} (P : ℕ → X → Type 0) (part : Part) (xs : L
   pub same : length part.busy.now ≡ length xs
   pub accepts : AcceptsFrom P part.base xs
 
--- R holds at each place of what stands there before and after
+-- R holds at each place of what is there before and after
 pub record ChangesFrom {X : Type 0} (R : ℕ → X → X → Type 0) (base : ℕ) (xs ys : List X) : Type 0 where
   pub len : length ys ≡ length xs
   pub each : (k : ℕ) (d : X) → k < length xs → R (base + k) (slice_index_or xs k d) (slice_index_or ys k d)

@@ -60,12 +60,12 @@ new_lane flush inserts = record { flush = flush; inserts = inserts; flows = [] }
 abbrev pub is_of_flow : ℕ → Job → Bool
 is_of_flow flow job = same_number (Some flow) (flow_of job)
 
--- what is kept of a flow behind one more of its jobs: nothing behind its end
+-- what is kept of a flow after one more of its jobs: nothing after its end
 abbrev pub kept_behind : Detection → Option KeptFlow → Job → Option KeptFlow
 kept_behind d kept job = option_map (λ facts. record { facts = facts; found = state_behind d (state_kept kept) job })
     (facts_behind (facts_kept kept) job)
 
--- what is kept behind these jobs of one flow
+-- what is kept after these jobs of one flow
 abbrev pub kept_after : Detection → List Job → Option KeptFlow
 kept_after d jobs = fold (kept_behind d) None jobs
 
@@ -122,7 +122,7 @@ pub record HasDone (d : Detection) (old : LaneState) (job : Job) (new : LaneStat
   pub flows : (flow : ℕ) → kept_of new flow ≡ (if is_of_flow flow job then kept_behind d (kept_of old flow) job
       else kept_of old flow)
 
--- what the lane knows of any job's flow behind a job: it has learnt of that job's own
+-- what the lane knows of any job's flow after a job: it has learnt of that job's own
 abbrev pub LearnsJob : LaneState → Job → LaneState → Type 0
 LearnsJob old job new =
     (other : Job) → known_of new other ≡ facts_after (known_of old other) (filter (same_flow other) (job ∷ []))
@@ -135,7 +135,7 @@ pub record LanesState : Type 0 where
   pub greatest : Option ℕ
   pub failed : Bool
 
--- the lane of a job among so many: a job of no flow is in the first
+-- the place of a job's lane among `count`: a job of no flow is in the first
 abbrev pub lane_of : ℕ → Option ℕ → ℕ
 lane_of count None = 0
 lane_of count (Some flow) = flow % count
@@ -143,7 +143,7 @@ lane_of count (Some flow) = flow % count
 abbrev pub is_in_lane : ℕ → ℕ → Job → Bool
 is_in_lane count lane job = lane_of count (flow_of job) == lane
 
--- so many lanes that stand for no job
+-- `count` lanes that stand for no job
 abbrev pub AreNew : ℕ → ℕ → Bool → LanesState → Type 0
 AreNew count flush inserts lanes = lanes ≡ record {
   lanes = replicate count (new_lane flush inserts);
@@ -162,7 +162,7 @@ abbrev pub known_in : LanesState → Job → Option FlowFacts
 known_in lanes job =
     option_and_then (λ (lane : LaneState). known_of lane job) (slice_get lanes.lanes (lane_of (length lanes.lanes) (flow_of job)))
 
--- each job of a batch is sound, behind what the lanes know and the batch's earlier jobs of its flow
+-- each job of a batch is sound, after what the lanes know and the batch's earlier jobs of its flow
 abbrev pub AreSoundFor : ℕ → LanesState → List Job → Type 0
 AreSoundFor engines lanes jobs =
     (front : List Job) (job : Job) (rest : List Job) → jobs ≡ front ++ job ∷ rest
@@ -173,7 +173,7 @@ pub record AreNext (lanes : LanesState) (jobs : List Job) : Type 0 where
   pub ascend : AscendsBy (λ (job : Job). job.number) jobs
   pub above : IfSome lanes.greatest (λ greatest. All (λ (job : Job). greatest < job.number) jobs)
 
--- what the lanes know of any job's flow behind a batch, how many they are, and the greatest number so far
+-- what the lanes know of any job's flow after a batch, how many they are, and the greatest number so far
 pub record LearnsBatch (old : LanesState) (jobs : List Job) (new : LanesState) : Type 0 where
   pub known : (other : Job) → known_in new other ≡ facts_after (known_in old other) (filter (same_flow other) jobs)
   pub count : length new.lanes ≡ length old.lanes

@@ -3,7 +3,7 @@
 --
 -- Most packets of a flow are of this kind (stream5_sessions specs/Staying). They begin no session and end none,
 -- so what they bring can be taken in place.
--- To try it on: of UDP every packet behind the server's first one stays, until the timeout.
+-- To try it on: of UDP every packet after the server's first one stays, until the timeout.
 use Rattle.std.specs.Prelude.{◌≡◌, true, false, Option, Some, None}
 use Rattle.stream5_sessions.specs.declared.step.Step.{Step}
 use Rattle.flow_lanes.specs.Engines.{Making}
@@ -20,7 +20,7 @@ pub record IsWithinSession (step : Step) : Type 0 where
   pub client_base : step.client_base ≡ None
   pub server_base : step.server_base ≡ None
 
--- the packet tells this of the session, of which it changes where it stands alone
+-- the packet tells this of the session, of which it changes the state alone
 pub record StaysIn (making : Making) (p : Packet) (old : Session) (step : Step) (new : Session) : Type 0 where
   pub step_is : step ≡ step_of making p (Some old)
   pub session_is : new ≡ record old { state = state_of making p (Some old) }
@@ -28,7 +28,7 @@ pub record StaysIn (making : Making) (p : Packet) (old : Session) (step : Step) 
   pub client_left : HasNoneLeft old.client
   pub server_left : HasNoneLeft old.server
 
--- the same of the session at hand: behind it stands the packet's own, with its bits
+-- the packet tells this of the session at hand: after it the packet's own is there, with the same bits
 pub record StaysAt (making : Making) (p : Packet) (before : Option FlowState) (step : Step)
     (found : Option FlowState) : Type 0 where
   pub step_is : step ≡ step_of making p (session_at_hand before)

@@ -4,7 +4,7 @@
 -- of all segments queued since the direction started, whole, the byte that the receiving host keeps). The
 -- maximal runs of places that have one are each cut from their start. The length of an item, as the rule
 -- for flushing, is this project's own; what is joined is the data of RFC 9293, section 3.4.
--- To try it on: of "ab" at the base, nothing at the third place and "c" behind it, the payloads are "ab"
+-- To try it on: of "ab" at the base, nothing at the third place and "c" after it, the payloads are "ab"
 -- and "c"; a run of 16385 bytes gives two payloads, the second of one byte.
 use Rattle.std.specs.Prelude.{ℕ, ◌+◌, ◌-◌, ◌*◌, ◌/◌, Bool, true, false, List, [], ◌∷◌, Option, Some, None, length, map, take, drop}
 use Rattle.std.specs.List.{range_with_len, flat_map}
@@ -37,7 +37,7 @@ unfoldable pub runs_of : List (Option ℕ) → List (List ℕ)
 runs_of [] = []
 runs_of (place ∷ places) = in_front place (begins_run places) (runs_of places)
 
--- bytes, cut from their start into so many at most
+-- bytes, cut from their start into parts of this many at most
 unfoldable pub parts_of : ℕ → List ℕ → List (List ℕ)
 parts_of most bytes = map (λ part. take most (drop (part * most) bytes)) (range_with_len 0 ((length bytes + (most - 1)) / most))
 

@@ -27,7 +27,7 @@ pub record TriesBy {P : Type 0} (finds : P → List ℕ → Option Span) (means 
   pub made : FindWhatIsMeant finds means set
   pub told : Tells means trying.matches
 
--- it holds by each test that tells which of the rules match, whatever the texts of patterns mean
+-- something holds by each test that tells which of the rules match, whatever the texts of patterns mean
 abbrev pub ByTest : {P : Type 0} → Inspection P → (Trying → Type 0) → Type 0
 ByTest by Holds = (means : Means) (trying : Trying) → TriesBy by.finds means by.set trying → Holds trying
 
@@ -67,7 +67,7 @@ pub record Tallies {P : Type 0} (by : Inspection P) (gain : Gain) (old new : SoF
   pub visits : (means : Means) → FindWhatIsMeant by.finds means by.set
       → new.visits ≤ old.visits + visits_over by.set.rules gain.items
 
--- this is all that a tally has
+-- a tally has this gain and nothing else
 pub record Tallied {P : Type 0} (by : Inspection P) (gain : Gain) (all : SoFar) : Type 0 where
   pub hits : ByTest by (λ trying. all.hits ≡ told by.all (gain.hits trying))
   pub items : all.items ≡ length gain.items

@@ -1,4 +1,4 @@
--- One job, by what is kept of flows before it and behind it.
+-- One job, by what is kept of flows before it and after it.
 --
 -- To try it on: the end of a flow gives the streams of its session, and nothing is kept of the flow then.
 use Rattle.std.specs.Prelude.{◌≡◌, ℕ, List, Option, Some, option_and_then, option_map, if◌then◌else◌}
@@ -25,7 +25,7 @@ known_for flows w = option_and_then (λ flow. facts_kept (kept_in flows flow)) (
 abbrev pub items_for : Making → Moment → Work → List (ℕ × KeptFlow) → JobItems
 items_for making moment w flows = work_items making moment w (session_at_hand (found_for flows w))
 
--- what is kept of a flow behind the job, where this was: only the job's own flow goes on
+-- what is kept of a flow after the job, where this was: only the job's own flow goes on
 abbrev pub kept_by : Making → Trying → Moment → Work → Option KeptFlow → Option KeptFlow
 kept_by making trying moment w kept =
     option_map (λ (facts : FlowFacts). record {
@@ -37,7 +37,7 @@ kept_by making trying moment w kept =
 abbrev pub gain_for : Making → Moment → Work → List (ℕ × KeptFlow) → Gain
 gain_for making moment w flows = of_job (items_for making moment w flows) (found_for flows w)
 
--- with these rules this is then kept of each flow
+-- with these rules, this is kept of each flow after a job
 abbrev pub KeepsBy : Trying → Making → Moment → Work → List (ℕ × KeptFlow) → List (ℕ × KeptFlow) → Type 0
 KeepsBy trying making moment w old new =
     (flow : ℕ) → kept_in new flow ≡ (if same_number (Some flow) (flow_of_work w)

@@ -18,15 +18,15 @@ use Rattle.flow_lanes.specs.declared.job.Job.{Job}
 use Rattle.flow_lanes.specs.Flows.{Detection, items, same_flow}
 use Rattle.flow_lanes.specs.Standing.{DetectsBy, LaneState, Stands}
 
--- of an item: the sum of those of its candidates
+-- the visits of an item: the sum of those of its candidates
 abbrev pub visits_on : List Rule → Item → ℕ
 visits_on rules item = visits_among rules (length item.payload) (candidates rules item.head.body item.payload)
 
--- of items, one after another
+-- the visits of items, one after another
 abbrev pub visits_over : List Rule → List Item → ℕ
 visits_over rules items = sum_by (visits_on rules) items
 
--- of the items of a job, after the earlier jobs of its flow; and after all earlier jobs
+-- the visits of the items of a job, after the earlier jobs of its flow; and after all earlier jobs
 unfoldable pub visits : Detection → List Job → Job → ℕ
 visits d earlier job = visits_over d.trying.rules (items d earlier job)
 

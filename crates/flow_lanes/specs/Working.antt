@@ -1,4 +1,4 @@
--- What is done on the way from a packet to its items, step by step on the session as it stands.
+-- What is done on the way from a packet to its items, step by step on the session as it is.
 --
 -- To try it on: a stretch "ab" from 10.0.0.1 port 1000 to 10.0.0.2 port 80 gives the item "ab" of that head.
 use Rattle.std.specs.Prelude.{◌≡◌, ℕ, Bool, true, false, not, ◌&&◌, List, [], ◌∷◌, ◌++◌, Option, Some, None, map, if◌then◌else◌}
@@ -26,7 +26,7 @@ with_side of_client side session = if of_client then record session { client = s
 abbrev pub stretch_of : Side → List (List ℕ) → Stretch
 stretch_of side payloads = record { from = side.from; to = side.to; payloads = payloads }
 
--- those of both sides
+-- stretches of payloads of both sides of a session
 abbrev pub stretches_of : (Side → List (List ℕ)) → Session → Stretches
 stretches_of payloads session = record {
   client = stretch_of session.client (payloads session.client);
@@ -39,11 +39,11 @@ stretch_items of_client moment sizes stretch =
     map (λ payload. record { head = head_between stretch.from stretch.to of_client moment sizes; payload = payload })
     stretch.payloads
 
--- those of both sides, the client's first
+-- the stream items of the stretches of both sides, the client's first
 abbrev pub stretches_items : Moment → ℕ × ℕ → Stretches → List Item
 stretches_items moment sizes both = stretch_items true moment sizes both.client ++ stretch_items false moment sizes both.server
 
--- those that there may be
+-- the stream items of stretches, if there are any
 abbrev pub maybe_items : Moment → ℕ × ℕ → Option Stretches → List Item
 maybe_items moment sizes both = option_map_or (stretches_items moment sizes) both []
 
@@ -55,7 +55,7 @@ HasNoneLeft side = (left_payloads side ≡ []) × (without_left side ≡ side)
 abbrev pub TellsLeft : Session → Option Stretches → Type 0
 TellsLeft session left = (moment : Moment) (sizes : ℕ × ℕ) → maybe_items moment sizes left ≡ left_items session moment sizes
 
--- the same of the session at hand, if there is one
+-- these stretches give the items of what is left of the session at hand, if there is one
 abbrev pub TellsLeftAt : Option Session → Option Stretches → Type 0
 TellsLeftAt found left =
     (moment : Moment) (sizes : ℕ × ℕ) → maybe_items moment sizes left ≡ option_map_or (λ s. left_items s moment sizes) found []
@@ -64,7 +64,7 @@ TellsLeftAt found left =
 abbrev pub sizes_behind : Option Session → ℕ × ℕ
 sizes_behind after = option_map_or sizes_of after (0, 0)
 
--- the session behind a packet's acknowledgement and its data
+-- the session after a packet's acknowledgement and its data
 abbrev pub after_packet : Packet → Step → Session → Session
 after_packet p step session = after_data p step (after_ack p step session)
 
@@ -76,7 +76,7 @@ streams_told p step left session =
     ++ acked_items p step session (sizes_of after)
     ++ (if step.ends then held_items after p.moment (sizes_of after) else [])
 
--- the same where it may have none
+-- the streams of the packet's session, if it has one
 abbrev pub streams_of : Packet → Step → Option Stretches → Option Session → List Item
 streams_of p step left None = maybe_items p.moment (0, 0) left
 streams_of p step left (Some session) = streams_told p step left session

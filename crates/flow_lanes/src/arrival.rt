@@ -79,7 +79,7 @@ impl Arrival<'_> {
         }
     }
 
-    /// What it acknowledges.
+    /// What the packet acknowledges.
     pub fn ack(&self) -> u32
         ensures { result ≡ ack_of (packet_of self.now) }
     {

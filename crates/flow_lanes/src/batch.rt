@@ -27,7 +27,7 @@ use std::alloc::Global;
 use std::marker::Model;
 use std::thread::Threads;
 
-/// The greatest number behind these jobs.
+/// The greatest number after these jobs.
 fn greatest_number(before: Option<u64>, jobs: &[Job]) -> Option<u64>
     ensures { result ≡ fold (λ most (job : Job). Some job.number) before jobs.now }
 {
@@ -38,7 +38,7 @@ fn greatest_number(before: Option<u64>, jobs: &[Job]) -> Option<u64>
     greatest
 }
 
-/// So many lanes that stand for no job.
+/// `count` lanes that stand for no job.
 fn new_workers(
     alloc: Global,
     count: u32,
@@ -56,7 +56,7 @@ fn new_workers(
     Ok(workers)
 }
 
-/// All lanes do their own jobs of a batch: those that have any are spread evenly over so many threads.
+/// All lanes do their own jobs of a batch: those that have any are spread evenly over this many threads.
 fn run_all<P: Pattern, G: Gate, R: Threads + Sync>(
     runner: &Runner<'_, G, R>,
     threads: usize,
@@ -260,7 +260,7 @@ impl Model for Lanes {
 }
 
 impl Lanes {
-    /// So many lanes, 1 to 64, that stand for no job. `flush` is how many places are acknowledged at least
+    /// `count` lanes, 1 to 64, that stand for no job. `flush` is how many places are acknowledged at least
     /// before they are flushed, 1 to 65536; with `inserts`, a packet whose data were queued is an item
     /// itself as well.
     pub fn new(alloc: Global, count: u32, flush: u32, inserts: bool) -> Result<Lanes, NoMemory>
@@ -281,7 +281,7 @@ impl Lanes {
 
     /// The answers to a batch of jobs: an entry for each job, in the order of the jobs, and how many
     /// candidates their items had (specs/Standing). The numbers of the jobs ascend, and are above those of
-    /// all earlier jobs; each job is sound behind the earlier jobs of its flow; `groups` are those of the
+    /// all earlier jobs; each job is sound after the earlier jobs of its flow; `groups` are those of the
     /// set's rules. Of the jobs nothing is asked once memory was lacking.
     ///
     /// The answers are those of one list of jobs, taken one by one, for any number of lanes and any cut of
@@ -353,7 +353,7 @@ impl Lanes {
     ///
     /// # Errors
     ///
-    /// Those of `batch`. Nothing is said of `out` then.
+    /// As `batch` has them. Nothing is said of `out` then.
     pub fn search<P: Pattern, G: Gate, R: Threads + Sync>(
         &mut self,
         rt: &R,

@@ -31,7 +31,7 @@ fn part_at(alloc: Global, bytes: &[u8], part: usize) -> Result<Text, NoMemory>
     Ok(text)
 }
 
-/// Appends the first so many parts.
+/// Appends the first `count` parts.
 fn cut_parts(alloc: Global, bytes: &[u8], count: usize, out: &mut Vec<Text>) -> Result<(), NoMemory>
     requires { count ≡ (length bytes.now + (item_size - 1)) / item_size }
     ensures { OnOk result (out.new.items ≡ out.old.items
@@ -51,7 +51,7 @@ pub(crate) fn is_one_part(bytes: &[u8]) -> bool
     !bytes.is_empty() && bytes.len() <= ITEM_SIZE
 }
 
-/// Cuts bytes from their start into so many at most, and appends the parts.
+/// Cuts bytes from their start into parts of `ITEM_SIZE` at most, and appends the parts.
 #[tactic(auto, unfolding(crate::specs::Streams::parts_of))]
 pub(crate) fn cut(alloc: Global, bytes: &[u8], out: &mut Vec<Text>) -> Result<(), NoMemory>
     ensures { OnOk result (out.new.items ≡ out.old.items ++ parts_of item_size bytes.now) }

@@ -83,7 +83,7 @@ fn bits_or_none(bits: Option<Bits>) -> Bits
     }
 }
 
-/// The session behind its items, if it stands: as its rules ask, and with its bits. The hits of its items
+/// The session after its items, if there is one: as its rules ask, and with its bits. The hits of its items
 /// begin at a place.
 #[inline(always)]
 fn settle(
@@ -117,7 +117,7 @@ fn end_if(ends: bool, found: &mut Option<FlowState>)
     }
 }
 
-/// Tries the rules on the items of a session that has ended, with its bits: no session stands then.
+/// Tries the rules on the items of a session that has ended, with its bits: there is no session then.
 pub(crate) fn try_at_end<P: Pattern, L: Ledger>(
     inspector: &Inspector<'_, P>,
     items: &[Item],

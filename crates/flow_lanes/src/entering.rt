@@ -103,7 +103,7 @@ fn begin(
     }
 }
 
-/// No session stands any more.
+/// There is no session any more.
 // One copy of what is done for all that a session held.
 #[inline(never)]
 pub(crate) fn leave(found: &mut Option<FlowState>)

@@ -1,6 +1,6 @@
 //! A batch in turn: its jobs one after another, on the caller's thread, each by its own lane.
 //!
-//! What is found of a job is put behind what was found of the jobs before it, so that it is in their order at once: no
+//! What is found of a job is put after what was found of the jobs before it, so that it is in their order at once: no
 //! lane goes through the jobs of others, and nothing is merged.
 
 ghost use Rattle.std.specs.Prelude.{◌≡◌, ◌<◌, ◌≤◌, IfOk, OnOk, length};
@@ -16,7 +16,7 @@ use crate::worker::{Worker, flow_of, lane_of};
 use edge_io::{Gate, NoMemory, Pattern};
 use ordered_merge::Numbered;
 
-/// The place of a job's lane among so many. One lane has all jobs, and then the job is not looked at.
+/// The place of a job's lane among `count`. One lane has all jobs, and then the job is not looked at.
 #[inline]
 fn place_of(count: usize, job: &Job) -> usize
     requires { 0 < count }

@@ -11,7 +11,7 @@ use flowbit_state::Bits;
 use std::collections::HashMap;
 use std::marker::Model;
 
-/// A session that stands between two jobs, and its bits.
+/// A session that is there between two jobs, and its bits.
 #[derive(Drop)]
 pub(crate) struct FlowState {
     pub session: Session,

@@ -103,7 +103,7 @@ impl Lane {
     }
 
     /// The items of one job in order, each with all rules of the set that match it (specs/Flows), and how
-    /// many candidates they had. The job must be sound behind what the lane knows of its flow, and
+    /// many candidates they had. The job must be sound after what the lane knows of its flow, and
     /// `groups` be those of the set's rules. The answer goes by the earlier jobs of the job's flow and by
     /// nothing else; afterwards the lane stands for those and this job.
     ///
@@ -138,9 +138,9 @@ impl Lane {
         })
     }
 
-    /// The same, by the same code as `job` and a batch do it, with how many visits of payloads it takes: they are
-    /// counted in `visits`, which has none yet, and are at most the sum over the items and their candidates of what
-    /// each may take (specs/Work).
+    /// The items of one job in order, as `job` gives them and by the same code, with how many visits of payloads it
+    /// takes: they are counted in `visits`, which has none yet, and are at most the sum over the items and their
+    /// candidates of what each may take (specs/Work).
     pub fn job_counted<'a, P: Pattern, L: Ledger>(
         &mut self,
         alloc: Global,
@@ -195,7 +195,7 @@ impl Lane {
         self.search_anew::<P, Brand>(job, inspector, Blank::new(1))
     }
 
-    /// The same with a count of its own.
+    /// What is found of one job, as `search` gives it, with a count of visits that begins here.
     #[inline(always)]
     fn search_anew<P: Pattern, L: Ledger>(
         &mut self,
@@ -214,7 +214,7 @@ impl Lane {
         Ok(counted.found)
     }
 
-    /// The same with the visits that it takes.
+    /// What is found of one job, as `search` gives it, with the visits that it takes.
     #[inline(always)]
     fn search_counted<P: Pattern, L: Ledger>(
         &mut self,

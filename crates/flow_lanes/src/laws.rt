@@ -12,7 +12,7 @@ ghost use Rattle.flow_lanes.specs.Open.{is_open};
 ghost use Rattle.flow_lanes.specs.Sound.{FlowFacts, IsSoundFor};
 ghost use Rattle.flow_lanes.specs.Standing.{AreLaneAnswers, ArePutTogether, AreShort, LaneState, LanesStand, LanesState, answers_of_flow, is_of_flow, kept_of, lane_of};
 
-/// The stream items of a sound job of a flow have at most 16384 bytes, whatever jobs stand before it.
+/// The stream items of a sound job of a flow have at most 16384 bytes, whatever jobs come before it.
 pub fn stream_items_are_short()
     ensures { (d : Detection) (engines : ℕ) (facts : Option FlowFacts) (before : List Job) (job : Job)
         → IsSoundFor engines facts job → AreShort job (within same_flow (items d) before job) }

@@ -48,7 +48,7 @@ fn push_closing_items(
     }
 }
 
-/// Ends the session at hand: the rules are tried on its items, and none stands then.
+/// Ends the session at hand: the rules are tried on its items, and there is none then.
 pub(crate) fn end_session<P: Pattern, L: Ledger>(
     inspector: &Inspector<'_, P>,
     moment: Moment,
@@ -195,8 +195,9 @@ fn packet_found<P: Pattern, L: Ledger>(
 }
 
 impl Flow {
-    /// One more packet of the flow: its items with all rules that match them. The flow is then as the packet
-    /// leaves it. Where memory is lacking it is as far as the packet came.
+    /// One more packet of the flow: a tally of its items, with those and their rules that the inspector asks for. The
+    /// flow is then as the packet leaves it. Where memory is lacking the packet is counted, and of the session at
+    /// hand nothing is said.
     // In the line of each packet, so that its tally isn't passed through memory.
     #[inline(always)]
     pub fn packet<P: Pattern, L: Ledger>(
@@ -221,8 +222,8 @@ impl Flow {
         Ok(tally)
     }
 
-    /// The end of the flow: the items of the session at hand with all rules that match them. No session stands
-    /// then. Where memory is lacking the flow is as far as its end came.
+    /// The end of the flow: a tally of the items that the session at hand still gives. There is no session then.
+    /// Where memory is lacking nothing is said of the flow.
     pub fn finish<P: Pattern, L: Ledger>(
         &mut self,
         inspector: &Inspector<'_, P>,

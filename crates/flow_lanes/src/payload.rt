@@ -12,7 +12,7 @@ enum Held<'a> {
     Own(Text),
 }
 
-/// The bytes of a packet: lent by the record that they stand in, or its own. Contracts see the list of the bytes.
+/// The bytes of a packet: lent by the record that has them, or its own. Contracts see the list of the bytes.
 #[derive(Debug, Drop)]
 pub struct Payload<'a> {
     held: Held<'a>,
@@ -29,7 +29,7 @@ impl<'a> Model for Payload<'a> {
 }
 
 impl<'a> Payload<'a> {
-    /// These bytes, lent.
+    /// A payload of these bytes, lent.
     pub fn lent(bytes: &'a [u8]) -> Payload<'a>
         ensures { result ≡ bytes.now }
     {
@@ -38,7 +38,7 @@ impl<'a> Payload<'a> {
         }
     }
 
-    /// These bytes, owned.
+    /// A payload of these bytes, its own.
     pub fn own(bytes: Text) -> Payload<'a>
         ensures { result ≡ bytes }
     {

@@ -12,7 +12,7 @@ use std::thread::{Threads, available_parallelism};
 /// How many lanes there are at most.
 pub(crate) const MOST_LANES: usize = 64;
 
-/// The lanes, of so many, that have jobs among these.
+/// The lanes, of `count`, that have jobs among these.
 pub(crate) fn busy_lanes(count: usize, jobs: &[Job]) -> [bool; MOST_LANES]
     requires { 0 < count }
 {
@@ -51,7 +51,7 @@ impl<G: Gate, R: Threads> Runner<'_, G, R> {
         if self.gate.wants_threads() { 2 } else { 1 }
     }
 
-    /// Over how many threads so many lanes that have jobs are spread: as many as the work is worth and there are
+    /// Over how many threads `busy` lanes that have jobs are spread: as many as the work is worth and there are
     /// processors, or fewer where none of them then has a lane more: of four lanes one does two in two threads as in
     /// three. Processors are asked for only where the answer can depend on them, since that costs some 8 µs.
     fn threads_of(&self, busy: usize) -> usize {
@@ -68,7 +68,7 @@ impl<G: Gate, R: Threads> Runner<'_, G, R> {
         busy.div_ceil(each.max(1)).max(least)
     }
 
-    /// Over how many threads these jobs are spread, among so many lanes. In one thread, the caller's, they are done in
+    /// Over how many threads these jobs are spread, among `lanes` lanes. In one thread, the caller's, they are done in
     /// turn; and where no more are worth it, it is not asked which lanes have jobs.
     pub fn threads(&self, lanes: usize, jobs: &[Job]) -> usize {
         let is_enough = self.least_threads() < 2 && threads_worth(self.beside) < 2;

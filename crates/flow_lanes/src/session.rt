@@ -23,7 +23,7 @@ use std::alloc::Global;
 use std::marker::Model;
 use stream5_sessions::{End, Session as Phases, Step};
 
-/// A session that stands: its phase, the end to which its first packet went, and its sides.
+/// A session: its phase, the end to which its first packet went, and its sides.
 #[derive(Drop)]
 pub(crate) struct Session {
     pub state: Phases,
@@ -63,7 +63,7 @@ impl Left {
         Left { both: None }
     }
 
-    /// These may be left.
+    /// These stretches may be left.
     fn some(alloc: Global, both: Stretches) -> Result<Left, NoMemory>
         ensures { IfOk result (λ left. left ≡ Some both) }
     {
@@ -154,7 +154,7 @@ impl Session {
         self.server.set_base(step.server_base);
     }
 
-    /// Goes on behind a packet that leaves the session here, with the bases that the packet sets.
+    /// Goes on after a packet that leaves the session here, with the bases that the packet sets.
     pub fn go_on(&mut self, step: &Step, state: Phases)
         ensures state { self.new ≡ with_bases step.now (record self.old { state = state }) }
         ensures within { KeepsWithin self.old self.new }
@@ -211,7 +211,7 @@ impl Session {
         self.take_some_left(alloc)
     }
 
-    /// The same, where something may be left.
+    /// Takes what is left of stretches that have ended, where something may be left.
     // Kept out of the line of most packets, before which nothing is left.
     #[inline(never)]
     fn take_some_left(&mut self, alloc: Global) -> Result<Left, NoMemory>
@@ -239,8 +239,8 @@ impl Session {
         Ok(Stretches { client, server })
     }
 
-    /// Appends the items of all that is held; what stands of the session then is not said, but its sizes
-    /// stay.
+    /// Appends the items of all that both sides hold, the client's first. Of the session it is said that its phase
+    /// and its sizes stay, and that no side comes further.
     // Kept out of the line of most packets, which end no session.
     #[inline(never)]
     pub fn push_held_items(

@@ -25,9 +25,9 @@ use stream5_sessions::End;
 pub(crate) struct Side {
     pub from: End,
     pub to: End,
-    /// Its data are put together.
+    /// Whether the side's data are put together.
     pub on: bool,
-    /// And they have been since the session began.
+    /// Whether the side's data have been put together since the session began.
     pub since_begin: bool,
     /// What is queued.
     pub direction: Direction,

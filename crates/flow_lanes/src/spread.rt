@@ -1,6 +1,6 @@
 //! Calls at the places of a slice, of which the busy ones are spread evenly over threads.
 //!
-//! The share of one thread is cut off in front and done in a new thread; what is behind it is spread over the threads
+//! The share of one thread is cut off in front and done in a new thread; what is after it is spread over the threads
 //! that are left in the same way, and the caller's thread does the last share. So all threads start from one: where
 //! threads start threads, Linux has two of them take the same idle processor, and one waits for the other. To try it on:
 //! of the busy places 0, 1, 4 and 5 and two threads, one does 0 and 1, the other 4 and 5; of three threads the first
@@ -21,7 +21,7 @@ struct Part<'a> {
     busy: &'a [bool],
 }
 
-/// Calls f(i, &mut s[i]) at each place: the busy places in threads of their own, as far as there may be so
+/// Calls f(i, &mut s[i]) at each place: the busy places in threads of their own, as far as there may be that
 /// many threads, each of which has the same number of them, or one more. One busy place, or none, is done
 /// on the caller's thread.
 pub(crate) fn for_each_spread<R: Threads + Sync, T: Send, F: Fn(usize, &mut T) + Sync>(
@@ -48,7 +48,7 @@ pub(crate) fn busy_count(busy: &[bool]) -> usize {
     busy.iter().filter(|is| **is).count()
 }
 
-/// Where a slice is cut, so that so many busy places lie before the cut, or as many as can.
+/// Where a slice is cut, so that `before` busy places lie before the cut, or as many as can.
 fn cut_at(busy: &[bool], before: usize) -> usize
     requires { 2 ≤ length busy.now }
     ensures { (0 < result) × (result < length busy.now) }

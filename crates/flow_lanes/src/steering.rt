@@ -35,7 +35,7 @@ fn with_side(on: bool, side: Side, sides: SidesOn) -> SidesOn
     }
 }
 
-/// The sides behind an option.
+/// The sides after an option.
 fn sides_behind(sides: SidesOn, opt: &Opt) -> SidesOn
     ensures { result ≡ sides_behind sides opt.now }
 {
@@ -45,7 +45,7 @@ fn sides_behind(sides: SidesOn, opt: &Opt) -> SidesOn
     }
 }
 
-/// The sides behind all options of a rule.
+/// The sides after all options of a rule.
 fn sides_after_opts(mut sides: SidesOn, opts: &[Opt]) -> SidesOn
     ensures { result ≡ fold sides_behind sides opts.now }
 {
@@ -55,7 +55,7 @@ fn sides_after_opts(mut sides: SidesOn, opts: &[Opt]) -> SidesOn
     sides
 }
 
-/// The sides behind the rule at a place.
+/// The sides after the rule at a place.
 fn sides_after_rule(rules: &[Rule], sides: SidesOn, place: u32) -> SidesOn
     ensures { result ≡ sides_after_rule rules.now sides place }
 {
@@ -65,7 +65,7 @@ fn sides_after_rule(rules: &[Rule], sides: SidesOn, place: u32) -> SidesOn
     }
 }
 
-/// The sides behind all rules that match an item.
+/// The sides after all rules that match an item.
 fn sides_after_hit(rules: &[Rule], mut sides: SidesOn, hit: &Hits) -> SidesOn
     ensures { result ≡ sides_after_hit rules.now sides hit.now }
 {
@@ -75,7 +75,7 @@ fn sides_after_hit(rules: &[Rule], mut sides: SidesOn, hit: &Hits) -> SidesOn
     sides
 }
 
-/// The sides behind all items.
+/// The sides after all items.
 fn sides_after_hits(rules: &[Rule], mut sides: SidesOn, hits: &[Hits]) -> SidesOn
     ensures { result ≡ fold (sides_after_hit rules.now) sides hits.now }
 {

@@ -11,7 +11,7 @@ use crate::keeping::FlowState;
 use crate::settings::Settings;
 use stream5_sessions::{End, Session as Phases, SessionRules, Step};
 
-/// Where the session stands that the packet finds.
+/// The state of the session that the packet finds.
 fn state_found(p: &Arrival, found: &Option<FlowState>) -> Phases
     ensures { result ≡ state_found (packet_of p.now) (session_at_hand found.now) }
 {
@@ -21,7 +21,7 @@ fn state_found(p: &Arrival, found: &Option<FlowState>) -> Phases
     }
 }
 
-/// The end to which the session's first packet went; it is the packet's own where none stands.
+/// The end to which the session's first packet went; it is the packet's own where there is no session.
 fn opening_end(p: &Arrival, found: &Option<FlowState>) -> End
     ensures { result ≡ opening_end (packet_of p.now) (session_at_hand found.now) }
 {
@@ -51,7 +51,7 @@ fn session_rules(settings: &Settings, p: &Arrival, found: &Option<FlowState>) ->
     rules_of(settings, p, opening_end(p, found))
 }
 
-/// What the packet tells of its session, and where that stands behind it.
+/// What the packet tells of its session, and the session's state after it.
 #[tactic(auto, unfolding(crate::specs::Sessions::step_of, crate::specs::Sessions::state_of))]
 pub(crate) fn step_and_state(
     settings: &Settings,

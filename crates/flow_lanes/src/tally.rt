@@ -52,7 +52,7 @@ impl<L: Ledger> Tally<L> {
         }
     }
 
-    /// One item more, of so many candidates, whose options cost about so much. A job of which the items or the
+    /// One item more, of `tries` candidates, whose options cost about `cost`. A job of which the items or the
     /// candidates cannot be counted has more items than memory holds.
     fn count(&mut self, tries: usize, cost: u64) -> Result<(), NoMemory>
         ensures counts { OnOk result ((self.new.items ≡ self.old.items + 1) × (self.new.tries ≡ self.old.tries + tries)) }
@@ -100,7 +100,7 @@ fn item_candidates<P: Pattern>(
     Ok(places)
 }
 
-/// About what the options of the rules at these places cost on so many bytes.
+/// About what the options of the rules at these places cost on this many bytes.
 fn cost_of_options<P: Pattern>(set: &RuleSet<P>, places: &[u32], bytes: usize) -> u64 {
     let mut cost = 0u64;
     for place in places {

@@ -17,7 +17,7 @@ use ordered_merge::Numbered;
 use std::alloc::Global;
 use std::mem;
 
-/// A lane among so many, by its place.
+/// A lane among `count`, by its place.
 #[derive(Clone, Copy)]
 pub(crate) struct Share {
     pub count: usize,
@@ -35,7 +35,7 @@ pub(crate) fn flow_of(job: &Job) -> Option<u64>
     }
 }
 
-/// The lane of a job among so many: a job of no flow is in the first.
+/// The place of a job's lane among `count`: a job of no flow is in the first.
 pub(crate) fn lane_of(count: usize, flow: Option<u64>) -> usize
     requires { 0 < count }
     ensures { result ≡ lane_of count flow }
@@ -46,7 +46,7 @@ pub(crate) fn lane_of(count: usize, flow: Option<u64>) -> usize
     }
 }
 
-/// Answers a job of the lane: what is found of it stands behind what was found before.
+/// Answers a job of the lane: what is found of it is put after what was found before.
 fn answer<P: Pattern>(
     lane: &mut Lane,
     job: &Job,
@@ -136,7 +136,7 @@ impl Worker {
         }
     }
 
-    /// Answers a job of the lane, behind what other lanes have found of the batch.
+    /// Answers a job of the lane, after what other lanes have found of the batch.
     pub fn answer_next<P: Pattern>(
         &mut self,
         job: &Job,

@@ -57,8 +57,8 @@ pub(crate) fn item_cost(candidates: usize, options: u64) -> u64 {
         .saturating_add(ITEM_COST)
 }
 
-/// About what a candidate's options cost on so many bytes, if all of them are looked for: an expression reads all bytes,
-/// and so does a search for a content, but for one, since a candidate's pattern stands in the payload.
+/// About what a candidate's options cost on this many bytes, if all of them are looked for: an expression reads all
+/// bytes, and so does a search for a content, but for one, since a candidate's pattern occurs in the payload.
 pub(crate) fn options_cost(opts: &[Opt], bytes: usize) -> u64 {
     let mut contents = 0u64;
     let mut expressions = 0u64;
@@ -77,7 +77,7 @@ pub(crate) fn options_cost(opts: &[Opt], bytes: usize) -> u64 {
 }
 
 /// What the next batch is thought to have beside its dearest lane: what the last one had, but at most twice what that one
-/// was thought to have. So threads that start in vain, for a cheap batch behind dear ones, were earned by these.
+/// was thought to have. So threads that start in vain, for a cheap batch after dear ones, were earned by these.
 pub(crate) fn thought_beside(thought: u64, had: u64) -> u64 {
     let most = thought.saturating_mul(2).max(THREAD_COST / 2);
     had.min(most)

@@ -67,7 +67,7 @@ contains-changed Set bit bits other = has-insert bits bit other ∙ inserted tru
 contains-changed Unset bit bits other = has-remove bits bit other ∙ removed (contains bits other) other bit
 contains-changed Toggle bit bits other = toggled (contains bits bit) bits bit other
 
--- the same set, where each of the 1024 bits is as the change makes it
+-- one bit of the changed set, where each of the 1024 bits is as the change makes it
 both_below : (other bit : ℕ) (new was other_was : Bool) → bit < 1024
     → (other < 1024 → new ≡ (if other == bit then was else other_was))
     → (nat_lt other 1024 && new) ≡ (if other == bit then was else (nat_lt other 1024 && other_was))

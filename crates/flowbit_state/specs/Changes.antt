@@ -8,13 +8,13 @@ use Rattle.std.specs.FinSet.{FinSet, contains, insert, remove}
 use Rattle.rule_types.specs.declared.option.BitChange.{BitChange}
 use Rattle.rule_types.specs.declared.option.BitChange.TheVariants.{Set, Unset, Toggle}
 
--- the set behind a change of a bit
+-- the set after a change of a bit
 abbrev pub changed : BitChange → ℕ → FinSet nat_cmp → FinSet nat_cmp
 changed Set bit bits = insert bits bit
 changed Unset bit bits = remove bits bit
 changed Toggle bit bits = if contains bits bit then remove bits bit else insert bits bit
 
--- whether a bit is set behind its change
+-- whether a bit is set after its change
 abbrev pub bit_after : BitChange → Bool → Bool
 bit_after Set was_set = true
 bit_after Unset was_set = false

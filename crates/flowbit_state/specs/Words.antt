@@ -15,11 +15,11 @@ is_bit word bit = bit_at word bit == 1
 abbrev pub is_set : List ℕ → ℕ → Bool
 is_set words bit = is_bit (slice_index words (bit / 64)) (bit % 64)
 
--- those below the count that are set
+-- the bits below the count that are set
 unfoldable pub set_below : List ℕ → ℕ → FinSet nat_cmp
 set_below words zero = empty
 set_below words (suc bit) = if is_set words bit then insert (set_below words bit) bit else set_below words bit
 
--- those of the 1024 bits that are set
+-- the bits that are set, of the 1024
 unfoldable pub set_in : List ℕ → FinSet nat_cmp
 set_in words = set_below words 1024

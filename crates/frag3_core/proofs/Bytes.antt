@@ -14,11 +14,11 @@ use Rattle.frag3_core.specs.Inside.{byte_count}
 use Rattle.frag3_core.specs.Parts.{IsRoomFor}
 use Rattle.frag3_core.specs.Trackers.{TrackerState, bytes_at, datagram_of}
 
--- a first byte and the bytes behind it
+-- a first byte and the bytes after it
 bytes_at-cons : (byte : ℕ → Option ℕ) (place : ℕ) (later : List ℕ) (first : ℕ) (rest : List ℕ) → byte place ≡ Some first → bytes_at byte later ≡ Some rest → bytes_at byte (place ∷ later) ≡ Some (first ∷ rest)
 bytes_at-cons byte place later first rest here behind = rw (here, behind)
 
--- bytes that stand place by place are the bytes at these places
+-- bytes that are there place by place are the bytes at these places
 pub bytes_at-from_AreBytes : (byte : ℕ → Option ℕ) (low : ℕ) (bytes : List ℕ) → AreBytes byte low bytes → bytes_at byte (range_with_len low (length bytes)) ≡ Some bytes
 bytes_at-from_AreBytes byte low [] are = refl
 bytes_at-from_AreBytes byte low (b ∷ bs) are =
@@ -114,7 +114,7 @@ bytes_at-short preference segments n short = bytes_at-none (chosen_byte preferen
     let covered = count-all (is_covered segments) 0 n (λ k below. sym (chosen_byte-is_some preference segments (0 + k)) ∙ each k below) in
     omega (arith, covered, count-covered segments 0 n))
 
--- the count of bytes with one segment more, where the sum may stand at its type's end
+-- the count of bytes with one segment more, where the sum may be at its type's end
 pub byte_count_push : (segments : List Segment) (new : Segment) (held : ℕ) → min (byte_count segments) (2 ^ 64 - 1) ≤ held → min (byte_count (segments ++ new ∷ [])) (2 ^ 64 - 1) ≤ min (held + length new.bytes) (2 ^ 64 - 1)
 byte_count_push segments new held before = omega (arith, sum_by_push (λ (t : Segment). length t.bytes) segments new)
 

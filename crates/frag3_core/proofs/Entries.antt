@@ -25,7 +25,7 @@ frags_of t = length t.segments
 abbrev HasSome : TrackerState → Type 0
 HasSome t = 0 < length t.segments
 
--- ---- without the first
+-- ---- the trackers without the first
 pub AreTrackers-drop : (ts : Trackers) → AreTrackers ts → AreTrackers (drop 1 ts)
 AreTrackers-drop [] are = are
 AreTrackers-drop (t ∷ ts) are = record {
@@ -46,7 +46,7 @@ length-le (t ∷ ts) are =
     let first : 0 < length t.1.segments = are.some 0 t.1 (omega arith) in
     omega (arith, first, held_count-cons t ts, length-le ts (AreTrackers-drop (t ∷ ts) are))
 
--- ---- without the tracker of a key
+-- ---- the trackers without that of a key
 apart_others : (key : DatagramKey) (P : DatagramKey → Type 0) (ts : Trackers) → AllByRecursion P (keys_of ts) → AllByRecursion P (keys_of (remove_entry (same_key key) ts))
 apart_others key P [] all = all
 apart_others key P (t ∷ ts) all =
@@ -79,7 +79,7 @@ lookup-removed key ts are =
     lookup-remove_entry same_key-equivalence (same_key key) (one_key key) key ts are.apart
     ∙ ap (λ b. cond b None (lookup (same_key key) ts)) (same_key-refl key)
 
--- ---- with one more behind
+-- ---- the trackers with one more after the others
 pub AreTrackers-push : (ts : Trackers) (key : DatagramKey) (t : TrackerState) → AreTrackers ts → lookup (same_key key) ts ≡ None → 0 < length t.segments → AreTrackers (ts ++ (key, t) ∷ [])
 AreTrackers-push ts key t are none some = record {
   some = subst (All HasSome) (sym (map-append (λ e. e.1) ts ((key, t) ∷ []))) (All-push HasSome (values_of ts) t are.some some);
@@ -90,7 +90,7 @@ AreTrackers-push ts key t are none some = record {
 pub held_count-push : (ts : Trackers) (key : DatagramKey) (t : TrackerState) → held_count (ts ++ (key, t) ∷ []) ≡ held_count ts + length t.segments
 held_count-push ts key t = ap (sum_by frags_of) (map-append (λ e. e.1) ts ((key, t) ∷ [])) ∙ sum_by_push frags_of (values_of ts) t
 
--- ---- with another value
+-- ---- the trackers with another value
 pub AreTrackers-set : (key : DatagramKey) (ts : Trackers) (t : TrackerState) → AreTrackers ts → 0 < length t.segments → AreTrackers (set_value (same_key key) ts t)
 AreTrackers-set key ts t are some = record {
   some = All-values-set_value (same_key key) HasSome ts t are.some some;

@@ -1,4 +1,4 @@
--- Laws of the trackers, for the crates that stand on them.
+-- Laws of the trackers, for the crates that build on them.
 use Rattle.std.proofs.Common.{◌≡◌, ℕ, List, [], ◌∷◌, ◌++◌}
 use Rattle.std.proofs.lemmas.List.Sums.{fold-append}
 use Rattle.frag3_core.specs.Trackers.{Fragment, after, state_after}

@@ -101,7 +101,7 @@ settled-set key ts old t (Some bytes) is = remove-set key ts t
 settled-set key ts old t None is =
     demoted-found key (set_value (same_key key) ts t) t (lookup-set key ts old t is) ∙ ap (λ l. l ++ (key, t) ∷ []) (remove-set key ts t)
 
--- ---- a fragment whose tracker stands
+-- ---- a fragment whose tracker is kept
 not_true : (b : Bool) → not b ≡ true → b ≡ false
 not_true true is = cc
 not_true false is = refl
@@ -118,7 +118,7 @@ and_false : (a b : Bool) → (a && b) ≡ false → a ≡ true → b ≡ false
 and_false true b is = λ _. is
 and_false false b is = λ a. cc
 
--- what it is that its tracker stands
+-- what it means that a fragment's tracker is kept
 pub record Stands (most : ℕ) (ts : Trackers) (key : DatagramKey) (moment : ℕ) (t : TrackerState) : Type 0 where
   pub is : lookup (same_key key) ts ≡ Some t
   pub in_time : is_timed_out moment t ≡ false
@@ -145,7 +145,7 @@ found-stands most f ts t are few stand =
     let late : option_map_or (is_timed_out f.moment) (lookup (same_key (key_of f.ip)) ts) false ≡ false = ap (λ o. option_map_or (is_timed_out f.moment) o false) stand.is ∙ stand.in_time in
     ap (λ b. with_room most (cond b (remove_entry (same_key (key_of f.ip)) ts) ts)) late ∙ with_room-roomy most ts are few
 
--- the same cases, of the tracker with one fragment more
+-- the room and the tracker found before, where the tracker has one fragment more
 roomy-set : (most : ℕ) (ts : Trackers) (key : DatagramKey) (moment : ℕ) (t new : TrackerState) → Stands most ts key moment t → length new.segments ≡ length t.segments + 1 →
     (roomy (most + 1) (set_value (same_key key) ts new) ≡ set_value (same_key key) (roomy most ts) new) × (lookup (same_key key) (roomy most ts) ≡ Some t)
 roomy-set most ts key moment t new stand more =
@@ -162,7 +162,7 @@ roomy-set most ts key moment t new stand more =
           )
     ]
 
--- a tracker that stands and grows is the definition's step
+-- a tracker that is kept and grows is the definition's step
 pub takes-grown : (most : ℕ) (f : Fragment) (ts new : Trackers) (bytes : Option (List ℕ)) → AreTrackers ts → held_count ts ≤ most →
     is_kept most ts (key_of f.ip) f.moment ≡ true → Grows most ts (key_of f.ip) f.ip f.part new bytes → Takes most ts f new bytes
 takes-grown most f ts new bytes are few kept grows =
@@ -276,7 +276,7 @@ with_own-held : (key : DatagramKey) (t : TrackerState) (ts : Trackers) (bytes : 
 with_own-held key t ts (Some bytes) = omega arith
 with_own-held key t ts None = omega (arith, held_count-push ts key t)
 
--- at most so many fragments are held after any
+-- at most `most` fragments are held after any
 pub held_count-after : (most : ℕ) (f : Fragment) (ts : Trackers) → 0 < most → held_count (trackers_after (record { max_frags = most; trackers = ts }) f) ≤ most
 held_count-after most f ts some =
     let key = key_of f.ip in

@@ -12,7 +12,7 @@ abbrev pub byte_count : List Segment → ℕ
 byte_count segments = sum_by (λ (s : Segment). length s.bytes) segments
 
 -- the queue begins at place 0 and has no room, and the counts are those of its segments; that of the
--- bytes may stand at its type's end; a length is that of a datagram
+-- bytes may be at its type's end; a length is that of a datagram
 pub record IsTracker (tracker : TrackerInside) : Type 0 where
   pub floor : tracker.queue.floor ≡ 0
   pub frags : tracker.frags ≡ length tracker.queue.segments

@@ -33,7 +33,7 @@ abbrev pub is_first : DatagramKey → Trackers → Bool
 is_first key [] = false
 is_first key (first ∷ later) = same_key key first.0
 
--- the fragment of this key and moment joins a tracker that stands: one that has not timed out, and that
+-- the fragment of this key and moment joins a tracker that is kept: one that has not timed out, and that
 -- is not dropped for the room of this fragment
 abbrev pub is_kept : ℕ → Trackers → DatagramKey → ℕ → Bool
 is_kept most trackers key moment =
@@ -47,22 +47,22 @@ abbrev pub Adds : Trackers → DatagramKey → IpHead → List ℕ → Trackers 
 Adds old key ip part new bytes = (t : TrackerState) → lookup (same_key key) old ≡ Some t
     → (new ≡ set_value (same_key key) old (joined ip part t)) × (bytes ≡ datagram_of (joined ip part t))
 
--- without the first tracker, where there are as many fragments as the limit
+-- the trackers without the first, where there are as many fragments as the limit
 abbrev pub roomy : ℕ → Trackers → Trackers
 roomy limit trackers = if nat_le limit (held_count trackers) then drop 1 trackers else trackers
 
--- without the tracker of this key where its datagram is whole, else with it last
+-- the trackers without that of this key where its datagram is whole, else with it last
 abbrev pub settled : DatagramKey → Bool → Trackers → Trackers
 settled key whole trackers = if whole then remove_entry (same_key key) trackers else demoted (same_key key) trackers
 
--- a tracker that stands takes a fragment, with room for it
+-- a tracker that is kept takes a fragment, with room for it
 abbrev pub Grows : ℕ → Trackers → DatagramKey → IpHead → List ℕ → Trackers → Option (List ℕ) → Type 0
 Grows most old key ip part new bytes = (t : TrackerState) → lookup (same_key key) old ≡ Some t
     → (new ≡ settled key (is_some (datagram_of (joined ip part t)))
     (roomy (most + 1) (set_value (same_key key) old (joined ip part t))))
     × (bytes ≡ datagram_of (joined ip part t))
 
--- a tracker that a fragment began stands last, with room for it, in the stead of any that has its key
+-- a tracker that a fragment began comes last, with room for it, in the place of any that has its key
 abbrev pub placed : ℕ → DatagramKey → TrackerState → Bool → Trackers → Trackers
 placed most key t whole trackers =
     if whole then roomy most (remove_entry (same_key key) trackers)

@@ -1,7 +1,7 @@
 -- How fragments are put together: trackers, and the datagram that a fragment makes whole.
 --
 -- A tracker gathers the fragments of one datagram (RFC 791 section 3.2: source, destination,
--- identification and protocol say which). Trackers stand in a list by their last fragments, the
+-- identification and protocol say which). Trackers are in a list by their last fragments, the
 -- earliest first. An accepted fragment does this, in order: its own tracker is dropped if it has
 -- timed out; while one fragment more would be more than the most that may be held, the first
 -- tracker is dropped, the fragment's own one included; the fragment joins its tracker, or begins
@@ -43,7 +43,7 @@ fragment ip part moment rules = record { ip = ip; part = part; moment = moment.n
 abbrev pub start_of : IpHead → ℕ
 start_of ip = 8 * ip.offset
 
--- the place behind its last byte
+-- the place after the fragment's last byte
 abbrev pub end_of : IpHead → List ℕ → ℕ
 end_of ip part = start_of ip + length part
 
@@ -92,7 +92,7 @@ held_count trackers = sum_by (λ (t : TrackerState). length t.segments) (values_
 abbrev pub is_timed_out : ℕ → TrackerState → Bool
 is_timed_out moment t = nat_lt (t.first + t.timeout * 1000000000) moment
 
--- without the fragment's own tracker, if that has timed out
+-- the trackers without the fragment's own, if that has timed out
 abbrev pub in_time : Fragment → Trackers → Trackers
 in_time f trackers =
     if option_map_or (is_timed_out f.moment) (tracker_of (key_of f.ip) trackers) false then without (key_of f.ip) trackers
@@ -136,11 +136,11 @@ pub record Frag3State : Type 0 where
 abbrev pub found : Frag3State → Fragment → Trackers
 found frag3 f = with_room frag3.max_frags (in_time f frag3.trackers)
 
--- its own tracker once it has joined
+-- the fragment's own tracker once it has joined
 abbrev pub own : Frag3State → Fragment → TrackerState
 own frag3 f = joined f.ip f.part (unwrap_or (tracker_of (key_of f.ip) (found frag3 f)) (begun f.moment f.rules))
 
--- the other trackers
+-- the trackers of other keys
 abbrev pub others : Frag3State → Fragment → Trackers
 others frag3 f = without (key_of f.ip) (found frag3 f)
 
@@ -162,10 +162,10 @@ taken frag3 f = option_map_or IgnoredFor (ignored f.ip f.part f.rules) (answer_o
 abbrev pub trackers_after : Frag3State → Fragment → Trackers
 trackers_after frag3 f = with_own (key_of f.ip) (own frag3 f) (others frag3 f) (datagram_of (own frag3 f))
 
--- what stands afterwards
+-- the state after a fragment
 unfoldable pub after : Frag3State → Fragment → Frag3State
 after frag3 f = option_map_or (λ _. frag3) (ignored f.ip f.part f.rules) (record frag3 { trackers = trackers_after frag3 f })
 
--- what stands after these fragments, where at most so many may be held
+-- the state after these fragments, where at most `most` may be held
 unfoldable pub state_after : ℕ → List Fragment → Frag3State
 state_after most fragments = fold after (record { max_frags = most; trackers = [] }) fragments

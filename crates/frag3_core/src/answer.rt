@@ -14,26 +14,26 @@ pub struct FragRules {
 /// Why a fragment is ignored: the first of these reasons, in the order Ttl, Empty, Reach.
 #[derive(Clone, Copy, Debug, PartialEq, Eq)]
 pub enum Ignored {
-    /// Its time to live is below the least one.
+    /// The fragment's time to live is below the least one.
     Ttl,
-    /// It ends behind place 65535, the longest that a datagram may be.
+    /// The fragment ends after place 65535, the longest that a datagram may be.
     Reach,
-    /// It has no byte.
+    /// The fragment has no byte.
     Empty,
 }
 
 /// What became of a fragment.
 #[derive(Debug, Drop)]
 pub enum Taken {
-    /// It was kept, and its datagram isn't whole.
+    /// The fragment was kept, and its datagram isn't whole.
     Held,
     Ignored(Ignored),
-    /// It made its datagram whole.
+    /// The fragment made its datagram whole.
     Whole(Datagram),
 }
 
 /// A whole datagram: the header of the fragment that completed it, with offset 0 and without
-/// more-fragments, and its bytes behind the header.
+/// more-fragments, and its bytes after the header.
 #[derive(Debug, Drop)]
 pub struct Datagram {
     pub ip: IpHead,

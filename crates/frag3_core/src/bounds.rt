@@ -6,8 +6,8 @@ ghost use Rattle.overlap_core.specs.Overlap.{covered_end};
 ghost use Rattle.frag3_core.specs.Held.{held_bytes, longest};
 ghost use Rattle.frag3_core.specs.Trackers.{Fragment, held_count, state_after, TrackerState};
 
-/// Where at most `most` fragments may be held, at most so many wait after whatever fragments came (`fragments`), of as
-/// many datagrams at most (`datagrams`). None of a datagram ends behind place 65535, so no more than 65,535 of its places
+/// Where at most `most` fragments may be held, at most `most` wait after whatever fragments came (`fragments`), of as
+/// many datagrams at most (`datagrams`). None of a datagram ends after place 65535, so no more than 65,535 of its places
 /// have a byte (`places`); and all fragments that wait have together at most `most` times 65,535 bytes (`bytes`).
 pub fn held_fragments_are_few()
     ensures fragments { (most : ℕ) (fragments : List Fragment) → 0 < most

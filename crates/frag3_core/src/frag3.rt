@@ -39,7 +39,7 @@ impl Model for Frag3 {
 }
 
 impl Frag3 {
-    /// No tracker, where at most so many fragments may be held. Takes no memory.
+    /// No tracker, where at most `max_frags` fragments may be held. Takes no memory.
     pub fn new(alloc: Global, max_frags: u32) -> Frag3
         requires { 0 < max_frags }
         ensures { result ≡ record { max_frags = max_frags; trackers = [] } }
@@ -51,10 +51,10 @@ impl Frag3 {
         }
     }
 
-    /// Takes a fragment, `part` of its datagram behind this header, that came at the moment.
+    /// Takes a fragment, `part` of its datagram after this header, that came at the moment.
     ///
     /// It is ignored where its time to live is below `rules.min_ttl`; else where `part` is empty;
-    /// else where it ends behind place 65535. Any other one joins the tracker of its datagram, or
+    /// else where it ends after place 65535. Any other one joins the tracker of its datagram, or
     /// begins one with these rules. `Whole` comes exactly where the tracker's length is known and
     /// each place below it has a byte. Without memory nothing changes.
     #[tactic(auto, unfolding(crate::specs::Trackers::taken, crate::specs::Trackers::after))]

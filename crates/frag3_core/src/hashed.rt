@@ -1,4 +1,4 @@
-//! What of a key is hashed: its numbers one behind the other, in few writes of whole words.
+//! What of a key is hashed: its numbers one after the other, in few writes of whole words.
 //!
 //! A hasher spends about as much on a write of one byte as on a word of 8. No answer depends on a hash.
 ghost use Rattle.std.specs.Prelude.{◌≡◌};

@@ -3,9 +3,9 @@
 //! A `Frag3` takes the fragments of all datagrams one by one, and answers the datagram that a
 //! fragment makes whole. Its meaning is `after` and `taken` of specs/Trackers: a list of trackers,
 //! one a datagram, each with its fragments whole, in order of arrival; which byte a place has is
-//! the overlap table's choice. Here the trackers stand in a cache that finds one by its key and
+//! the overlap table's choice. Here the trackers are in a cache that finds one by its key and
 //! drops the earliest without a walk, and a tracker's fragments in a queue of `overlap_core`.
-//! The detector's front stands on it: each datagram that it gives is decoded and inspected.
+//! The detector's front builds on it: each datagram that it gives is decoded and inspected.
 #![tactic(auto)]
 
 mod answer;

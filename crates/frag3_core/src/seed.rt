@@ -9,7 +9,7 @@ use std::hash::{BuildHasher, DefaultHasher, Hash, Hasher};
 /// another sender can't tell. So who sends fragments can't choose keys that have one hash. No contract speaks
 /// of it, since no answer depends on a hash.
 ///
-/// The hasher has taken whole words of 8 bytes: behind a part of a word it takes a key byte by byte.
+/// The hasher has taken whole words of 8 bytes: after a part of a word it takes a key byte by byte.
 #[derive(Clone, Copy)]
 pub struct Seed {
     initial: DefaultHasher,

@@ -19,7 +19,7 @@ pub(crate) struct Tracker {
     queue: Queue,
     timeout: u32,
     first: Moment,
-    /// The place behind the datagram's last byte, once it is known.
+    /// The place after the datagram's last byte, once it is known.
     end: Option<u64>,
     /// How many fragments the queue holds.
     frags: u64,
@@ -111,7 +111,7 @@ impl Model for Room {
 }
 
 impl Room {
-    /// Memory for so many bytes.
+    /// Memory for `len` bytes.
     fn new(alloc: Global, len: usize) -> Result<Room, NoMemory>
         ensures { IfOk result (λ room. room ≡ len) }
     {
@@ -141,7 +141,7 @@ fn whole_bytes(queue: &Queue, room: Option<Room>) -> Option<Text>
     filled(queue, room?)
 }
 
-/// The same, with room.
+/// The bytes from place 0 on, as many as there is room for, if each place has one.
 fn filled(queue: &Queue, room: Room) -> Option<Text>
     requires { queue.now.floor ≡ 0 }
     ensures { result ≡ first_bytes queue.now room }

@@ -50,7 +50,7 @@ impl TrackerCache {
         })
     }
 
-    /// Whether the fragment of this key joins a tracker that stands: one that has not timed out,
+    /// Whether the fragment of this key joins a tracker that is kept: one that has not timed out,
     /// and that is not dropped for the room of this fragment.
     fn keeps(&self, most: u64, key: &DatagramKey, moment: Moment) -> bool
         ensures value { result ≡ is_kept most self.now key.now moment.nanos }
@@ -156,9 +156,9 @@ impl TrackerCache {
         }
     }
 
-    /// Adds a fragment to the tracker of this key, which stands, with room for it; gives the bytes
+    /// Adds a fragment to the tracker of this key, which is kept, with room for it; gives the bytes
     /// of its datagram where it is whole now. Without memory nothing changes.
-    // With `begin` kept apart, since the moves of the one else stand in the line of the other.
+    // With `begin` kept apart, since the moves of the one are else in the line of the other.
     #[inline(never)]
     fn grow(
         &mut self,

@@ -161,7 +161,7 @@ compares cmp.Ge number low high = nat_le low number
 compares cmp.And number low high = not (bit_and number low == 0)
 compares cmp.Within number low high = nat_le low number && nat_le number high
 
--- the same of a number that may lack
+-- a number that may lack, against another, or against two ends which are inside
 abbrev pub value_compares : Option ℕ → Cmp → ℕ → ℕ → Bool
 value_compares None cmp low high = false
 value_compares (Some number) cmp low high = compares cmp number low high
@@ -197,7 +197,7 @@ agrees None fact = true
 agrees (Some true) fact = fact
 agrees (Some false) fact = not fact
 
--- the same of a fact that may not be known
+-- what is asked of a fact that may not be known, if anything is
 abbrev pub agrees_known : Option Bool → Option Bool → Bool
 agrees_known None fact = true
 agrees_known asked None = false

@@ -32,7 +32,7 @@ fn itype(body: &Body) -> Option<u64>
     }
 }
 
-/// Its code.
+/// The code of an ICMP packet.
 fn icode(body: &Body) -> Option<u64>
     ensures { result ≡ icode body.now }
 {
@@ -42,7 +42,7 @@ fn icode(body: &Body) -> Option<u64>
     }
 }
 
-/// Its identifier.
+/// The identifier of an ICMP packet.
 fn icmp_id(body: &Body) -> Option<u64>
     ensures { result ≡ icmp_id body.now }
 {
@@ -52,7 +52,7 @@ fn icmp_id(body: &Body) -> Option<u64>
     }
 }
 
-/// Its sequence number.
+/// The sequence number of an ICMP packet.
 fn icmp_seq(body: &Body) -> Option<u64>
     ensures { result ≡ icmp_seq body.now }
 {

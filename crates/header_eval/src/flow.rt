@@ -16,7 +16,7 @@ fn agrees(asked: Option<bool>, fact: bool) -> bool
     }
 }
 
-/// The same of a fact that may not be known.
+/// What is asked of a fact that may not be known, if anything is.
 fn agrees_known(asked: Option<bool>, fact: Option<bool>) -> bool
     ensures { result ≡ agrees_known asked fact }
 {

@@ -3,7 +3,7 @@
 //! `header_matches` and `field_matches` meet the definitions of `specs/Fields`, for every rule, option
 //! and item. A field has a number, or an item lacks it; one comparison serves all fields. Neither call
 //! takes memory. The payload's options and the bits of a session are tested elsewhere; the lanes that
-//! try rules on items stand on this crate. The types of items are handed on under their names.
+//! try rules on items build on this crate. The types of items are handed on under their names.
 #![tactic(auto)]
 
 mod compare;

@@ -39,9 +39,9 @@ length-marked net sound = omega (arith, sound.0, bits_of-le net.first) where
   bits_of-le (V4 value) = omega arith
   bits_of-le (V6 value) = omega arith
 
--- an entry behind the others
+-- an entry after the others
 module _ (entries : List HostLine) (entry : HostLine) where
-  -- is at its own network
+  -- an entry after the others is found at its own network
   place-own : (net : Network) → same_network entry.network net ≡ true → place_of entries entry.network ≡ None → place_of (entries ++ entry ∷ []) net ≡ Some (length entries)
   unfolding place_of
   place-own net is new =
@@ -49,7 +49,7 @@ module _ (entries : List HostLine) (entry : HostLine) where
       let none : position_from (has net) 0 entries ≡ None = ap (λ (n : Network). position_from (has n) 0 entries) (sym same) ∙ new in
       place-push_first (has net) 0 entries entry none is ∙ ap Some (omega arith)
 
-  -- and at no other
+  -- an entry after the others changes no other network's place
   place-other : (net : Network) → same_network entry.network net ≡ false → place_of (entries ++ entry ∷ []) net ≡ place_of entries net
   unfolding place_of
   place-other net is = place-push_other (has net) 0 entries entry is
@@ -76,7 +76,7 @@ module _ (entries : List HostLine) (entry : HostLine) where
     by_mark net fails false is =
         place-other net is ∙ indexed.marked net (sym (get_or-set_other lengths entry.network.length net.length true false (λ same. apart net fails (sym same))) ∙ fails)
 
--- one has the network where the map has its place
+-- an entry has the network where the map has its place
 pub is_given-indexed : (entries : List HostLine) (places : BTreeMap Key ℕ) (lengths : List Bool) → IsIndexed entries places lengths → (net : Network) → is_some (get key_cmp places (key_of net)) ≡ is_given entries net
 unfolding place_of is_given
 is_given-indexed entries places lengths indexed net = ap is_some (indexed.found net) ∙ sym (any-place (has net) 0 entries)

@@ -106,7 +106,7 @@ nothing_below [] addr zero is = refl
 nothing_below [] addr (suc n) is = nothing_below [] addr n refl
 nothing_below (e ∷ es) addr n is = cc
 
--- the entry in front, if it has the address, beside what is found behind it
+-- the entry in front, if it has the address, beside what is found after it
 front : (entry : HostLine) (rest : Option HostLine) (has : Bool) (n : ℕ) → (has ≡ true → length_of entry < n) → cond has (Some (longer entry rest)) rest ≡ cond (has && ltb (length_of entry) n) (Some (longer entry rest)) rest
 front entry rest true n bound = let lt : length_of entry < n = bound refl in grind (arith, nat_tests)
 front entry rest false n bound = refl

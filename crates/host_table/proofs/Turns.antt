@@ -31,7 +31,7 @@ module _ (entries : List HostLine) (number : ℕ) (line : List ℕ) (rest : List
   unfolding numbered_lines
   hosts_behind-skipped none = ap (λ b. hosts_behind entries (cond b (numbered number (trimmed line) ∷ later) later)) none
 
-  -- one with content gives an entry or a refusal
+  -- a line with content gives an entry or a refusal
   pub hosts_behind-read : has_content (trimmed line) ≡ true → hosts_behind entries (kept (numbered_lines number (line ∷ rest))) ≡ (host_line entries (numbered number (trimmed line)) >>= (λ entry. hosts_behind (entries ++ entry ∷ []) (kept (numbered_lines (number + 1) rest))))
   unfolding numbered_lines hosts_behind
   hosts_behind-read some = ap (λ b. hosts_behind entries (cond b (numbered number (trimmed line) ∷ later) later)) some

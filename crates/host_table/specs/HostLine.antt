@@ -1,12 +1,12 @@
 -- One line of a host table: `address FRAG STREAM`, of which the address may have a prefix length, as
 -- `10.0.0.0/8`, and each policy is a name or `-` for none.
 --
--- It gives an entry behind those before it, or is refused: as given twice where one of those has the same
--- version, prefix length and address bits, and else as a bad line. A table has 65536 entries; each line behind
--- them is bad, whatever it holds. (The form of the table is our own. It stands in place of Snort's host attribute
+-- It gives an entry after those before it, or is refused: as given twice where one of those has the same
+-- version, prefix length and address bits, and else as a bad line. A table has 65536 entries; each line after
+-- them is bad, whatever it holds. (The form of the table is our own. It takes the place of Snort's host attribute
 -- table, Snort Users Manual 2.9, section 2.7; policies as in sections 2.2.1 and 2.2.3.)
 -- To try it on: `10.1.2.3/8 last -` is the network 10.0.0.0 of 8 bits with the fragment policy last and no
--- stream policy; behind it `10.0.0.0/8 - linux` is given twice, and `10.0.0.0/9 - linux` is not.
+-- stream policy; after it `10.0.0.0/8 - linux` is given twice, and `10.0.0.0/9 - linux` is not.
 use Rattle.std.specs.Prelude.{ℕ, ◌==◌, ◌&&◌, Bool, Option, Some, None, Result, Ok, Err, List, [], ◌∷◌, length, codes, bytes_eq, nat_lt, if◌then◌else◌}
 use Rattle.std.specs.List.{list_any}
 use Rattle.std.specs.Option.{option_map}
@@ -21,7 +21,7 @@ use Rattle.host_table.specs.declared.host_line.HostLine.{HostLine}
 use Rattle.net_lists.specs.declared.lines.Numbered.{Numbered}
 use Rattle.edge_io.specs.Policies.{frag_policy, stream_policy}
 
--- the same version, prefix length and address bits
+-- two networks have the same version, prefix length and address bits
 unfoldable pub same_network : Network → Network → Bool
 same_network a b = a.length == b.length && same_addr a.first b.first
 
@@ -53,11 +53,11 @@ entry_of_words (address ∷ frag ∷ stream ∷ more ∷ rest) = None
 abbrev pub most_entries : ℕ
 most_entries = 65536
 
--- an entry is taken behind others that lack its network
+-- an entry is taken after others that lack its network
 unfoldable pub taken : List HostLine → ℕ → HostLine → Result HostLine HostFault
 taken before number entry = if is_given before entry.network then Err (Twice number) else Ok entry
 
--- what a line gives behind the entries before it
+-- what a line gives after the entries before it
 unfoldable pub host_line : List HostLine → Numbered → Result HostLine HostFault
 host_line before line =
     if nat_lt (length before) most_entries

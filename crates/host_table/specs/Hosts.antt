@@ -19,7 +19,7 @@ use Rattle.net_lists.specs.declared.lines.Numbered.{Numbered}
 use Rattle.host_table.specs.Lines.{content_lines}
 use Rattle.host_table.specs.HostLine.{same_network, host_line}
 
--- the entries behind these lines, or the refusal of the first line that is refused
+-- the entries after these lines, or the refusal of the first line that is refused
 unfoldable pub hosts_behind : List HostLine → List Numbered → Result (List HostLine) HostFault
 hosts_behind entries [] = Ok entries
 hosts_behind entries (line ∷ rest) = host_line entries line >>= (λ entry. hosts_behind (entries ++ entry ∷ []) rest)

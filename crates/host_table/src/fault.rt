@@ -6,10 +6,10 @@ use thiserror::Error;
 /// Why a host table is refused. Lines are counted from 1.
 #[derive(Clone, Copy, Debug, PartialEq, Eq, Error)]
 pub enum HostFault {
-    /// The line is no address and two policies, or 65536 entries stand before it.
+    /// The line is no address and two policies, or 65536 entries come before it.
     #[error("line {line}: bad host line")]
     BadLine { line: u32 },
-    /// The line's network stands in a line before it.
+    /// The line's network is in a line before it.
     #[error("line {line}: host given twice")]
     Twice { line: u32 },
     /// Memory ran out.

@@ -14,7 +14,7 @@ pub struct HostLine {
     pub network: Network,
     /// How these hosts put fragments together, if the line says so.
     pub frag: Option<FragPolicy>,
-    /// How they put segments together, if the line says so.
+    /// How these hosts put segments together, if the line says so.
     pub stream: Option<StreamPolicy>,
 }
 

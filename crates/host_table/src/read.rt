@@ -17,7 +17,7 @@ pub const LONGEST_TABLE: usize = 16_777_216;
 /// The most entries of a table.
 const MOST_ENTRIES: usize = 65_536;
 
-/// The entry that a line gives behind those before it.
+/// The entry that a line gives after those before it.
 #[tactic(auto, unfolding(crate::specs::HostLine::host_line, crate::specs::HostLine::taken))]
 fn entry_behind(hosts: &Hosts, number: u32, line: &[u8]) -> Result<HostLine, HostFault>
     ensures entry { result ≡ host_line hosts.now (numbered number line.now) }

@@ -11,14 +11,14 @@ use Rattle.ipv6_decode.specs.declared.walk.Walk.{Walk}
 use Rattle.ipv6_decode.specs.Headers.{has_length_field, is_at_header, behind_length_field, behind_header, walk_end}
 use Rattle.ipv6_decode.proofs.Walks.{ended, too_many, over}
 
--- an extension header with a length field: its number, its length field, and what it holds behind
+-- an extension header with a length field: its number, its length field, and what it holds after
 -- it
 pub record Extension : Type 0 where
   pub number : ℕ
   pub units : ℕ
   pub content : List ℕ
 
--- it is one of the three kinds, and has 8 bytes for each unit beside the first 8
+-- the extension is one of the three kinds, and has 8 bytes for each unit beside the first 8
 pub record IsExtension (header : Extension) : Type 0 where
   pub number : has_length_field header.number ≡ true
   pub size : length header.content ≡ 6 + 8 * header.units
@@ -32,16 +32,16 @@ abbrev pub first_number : List Extension → ℕ → ℕ
 first_number [] next = next
 first_number (header ∷ headers) next = header.number
 
--- the bytes of a header, behind which stands what this number names
+-- the bytes of a header, after which comes what this number names
 abbrev pub header_bytes : Extension → ℕ → List ℕ
 header_bytes header next = next ∷ header.units ∷ header.content
 
--- the bytes of a chain, behind which stands what this number names
+-- the bytes of a chain, after which comes what this number names
 abbrev pub chain_bytes : List Extension → ℕ → List ℕ
 chain_bytes [] next = []
 chain_bytes (header ∷ headers) next = header_bytes header (first_number headers next) ++ chain_bytes headers next
 
--- a walk that stands behind some bytes, before what the number names
+-- a walk that is after some bytes, before what the number names
 abbrev pub walk_behind : IpHead → ℕ → List ℕ → Walk
 walk_behind head next before = record { head = record head { protocol = next }; place = length before; is_part = false }
 
@@ -49,7 +49,7 @@ walk_behind head next before = record { head = record head { protocol = next }; 
 not_fragment : (number : ℕ) → has_length_field number ≡ true → (number == 44) ≡ false
 not_fragment number is = grind (arith, nat_tests)
 
--- such a header stands where the head names it
+-- where a head names a header with a length field, such a header is at the place
 there : (head : IpHead) (number : ℕ) (before : List ℕ) → has_length_field number ≡ true → is_at_header (walk_behind head number before) ≡ true
 there head number before is = rw is refl
 
@@ -81,7 +81,7 @@ over_first head header headers left next before behind good =
     ∙ over left walk beyond (before ++ (here ++ (later ++ behind))) (there head header.number before good.number) (over_one head header (first_number headers next) before (later ++ behind) good)
     ∙ ap (λ (bytes : List ℕ). walk_end left beyond bytes) (sym (append_assoc before here (later ++ behind)))
 
--- a chain of at most so many headers is gone over whole, up to what is no extension header
+-- a chain of at most `left` headers is gone over whole, up to what is no extension header
 pub walk_end-chain : (headers : List Extension) (left : ℕ) (head : IpHead) (next : ℕ) (before behind : List ℕ) → AreExtensions headers → length headers ≤ left → (has_length_field next || next == 44) ≡ false
     → walk_end left (walk_behind head (first_number headers next) before) (before ++ (chain_bytes headers next ++ behind)) ≡ Ok (walk_behind head next (before ++ chain_bytes headers next))
 walk_end-chain [] left head next before behind good few last =

@@ -5,18 +5,18 @@ use Rattle.packet_decode.specs.declared.skip.Skip.TheVariants.{Malformed}
 use Rattle.ipv6_decode.specs.declared.walk.Walk.{Walk}
 use Rattle.ipv6_decode.specs.Headers.{is_at_header, behind_header, walk_end}
 
--- where no header stands, the walk ends
+-- where there is no header, the walk ends
 pub ended : (left : ℕ) (walk : Walk) (bytes : List ℕ) → is_at_header walk ≡ false → walk_end left walk bytes ≡ Ok walk
 unfolding walk_end
 ended zero walk bytes none = rw none refl
 ended (suc left) walk bytes none = rw none refl
 
--- where a header stands that is one too many
+-- where there is a header that is one too many
 pub too_many : (walk : Walk) (bytes : List ℕ) → is_at_header walk ≡ true → walk_end 0 walk bytes ≡ Err Malformed
 unfolding walk_end
 too_many walk bytes there = rw there refl
 
--- where a header stands, the walk goes on behind it
+-- where there is a header, the walk goes on after it
 pub over : (left : ℕ) (walk next : Walk) (bytes : List ℕ) → is_at_header walk ≡ true → behind_header walk bytes ≡ Ok next → walk_end (suc left) walk bytes ≡ walk_end left next bytes
 unfolding walk_end
 over left walk next bytes there step = rw (there, step) refl

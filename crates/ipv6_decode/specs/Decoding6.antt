@@ -25,7 +25,7 @@ use Rattle.packet_decode.specs.Decoding.{Fields, link_start, transport_at}
 use Rattle.ipv6_decode.specs.declared.walk.Walk.{Walk}
 use Rattle.ipv6_decode.specs.Headers.{packet_stop, head_at, most_headers, walk_end}
 
--- what stands at the end of a walk and is no part of a datagram: the transport header and its data,
+-- what is at the end of a walk and is no part of a datagram: the transport header and its data,
 -- up to the end of the packet
 abbrev pub upper_at : Walk → List ℕ → Checks → Result Fields Skip
 upper_at walk packet checks = transport_at walk.head packet walk.place (length packet) checks
@@ -35,7 +35,7 @@ unfoldable pub walk_start : List ℕ → ℕ → Walk
 walk_start packet start = record { head = head_at packet start; place = start + 40; is_part = false }
 
 -- What a packet says, with which the bytes end, and whose walk ended so. A part of a datagram has
--- no transport header of its own: all bytes behind the fragment header are the part.
+-- no transport header of its own: all bytes after the fragment header are the part.
 unfoldable pub packet_behind : Walk → List ℕ → Checks → Result Fields Skip
 packet_behind walk packet checks =
     if walk.is_part
@@ -47,7 +47,7 @@ unfoldable pub packet_at : List ℕ → ℕ → Checks → Result Fields Skip
 packet_at packet start checks =
     walk_end most_headers (walk_start packet start) packet >>= (λ walk. packet_behind walk packet checks)
 
--- what a captured record says: bytes behind the payload are no part of the packet
+-- what a captured record says: bytes after the payload are no part of the packet
 unfoldable pub decoded6 : Link → List ℕ → Checks → Result Fields Skip
 decoded6 link bytes checks = do
   start ← link_start Six link bytes

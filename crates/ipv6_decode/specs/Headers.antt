@@ -4,7 +4,7 @@
 -- hop-by-hop options, 4.4 routing, 4.5 fragment, 4.6 destination options.
 -- To try it on: 60 00 00 00 00 10 2c 40, two addresses of 16 bytes, 11 00 00 01 00 00 00 07 and
 -- eight bytes more is a packet of 56 bytes whose one extension header, of next header 44, says that
--- a part of the UDP datagram 7 stands from place 48 on: its start, and more is to come.
+-- a part of the UDP datagram 7 begins at place 48: its start, and more is to come.
 use Rattle.std.specs.Prelude.{ℕ, zero, suc, ◌+◌, ◌*◌, ◌/◌, ◌%◌, List, length, Bool, false, not, ◌&&◌, ◌||◌, Result, Ok, Err, nat_lt, ◌==◌, if◌then◌else◌}
 use Rattle.byteorder.specs.Endian.{big_from}
 use Rattle.edge_io.specs.Bytes.{byte_at, be16, be32}
@@ -20,8 +20,8 @@ use Rattle.ipv6_decode.specs.declared.walk.Walk.{Walk}
 unfoldable pub be128 : List ℕ → ℕ → ℕ
 be128 bytes place = big_from place 16 bytes
 
--- Where the packet at `start` stops: behind the header, which has 40 bytes, and the payload, whose
--- length stands at 4 (RFC 8200, section 3).
+-- Where the packet at `start` stops: after the header, which has 40 bytes, and the payload, whose
+-- length is at 4 (RFC 8200, section 3).
 unfoldable pub packet_stop : List ℕ → ℕ → Result ℕ Skip
 packet_stop bytes start =
     if nat_lt (length bytes) (start + 40) then Err Short
@@ -52,12 +52,12 @@ head_at bytes start =
 abbrev pub has_length_field : ℕ → Bool
 has_length_field next = next == 0 || next == 43 || next == 60
 
--- an extension header stands at the place: one of those, or a fragment header
+-- an extension header is at the place: one of those, or a fragment header
 abbrev pub is_at_header : Walk → Bool
 is_at_header walk = not walk.is_part && (has_length_field walk.head.protocol || walk.head.protocol == 44)
 
--- Behind a header with a length field: its first byte is the next header, and its second one counts
--- the units of 8 bytes behind the first 8 (RFC 8200, sections 4.3, 4.4 and 4.6).
+-- The walk after a header with a length field: its first byte is the next header, and its second one counts
+-- the units of 8 bytes after the first 8 (RFC 8200, sections 4.3, 4.4 and 4.6).
 unfoldable pub behind_length_field : Walk → List ℕ → Result Walk Skip
 behind_length_field walk bytes =
     if nat_lt (length bytes) (walk.place + 2) then Err Malformed
@@ -68,7 +68,7 @@ behind_length_field walk bytes =
 
 -- The head with what the fragment header at a place says: its first byte is the next header, the
 -- word at 2 has 13 bits of offset, 2 reserved bits and the bit for more fragments, and the
--- identification stands at 4 (RFC 8200, section 4.5).
+-- identification is at 4 (RFC 8200, section 4.5).
 unfoldable pub fragment_head : IpHead → List ℕ → ℕ → IpHead
 fragment_head head bytes place =
     record head {
@@ -78,7 +78,7 @@ fragment_head head bytes place =
       offset = be16 bytes (place + 2) / 8;
     }
 
--- Behind a fragment header, which has 8 bytes: a part of a datagram, unless it begins at 0 with no
+-- The walk after a fragment header, which has 8 bytes: a part of a datagram, unless it begins at 0 with no
 -- more to come (RFC 6946, section 2).
 unfoldable pub behind_fragment_header : Walk → List ℕ → Result Walk Skip
 behind_fragment_header walk bytes =
@@ -86,7 +86,7 @@ behind_fragment_header walk bytes =
     else (let head = fragment_head walk.head bytes walk.place in
     Ok (record { head = head; place = walk.place + 8; is_part = is_fragment head }))
 
--- behind the extension header at the place
+-- the walk after the extension header at the place
 unfoldable pub behind_header : Walk → List ℕ → Result Walk Skip
 behind_header walk bytes =
     if walk.head.protocol == 44 then behind_fragment_header walk bytes else behind_length_field walk bytes
@@ -95,7 +95,7 @@ behind_header walk bytes =
 abbrev pub most_headers : ℕ
 most_headers = 8
 
--- Where the walk ends that goes over at most so many extension headers: at a part of a datagram, or
+-- Where the walk ends that goes over at most `left` extension headers: at a part of a datagram, or
 -- at what is no extension header. A header more than that is one too many. The laws
 -- `walk_end-chain` and `walk_end-long_chain` of proofs/Chains say what that is for whole chains as
 -- a sender writes them.

@@ -70,8 +70,8 @@ fn packet_at<'a>(packet: &'a [u8], start: usize, checks: Checks) -> Result<Packe
 ///
 /// `bytes` are all that was captured, and the payload is lent from them; it ends with the packet.
 /// The first step that fails decides. `Skip::Short` says that captured bytes are missing, up to the
-/// payload length; `Skip::OtherProtocol` that this is no IPv6, or stands behind more than two tags;
-/// `Skip::Malformed` that the version isn't 6, that an extension header ends behind the packet,
+/// payload length; `Skip::OtherProtocol` that this is no IPv6, or comes after more than two tags;
+/// `Skip::Malformed` that the version isn't 6, that an extension header ends after the packet,
 /// that there are more than eight of them, or that the transport header doesn't fit;
 /// `Skip::Checksum` that a checksum which `checks` asks for is wrong. A UDP checksum of 0 is none.
 /// Takes no memory.
@@ -90,7 +90,7 @@ pub fn decode6<'a>(link: Link, bytes: &'a [u8], checks: Checks) -> Result<Packet
 ///
 /// `bytes` are all that follows the header, and the payload is lent from them. The head comes back
 /// with the protocol of the transport header, and with the identification of a fragment header, if
-/// there is one. `Skip::Malformed` says that an extension header ends behind the bytes, that there
+/// there is one. `Skip::Malformed` says that an extension header ends after the bytes, that there
 /// are more than eight, that one of them makes the datagram a part of another, or that the
 /// transport header doesn't fit; `Skip::Checksum` that a checksum which `checks` asks for is wrong.
 /// Takes no memory.

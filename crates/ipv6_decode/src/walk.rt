@@ -24,13 +24,13 @@ const MORE_FRAGMENTS: u16 = 1;
 /// How many extension headers are walked.
 const MAX_HEADERS: u8 = 8;
 
-/// Where a walk over extension headers stands in a packet.
+/// Where a walk over extension headers is in a packet.
 #[derive(Clone, Copy, Debug)]
 pub struct Walk {
-    /// The head so far: its protocol says what stands at the place.
+    /// The head so far: its protocol says what is at the place.
     pub head: IpHead,
     pub place: usize,
-    /// A part of a datagram stands at the place: so says the fragment header before it.
+    /// A part of a datagram is at the place: so says the fragment header before it.
     pub is_part: bool,
 }
 
@@ -41,7 +41,7 @@ fn has_length_field(next: u8) -> bool
     next == HOP_BY_HOP || next == ROUTING || next == DESTINATION
 }
 
-/// An extension header stands at the place.
+/// An extension header is at the place.
 fn is_at_header(walk: &Walk) -> bool
     ensures { result ≡ is_at_header walk.now }
 {
@@ -49,7 +49,7 @@ fn is_at_header(walk: &Walk) -> bool
     !walk.is_part && (has_length_field(next) || next == FRAGMENT)
 }
 
-/// Behind an extension header with a length field.
+/// The walk after an extension header with a length field.
 #[tactic(auto, unfolding(crate::specs::Headers::behind_length_field))]
 fn behind_length_field(walk: Walk, packet: &[u8]) -> Result<Walk, Skip>
     requires { walk.place ≤ length packet.now }
@@ -91,7 +91,7 @@ fn fragment_head(head: IpHead, packet: &[u8], place: usize) -> IpHead
     }
 }
 
-/// Behind a fragment header.
+/// The walk after a fragment header.
 #[tactic(auto, unfolding(crate::specs::Headers::behind_fragment_header))]
 fn behind_fragment_header(walk: Walk, packet: &[u8]) -> Result<Walk, Skip>
     requires { walk.place ≤ length packet.now }
@@ -111,7 +111,7 @@ fn behind_fragment_header(walk: Walk, packet: &[u8]) -> Result<Walk, Skip>
     })
 }
 
-/// Behind the extension header at the place.
+/// The walk after the extension header at the place.
 #[tactic(auto, unfolding(crate::specs::Headers::behind_header))]
 fn behind_header(walk: Walk, packet: &[u8]) -> Result<Walk, Skip>
     requires { walk.place ≤ length packet.now }

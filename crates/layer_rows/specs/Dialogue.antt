@@ -82,7 +82,7 @@ IsTurnWork preference moment (work.Finish flow) = flow ≡ 0
 abbrev pub IsTurnJob : Preference → Job → Type 0
 IsTurnJob preference job = IsTurnWork preference job.moment job.work
 
--- what is known behind so many jobs
+-- what is known after at most `bound` jobs
 pub record IsFewTurns (preference : Preference) (bound : ℕ) (facts : FlowFacts) : Type 0 where
   pub ends : facts.ends ≡ dialogue_ends preference
   pub packets : facts.packets ≤ bound

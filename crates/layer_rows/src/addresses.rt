@@ -37,7 +37,7 @@ fn of_version_4(parts: &mut Parts<'_>, text: &str) -> Addr {
     }
 }
 
-/// The address that the next part says, as std reads it, or by its hexadecimal digits behind `0x`.
+/// The address that the next part says, as std reads it, or by its hexadecimal digits after `0x`.
 pub(crate) fn address(parts: &mut Parts<'_>) -> Addr {
     let text = parts.word();
     match text.strip_prefix("0x") {

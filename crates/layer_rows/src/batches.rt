@@ -115,7 +115,7 @@ struct Progress {
     tries: u128,
 }
 
-/// Runs a batch behind what was run before, and shows its answers; none where memory is lacking.
+/// Runs a batch after what was run before, and shows its answers; none where memory is lacking.
 fn run_batch<R: Threads + Sync>(
     rt: &R,
     page: &mut Page,
@@ -203,7 +203,7 @@ fn run_batches<R: Threads + Sync>(
     page.show(format_args!("tries {}", progress.tries));
 }
 
-/// Shows the answers to batches, in so many new lanes.
+/// Shows the answers to batches, in this many new lanes.
 #[tactic(auto, using(flow_lanes::proofs::Course::course_begins))]
 fn run_in_lanes<R: Threads + Sync>(
     rt: &R,
@@ -248,7 +248,7 @@ fn run_grouped<R: Threads + Sync>(
     run_in_lanes(rt, page, count, batches, course);
 }
 
-/// Shows the answers to batches with these rules, in so many new lanes.
+/// Shows the answers to batches with these rules, in this many new lanes.
 fn show_batches<R: Threads + Sync>(
     rt: &R,
     page: &mut Page,

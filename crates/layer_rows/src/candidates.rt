@@ -11,7 +11,7 @@ use packet_decode::ItemHead;
 use row_files::Parts;
 use rule_parser::Rule;
 
-/// Finds the candidates, behind a number that stands already.
+/// Finds the candidates, after a number that is there already.
 fn find(page: &mut Page, groups: &Groups, item: &ItemHead, payload: &str, places: &mut Vec<u32>) {
     places.clear();
     page.note(places.push(77));
@@ -57,7 +57,7 @@ fn ask(page: &mut Page, rules: &[Rule], item: &ItemHead, given: &str)
     }
 }
 
-/// `candidates TIMES PAYLOAD`: the candidates among rules, which are looked for so many times.
+/// `candidates TIMES PAYLOAD`: the candidates among rules, which are looked for TIMES times.
 pub(crate) fn candidates(page: &mut Page, row: &Row, rules: &[Rule], given: &str) {
     if rules.len() > 65_536 {
         return page.put("too many rules");

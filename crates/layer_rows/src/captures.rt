@@ -26,7 +26,7 @@ fn show_next(page: &mut Page, reader: &mut CaptureReader, host: &mut MemHost) {
     }
 }
 
-/// Shows what a reader knows of its capture, and so many of its answers.
+/// Shows what a reader knows of its capture, and `count` of its answers.
 fn show_answers(page: &mut Page, reader: &mut CaptureReader, host: &mut MemHost, count: u32) {
     let CaptureHead {
         link,
@@ -40,7 +40,7 @@ fn show_answers(page: &mut Page, reader: &mut CaptureReader, host: &mut MemHost,
     }
 }
 
-/// `pcap COUNT WORDS`: the head of the capture and so many answers behind it, or why it is refused.
+/// `pcap COUNT WORDS`: the head of the capture and COUNT answers after it, or why it is refused.
 fn pcap(page: &mut Page, row: &Row, count: u32, words: &str) {
     let mut host = host_of(page, row, words);
     match CaptureReader::open(&mut host, CAPTURE) {
@@ -49,7 +49,7 @@ fn pcap(page: &mut Page, row: &Row, count: u32, words: &str) {
     }
 }
 
-/// `resumed NUMBER WORDS`: two answers of a reader that has given so many records of Ethernet and stands at 24, where
+/// `resumed NUMBER WORDS`: two answers of a reader that has given NUMBER records of Ethernet and is at 24, where
 /// these bytes are left.
 fn resumed(page: &mut Page, row: &Row, number: u32, words: &str) {
     let mut host = host_of(page, row, words);
@@ -65,7 +65,7 @@ fn resumed(page: &mut Page, row: &Row, number: u32, words: &str) {
     show_answers(page, &mut reader, &mut host, 2);
 }
 
-/// Shows the records, each with its link, and what is behind them.
+/// Shows the records, each with its link, and what follows them.
 fn show_found(page: &mut Page, found: &Found) {
     for given in found.records.as_slice() {
         page.debug(&given.link);
@@ -79,7 +79,7 @@ fn show_found(page: &mut Page, found: &Found) {
     }
 }
 
-/// `pcapng LIMIT WORDS`: at most so many records and what is behind them, or why the capture is refused.
+/// `pcapng LIMIT WORDS`: at most LIMIT records and what follows them, or why the capture is refused.
 fn pcapng(page: &mut Page, row: &Row, limit: u32, words: &str) {
     let mut host = host_of(page, row, words);
     match read_up_to(page.alloc, &mut host, CAPTURE, limit as usize) {
@@ -88,7 +88,7 @@ fn pcapng(page: &mut Page, row: &Row, limit: u32, words: &str) {
     }
 }
 
-/// Shows the last bytes, so many, in digits.
+/// Shows the last `length` bytes in digits.
 fn show_last(page: &mut Page, bytes: &[u8], length: usize) {
     let from = bytes.len().saturating_sub(length);
     match hex::encode(page.alloc, bytes.get(from..).unwrap_or(&[])) {
@@ -97,7 +97,7 @@ fn show_last(page: &mut Page, bytes: &[u8], length: usize) {
     }
 }
 
-/// `made SEED COUNT LENGTH`: the last bytes, so many, of the capture that is made of the seed and so many packets.
+/// `made SEED COUNT LENGTH`: the last LENGTH bytes of the capture that is made of the seed and COUNT packets.
 fn made(page: &mut Page, seed: u32, rest: &str) {
     let mut rest = Parts::of(rest, ' ');
     let (count, length) = (rest.number(), rest.number());

@@ -146,7 +146,7 @@ fn show_warnings(page: &mut Page, out: &Loaded) {
     }
 }
 
-/// `values`: those of the configuration, and behind them its rules, what was skipped, and how many files it has.
+/// `values`: those of the configuration, and after them its rules, what was skipped, and how many files it has.
 fn show_values(page: &mut Page, answer: &Result<(), LoadStop>, out: &Loaded) {
     if answer.is_err() {
         page.put("refused\n");
@@ -214,7 +214,7 @@ fn ask(page: &mut Page, host: &mut MemHost, file: &str, call: &str, given: &str)
 }
 
 /// The calls of configurations. `load NAME` shows the answer of loading a file. `line LINES` shows the kind of the first
-/// that is refused, or `fine`, where they stand in the file `c/16`, and `c/0` is loaded.
+/// that is refused, or `fine`, where they are in the file `c/16`, and `c/0` is loaded.
 pub(crate) fn call(page: &mut Page, row: &Row, call: &str, given: &str) -> bool {
     let (file, lines) = match call {
         "load" => (given, ""),

@@ -71,7 +71,7 @@ fn detectors() {
     sendable::<Lane>();
 }
 
-/// All of them.
+/// All types that must cross threads do.
 pub(crate) fn types_cross_threads() {
     captures();
     packets();

@@ -38,7 +38,7 @@ fn pass(
     page.put("\n");
 }
 
-/// Shows the rules that are kept of a step, which is an item and, behind a `:`, those that match it.
+/// Shows the rules that are kept of a step, which is an item and, after a `:`, those that match it.
 fn pass_step(page: &mut Page, setup: &Setup<Literal>, filters: &mut Filters, step: &str) {
     let (item, hits) = cut(step, ':');
     match item_of(item) {

@@ -51,7 +51,7 @@ fn compared(text: &mut Parts<'_>) -> Option<Opt> {
     })
 }
 
-/// `field LENGTH FIELD COMPARISON LOW HIGH`: whether the item with so many bytes of payload has it.
+/// `field LENGTH FIELD COMPARISON LOW HIGH`: whether the item with LENGTH bytes of payload has it.
 fn field(page: &mut Page, item: &ItemHead, text: &str) {
     let mut text = Parts::of(text, ' ');
     let length = text.number();

@@ -108,7 +108,7 @@ fn run_steps(page: &mut Page, flows: &mut Flows, steps: &str)
     }
 }
 
-/// `flows TCP UDP`: of each step what it finds, where at most so many flows of each protocol may live.
+/// `flows TCP UDP`: of each step what it finds, where at most this many flows of each protocol may live.
 pub(crate) fn flows(page: &mut Page, row: &Row, given: &str) {
     let mut given = Parts::of(given, ' ');
     let (tcp, udp) = (given.number(), given.number());

@@ -79,7 +79,7 @@ fn bare_body(value: &mut Parts<'_>) -> Body {
     }
 }
 
-/// Both ports, flags, sequence number, acknowledgement and window.
+/// Both ports of TCP, flags, sequence number, acknowledgement and window.
 fn tcp_of(value: &mut Parts<'_>) -> Body {
     Body::Tcp(TcpHead {
         sport: value.short(),
@@ -91,7 +91,7 @@ fn tcp_of(value: &mut Parts<'_>) -> Body {
     })
 }
 
-/// Both ports.
+/// Both ports of UDP.
 fn udp_of(value: &mut Parts<'_>) -> Body {
     Body::Udp {
         sport: value.short(),
@@ -138,7 +138,7 @@ fn set_number(ip: &mut IpHead, key: &str, value: &mut Parts<'_>) -> bool {
     true
 }
 
-/// The bits of the header that stand.
+/// The bits of the header that are set.
 fn set_flag(ip: &mut IpHead, key: &str, value: &mut Parts<'_>) -> bool {
     match key {
         "reserved" => ip.reserved = truth(value),

@@ -72,7 +72,7 @@ fn define(page: &mut Page, vars: &mut Vars, name: &[u8], value: &[u8], fixed: bo
     }
 }
 
-/// Writes the fault of a text, and what then stands behind `x`: its bytes, or how many of them where they are many.
+/// Writes the fault of a text, and what then follows `x`: its bytes, or how many of them where they are many.
 fn show_expanded(page: &mut Page, vars: &Vars, text: &[u8]) {
     let mut out = Vec::new(page.alloc);
     page.note(out.push(b'x'));
@@ -85,8 +85,8 @@ fn show_expanded(page: &mut Page, vars: &Vars, text: &[u8]) {
     }
 }
 
-/// `expansion COUNT TEXT`: the expansion, with N as 7, which no line changes, and B as the last text that it is given, so
-/// many bytes.
+/// `expansion COUNT TEXT`: the expansion, with N as 7, which no line changes, and B as the last text that it is given,
+/// COUNT bytes.
 fn expansion(page: &mut Page, given: &str) {
     let (count, text) = cut(given, ' ');
     let long = page.repeated("b", count);

@@ -14,7 +14,7 @@ pub(crate) fn written(page: &mut Page, line: &str) -> String {
     page.replaced(&line, "\u{240d}", "\r")
 }
 
-/// Applies a line to a row, as often as it stands; false where it says nothing of the row, so that it is a call.
+/// Applies a line to a row, as often as it is read; false where it says nothing of the row, so that it is a call.
 pub(crate) fn apply(page: &mut Page, row: &mut Row, line: RowLine<'_>) -> bool {
     let mut is_taken = true;
     for turn in 0..line.times {

@@ -18,7 +18,7 @@ fn link_of(name: &str) -> Option<Link> {
     }
 }
 
-/// Whether a checksum of this name is checked: the word names all of them, the only one, or behind a sign the
+/// Whether a checksum of this name is checked: the word names all of them, the only one, or after a sign the
 /// only one that isn't.
 fn is_checked(word: &str, name: &str) -> bool {
     match word.strip_prefix('-') {
@@ -58,7 +58,7 @@ fn datagram(page: &mut Page, row: &Row, words: &str) {
     }
 }
 
-/// Shows a packet, or why there is none. Where the payload has over 1,000 bytes, their number stands for them.
+/// Shows a packet, or why there is none. Where the payload has over 1,000 bytes, their number takes their place.
 fn show_packet(page: &mut Page, answer: Result<Packet<'_>, Skip>) {
     match &answer {
         Ok(packet) if packet.payload.len() > 1000 => {

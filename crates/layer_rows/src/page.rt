@@ -105,7 +105,7 @@ impl Page {
         }
     }
 
-    /// A text so many times; nothing where this is no number.
+    /// A text this many times; nothing where this is no number.
     pub fn repeated(&mut self, text: &str, count: &str) -> String {
         self.made(text.repeat(self.alloc, count.parse::<usize>().unwrap_or(0)))
     }

@@ -85,7 +85,7 @@ fn push_line<M: PatternMaker>(
     }
 }
 
-/// Whether the payload matches the rule of a line, behind what a configuration gives.
+/// Whether the payload matches the rule of a line, after what a configuration gives.
 fn try_payload<M: PatternMaker>(
     page: &mut Page,
     given: &mut Given,
@@ -114,7 +114,7 @@ fn searches(page: &mut Page, given: &mut Given, text: &str) {
     page.show(format_args!(" {}", searches.load(Ordering::SeqCst)));
 }
 
-/// `rule-set`: how many rules a set has after each step's rule was added, behind why one was not.
+/// `rule-set`: how many rules a set has after each step's rule was added, after why one was not.
 fn rule_set(page: &mut Page, row: &Row, given: &mut Given, maker: &mut LiteralMaker) {
     let mut set = RuleSet::new(page.alloc);
     for line in row.steps.as_str().lines() {

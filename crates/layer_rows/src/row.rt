@@ -16,7 +16,7 @@ pub(crate) struct Row {
     /// The calls of the host and of the maker of patterns that fail, counted from 0.
     pub host: Vec<u32>,
     pub maker: Vec<u32>,
-    /// What stands in front of what the next call is given.
+    /// What comes before what the next call is given.
     pub front: String,
     /// Lines for the next call, and the lines that it must give for them.
     pub steps: String,

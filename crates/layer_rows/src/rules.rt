@@ -17,7 +17,7 @@ use rule_parser::{BitNames, Rule, RuleFault, read_rule};
 /// A header that all packets have.
 pub(crate) const ANY: &str = "ip any any -> any any";
 
-/// What a configuration gives to the rules that are read behind it.
+/// What a configuration gives to the rules that are read after it.
 #[derive(Drop)]
 pub(crate) struct Given {
     pub loaded: Loaded,
@@ -79,7 +79,7 @@ impl Given {
     }
 }
 
-/// The rule of a line, behind these variables, classes and names of bits.
+/// The rule of a line, after these variables, classes and names of bits.
 fn read_line(
     page: &Page,
     line: &[u8],
@@ -102,7 +102,7 @@ fn show_fault(page: &mut Page, fault: &RuleFault, call: &str) {
     }
 }
 
-/// A call on the rule of a line, behind what a configuration gives.
+/// A call on the rule of a line, after what a configuration gives.
 fn ask_of(page: &mut Page, row: &Row, given: &mut Given, call: &str, line: &str) {
     match given.read(page, line) {
         Ok(rule) => show_rule(page, row, &rule, &given.loaded.config.classes, call),

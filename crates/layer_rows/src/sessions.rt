@@ -70,7 +70,7 @@ fn head_of(sent: &Sent) -> IpHead {
     }
 }
 
-/// What a packet has behind its head.
+/// What a packet has after its head.
 fn body_of(tcp: bool, sent: &Sent) -> Body
     ensures { IsBodyOf tcp result }
 {
@@ -97,7 +97,7 @@ fn put_if(page: &mut Page, holds: bool, text: &str) {
     }
 }
 
-/// Shows a base that is set, behind whose it is.
+/// Shows a base that is set, after whose it is.
 fn show_base(page: &mut Page, of: &str, base: Option<u32>) {
     if let Some(base) = base {
         page.put(of);

@@ -1,4 +1,4 @@
-//! Whole setups: the calls of snort_setup over the row's files, and those of what stands on one.
+//! Whole setups: the calls of snort_setup over the row's files, and those of what rests on one.
 
 ghost use Rattle.std.specs.Prelude.{All, IfOk};
 ghost use Rattle.std.specs.Option.{option_map};
@@ -140,7 +140,7 @@ fn set_up<R: Threads + Sync>(
     }
 }
 
-/// `setup CONF WORDS`: the warnings of the setup, and behind them its answer. With `-S` the variable N is `$M`; with
+/// `setup CONF WORDS`: the warnings of the setup, and after them its answer. With `-S` the variable N is `$M`; with
 /// `--host-table` the table is `h`.
 fn setup<R: Threads + Sync>(rt: &R, page: &mut Page, row: &Row, given: &str) {
     let (conf, words) = cut(given, ' ');

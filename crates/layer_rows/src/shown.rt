@@ -49,7 +49,7 @@ fn show_met(page: &mut Page, item: &ItemHead, opts: &[Opt]) {
     }
 }
 
-/// `alert`: the line of the item and the rule, behind the word that stood there before.
+/// `alert`: the line of the item and the rule, after the word that was there before.
 fn show_line(page: &mut Page, item: &ItemHead, rule: &Rule, classes: &Classes)
     requires { IsSound classes.now rule.now }
 {

@@ -61,7 +61,7 @@ fn try_call<R: Print + Threads + Sync>(
     println!(rt; "{}: {}: {}{}", row.label, line, page.text, page.lack())
 }
 
-/// Makes the calls of a line, one for each time that it stands.
+/// Makes the calls of a line, one for each time that it is read.
 fn try_calls<R: Print + Threads + Sync>(
     rt: &R,
     page: &mut Page,

@@ -11,14 +11,14 @@ use std::process::Abort;
 use std::test::Fail;
 use stream5_reassembly::{Added, Direction, Extent, Limits};
 
-/// Bytes of the window, segments, the flush point and preferences; calls, and behind `=` what each gives. Runs are
+/// Bytes of the window, segments, the flush point and preferences; calls, and after `=` what each gives. Runs are
 /// their starts, counted from the base before, and their bytes. In order:
 ///
 /// - a window of 1024 bytes and two segments
 /// - acknowledgements that come early, far ahead and late
 /// - a pattern over the wrap, with the limits of a snort.conf without settings, but the flush point 4
 /// - that flush point
-/// - what was flushed is compared: the first stands, the last stands
+/// - what was flushed is compared: the first is kept, the last is kept
 /// - the ends of the window round the wrap, and half of the numbers
 /// - overlaps round the wrap. From the base 4294967290 on: "aaaa" at places 4 to 7, "bbbb" at 2 to 5, "cccc" at 6 to
 ///   9, where the number at place 6 is 0; then what begins ten places before the base, a gap at place 6, and a flush
@@ -210,7 +210,7 @@ fn directions_by_rows(rt: HostRuntime) -> Result<(), Fail> {
     Ok(())
 }
 
-/// The start of an extent or `-`, the number and the length of what is noted, and the size behind it.
+/// The start of an extent or `-`, the number and the length of what is noted, and the size after it.
 const EXTENTS: &str = "- 7 3 3
 1 1 3 3
 4 1 3 0
@@ -221,7 +221,7 @@ const EXTENTS: &str = "- 7 3 3
 0 2147483647 1 0
 ";
 
-/// Compares the size of an extent behind a note.
+/// Compares the size of an extent after a note.
 fn check_extent(rt: &impl Abort, row: &str) {
     let (begin, numbers) = cut(row, ' ');
     let mut extent = Extent::new();

@@ -119,7 +119,7 @@ fn ends_of(pattern: &RegexPattern, bytes: &[u8]) -> Result<Option<(usize, usize)
     Ok(found.map(|span: Span| (span.start, span.end)))
 }
 
-/// Searches one behind the other, which hand their working memory on.
+/// Searches one after the other, which hand their working memory on.
 fn check_turns(rt: &impl Abort, pattern: &RegexPattern) -> Result<(), NoMemory> {
     for Turn(bytes, want) in &TURNS {
         assert!(rt; ends_of(pattern, bytes)? == *want);
@@ -127,7 +127,7 @@ fn check_turns(rt: &impl Abort, pattern: &RegexPattern) -> Result<(), NoMemory> 
     Ok(())
 }
 
-/// Searches twice one behind the other.
+/// Searches twice, one after the other.
 fn check_turns_twice(rt: &impl Abort, pattern: &RegexPattern) -> Result<(), NoMemory> {
     check_turns(rt, pattern)?;
     check_turns(rt, pattern)
@@ -141,7 +141,7 @@ fn no_search_remembers_the_match_before(rt: HostRuntime) -> Result<(), Fail> {
     Ok(())
 }
 
-/// Appends letters a and b without an order, and behind them an a and fourteen letters b.
+/// Appends letters a and b without an order, and after them an a and fourteen letters b.
 fn push_letters(bytes: &mut Vec<u8>, count: u32) -> Result<(), NoMemory> {
     let mut seed: u32 = 1;
     for _ in 0..count {
@@ -205,7 +205,7 @@ fn make_all(
     Ok(())
 }
 
-/// Each pattern is searched by twice in bytes that have it build a state for each letter: its literals stand
+/// Each pattern is searched by twice in bytes that have it build a state for each letter: its literals occur
 /// there, so nothing dismisses them.
 fn search_all(
     rt: &impl Abort,

@@ -17,7 +17,7 @@ use std::test::Fail;
 ///
 /// First four fragments, in order of arrival A at 16 to 24, B at 8 to 24, C at 0 to 16, D at 8 to 32, the last.
 /// Only C covers 0 to 8 and only D 24 to 32. From 8 on B, C and D are asked, from 16 on A, B and D, each later one
-/// against the one that stands:
+/// against the one that is kept:
 ///
 /// - C against B starts earlier and ends earlier: taken by last, bsd, linux.
 /// - D against B (8 to 24) starts at the same place and ends later: taken by last, bsd-right, linux.
@@ -32,11 +32,11 @@ use std::test::Fail;
 /// bsd-right, linux.
 ///
 /// Whole bounds decide, not what is left of a fragment: X, Y and Z all start at 8, so under bsd none takes the stead
-/// of an earlier one, also not from 16 on, where Y stands; under linux each does.
+/// of an earlier one, also not from 16 on, where Y is kept; under linux each does.
 ///
-/// A timeout counts from the first fragment, which is in time at its very end; so many fragments and no more are
-/// held; a part is ignored by its place, its length and its time to live. The rules of a tracker are those of its
-/// first fragment, except the least time to live.
+/// A timeout counts from the first fragment, which is in time at its very end; as many fragments as a row says and no
+/// more are held; a part is ignored by its place, its length and its time to live. The rules of a tracker are those
+/// of its first fragment, except the least time to live.
 const ROWS: &str = "\
 first 9: 2:more:0:AAAAAAAA 1:more:0:BBBBBBBBBBBBBBBB 0:more:0:CCCCCCCCCCCCCCCC 1:last:0:DDDDDDDDDDDDDDDDDDDDDDDD: held held held CCCCCCCCBBBBBBBBAAAAAAAADDDDDDDD
 last 9: 2:more:0:AAAAAAAA 1:more:0:BBBBBBBBBBBBBBBB 0:more:0:CCCCCCCCCCCCCCCC 1:last:0:DDDDDDDDDDDDDDDDDDDDDDDD: held held held CCCCCCCCDDDDDDDDDDDDDDDDDDDDDDDD

@@ -42,7 +42,7 @@ fn stream_of(alloc: Global) -> StreamConfig
     }
 }
 
-/// The end of a flow, which is sound whatever stands before it.
+/// The end of a flow, which is sound whatever comes before it.
 fn end_of_flow() -> Job<'static>
     ensures plain { IsPlain result }
     ensures number { result.number ≡ 0 }
@@ -54,7 +54,7 @@ fn end_of_flow() -> Job<'static>
     }
 }
 
-/// A packet of a flow, of a protocol that has no sessions, which is sound behind nothing. All have one number.
+/// A packet of a flow, of a protocol that has no sessions, which is sound after no job. All have one number.
 fn unsound_packet(alloc: Global) -> Job<'static> {
     let toward = Toward {
         engine: 9,
@@ -141,7 +141,7 @@ fn next_fault<R: Threads + Sync>(
         .err()
 }
 
-/// Lanes that have failed answer `Failed` to a batch without jobs, and to one of jobs that are sound behind nothing and
+/// Lanes that have failed answer `Failed` to a batch without jobs, and to one of jobs that are sound after no job and
 /// have one number.
 fn refuse_any<R: Abort + Threads + Sync>(
     rt: &R,

@@ -1,4 +1,4 @@
-//! Tests of public calls that no clause and no row says, of the crates below a run. They stand in a crate of their own,
+//! Tests of public calls that no clause and no row says, of the crates below a run. They are in a crate of their own,
 //! since a crate is proved once more with each test that it has.
 #![tactic(auto)]
 

@@ -51,7 +51,7 @@ fn appended_word(out: &[u8], large: &[u8]) -> &'static str {
     }
 }
 
-/// Names of real files, limits, answers, and the bytes behind a load.
+/// Names of real files, limits, answers, and the bytes after a load.
 const REAL_LOADS: &str = "edge_files/present 5: loaded hello
 edge_files/present 4: large nothing
 edge_files/empty 0: loaded nothing

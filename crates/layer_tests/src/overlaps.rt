@@ -70,7 +70,7 @@ fn insert_all(rt: &impl Abort, queue: &mut Queue, segments: &str) -> Result<(), 
     Ok(())
 }
 
-/// Writes so many bytes of the queue, from place 0 on, a dot for a place without a byte.
+/// Writes `count` bytes of the queue, from place 0 on, a dot for a place without a byte.
 fn push_kept(queue: &Queue, count: u64, kept: &mut Vec<u8>) -> Result<(), NoMemory> {
     for place in 0..count {
         kept.push(queue.byte(place).unwrap_or(b'.'))?;
@@ -173,7 +173,7 @@ pub(crate) fn push_runs(text: &mut String, runs: &[Run]) -> Result<(), NoMemory>
     Ok(())
 }
 
-/// Takes the runs below a place, and compares what is kept behind them of the first six places.
+/// Takes the runs below a place, and compares what is kept after them of the first six places.
 fn check_behind(
     rt: &impl Abort,
     alloc: Global,
@@ -187,7 +187,7 @@ fn check_behind(
     check_bytes(rt, alloc, queue, want)
 }
 
-/// Takes all of a small queue in two steps, behind a run that was there before.
+/// Takes all of a small queue in two steps, after a run that was there before.
 fn check_taken(
     rt: &impl Abort,
     alloc: Global,
@@ -253,7 +253,7 @@ fn check_pieces(
     check_whole(rt, &queue, &mut text)
 }
 
-/// Pieces keep the whole bounds of the segment that stands, under either preference.
+/// Pieces keep the whole bounds of the segment that is kept, under either preference.
 #[test]
 fn pieces_keep_whole_bounds(rt: HostRuntime) -> Result<(), Fail> {
     check_pieces(&rt, rt.alloc(), Preference::Linux, b"ccccbb")?;
@@ -261,7 +261,7 @@ fn pieces_keep_whole_bounds(rt: HostRuntime) -> Result<(), Fail> {
     Ok(())
 }
 
-/// Adds so many segments of four bytes, in order.
+/// Adds `count` segments of four bytes, in order.
 fn insert_in_order(queue: &mut Queue, count: u64) -> Result<(), NoMemory>
     requires { count ≤ 2 ^ 32 }
 {

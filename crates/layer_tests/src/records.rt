@@ -103,7 +103,7 @@ fn push_word(bytes: &mut Vec<u8>, word: &str) -> Result<(), NoMemory> {
     Ok(())
 }
 
-/// Appends the bytes of words in hexadecimal digits; behind a word, `*6` writes it six times.
+/// Appends the bytes of words in hexadecimal digits; after a word, `*6` writes it six times.
 fn push_words(bytes: &mut Vec<u8>, text: &str) -> Result<(), NoMemory> {
     for part in text.split_whitespace() {
         let mut part = Parts::of(part, '*');
@@ -174,7 +174,7 @@ fn records_are_written_as_these_bytes(rt: HostRuntime) -> Result<(), Fail> {
     Ok(())
 }
 
-/// Whether this is the packet.
+/// Whether this is the packet whose record was written.
 fn is_packet(packet: &U2Packet) -> bool {
     let numbers = [
         packet.sensor,
@@ -187,7 +187,7 @@ fn is_packet(packet: &U2Packet) -> bool {
     numbers == [0, 1, 0, 0, 0, 1] && packet.bytes.bytes() == FRAME.as_slice()
 }
 
-/// Whether these are all records.
+/// Whether these are all records that were written.
 fn are_all(entries: &[U2]) -> bool {
     match entries {
         [

@@ -1,4 +1,4 @@
-//! What a value is behind a refused allocation: as its contract says, and the call then succeeds when it is made
+//! What a value is after a refused allocation: as its contract says, and the call then succeeds when it is made
 //! again. With ample memory nothing is refused, and then the calls are compared alone. `rt try --test --fail-alloc N`
 //! refuses the Nth allocation, and tools/measure/faults each of the built test in turn.
 ghost use Rattle.std.specs.Prelude.{◌≤◌, ◌<◌, ◌+◌, ◌^◌, OnOk};
@@ -193,7 +193,7 @@ fn fate_of(direction: &mut Direction, seq: u32) -> Option<Added>
 }
 
 /// What can be seen of a direction that stays as it is: whether it is started with this base, since the byte before
-/// it is old and the first one behind the window is past it.
+/// it is old and the first one after the window is past it.
 fn stands_at(direction: &mut Direction, base: u32) -> bool
     requires { passed direction.old ≤ 2 ^ 62 }
     ensures { passed direction.new ≤ passed direction.old }
@@ -202,7 +202,7 @@ fn stands_at(direction: &mut Direction, base: u32) -> bool
         && fate_of(direction, base.wrapping_add(LIMITS.bytes)) == Some(Added::PastWindow)
 }
 
-/// Whether it is full besides: then a byte at the base is one too many.
+/// Whether a direction is full besides: then a byte at the base is one too many.
 fn is_full_at(direction: &mut Direction, base: u32) -> bool
     requires { passed direction.old ≤ 2 ^ 62 }
     ensures { passed direction.new ≤ passed direction.old }
@@ -351,7 +351,7 @@ fn accept(
 
 /// A datagram's fragments are taken.
 ///
-/// What is held is seen by the answers alone. No more fragments are held than there are: if one stayed behind a call
+/// What is held is seen by the answers alone. No more fragments are held than there are: if one stayed after a call
 /// that lacked memory, the datagram would be dropped for room, and the last fragment wouldn't make it whole.
 fn compare_datagram(
     rt: &impl Abort,

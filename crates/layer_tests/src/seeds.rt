@@ -32,7 +32,7 @@ fn seed_at(nanos: u64) -> Seed {
     Seed::of(&ip, b"abcdefgh", Moment { nanos })
 }
 
-/// Behind the first fragment they have other hashes, and behind another one others again.
+/// With the seed of a first fragment the keys of fragments have other hashes, and with that of another one others again.
 #[test]
 fn keys_of_fragments_spread(rt: HostRuntime) {
     let hasher: BuildHasherDefault<FoldHasher> = BuildHasherDefault::new();
@@ -46,7 +46,7 @@ fn keys_of_fragments_spread(rt: HostRuntime) {
     }
 }
 
-/// Behind rules they have other hashes, also behind no rule.
+/// With a seed the keys of windows have other hashes, also with one that no rule has a part in.
 #[test]
 fn keys_of_windows_spread(rt: HostRuntime) {
     let first = chosen_host(0);

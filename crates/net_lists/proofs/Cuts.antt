@@ -1,4 +1,4 @@
--- The first piece, part or word of a text, and those behind it.
+-- The first piece, part or word of a text, and those after it.
 use Rattle.std.proofs.Common.{◌≡◌, ℕ, zero, suc, ◌+◌, ◌<◌, ◌≤◌, ◌==◌, ◌&&◌, Bool, true, false, cond, List, [], ◌∷◌, length, take, drop, get_or, map, filter, refl, sym, ap, subst, ◌∙◌, arith, ⊎_elim, length-drop}
 use Rattle.std.specs.List.{onto_first, prefix_len}
 use Rattle.std.proofs.lemmas.Bool.{false≢true, cases_lt}
@@ -51,7 +51,7 @@ module _ (cuts : ℕ → Bool) where
       go true e more = absurd (omega (arith, front_len-cut depth byte rest e))
       go false e more = pieces-on depth byte rest e ∙ ap (onto_first byte) (more (omega (arith, front_len-on depth byte rest e)))
 
-  -- another has its front as its first piece
+  -- a text with a byte that cuts has its front as its first piece
   pub pieces-first : (depth : ℕ) (text : List ℕ) → front_len cuts depth text < length text → pieces_between cuts depth text ≡ take (front_len cuts depth text) text ∷ pieces_between cuts 0 (drop (suc (front_len cuts depth text)) text)
   pieces-first depth [] h = absurd (omega arith)
   pieces-first depth (byte ∷ rest) h = go (depth == 0 && cuts byte) refl (pieces-first (depth_behind depth byte) rest)
@@ -93,7 +93,7 @@ module _ (cuts : ℕ → Bool) where
   unfolding words_between pieces_between
   words_nil = refl
 
-  -- such a front has a byte
+  -- the front of a text that begins with a byte that doesn't cut has a byte
   pub front_len-some : (byte : ℕ) (rest : List ℕ) → cuts byte ≡ false → 0 < front_len cuts 0 (byte ∷ rest)
   front_len-some byte rest e = omega (arith, front_len-on 0 byte rest e)
 
@@ -115,7 +115,7 @@ module _ (cuts : ℕ → Bool) where
           (λ h. ap (filter is_filled) (only h) ∙ ap (λ xs. xs ∷ []) (sym (take_all n text h)) ∙ ap (λ ps. take n text ∷ filter is_filled ps) (sym (ap (pieces_between cuts 0) (drop_all n text h) ∙ pieces_nil cuts)))
           (cases_lt n (length text))
 
--- what stands behind the bytes that cut begins with none
+-- what comes after the bytes that cut begins with none
 begins : (ℕ → Bool) → List ℕ → Bool
 begins cuts [] = false
 begins cuts (byte ∷ rest) = cuts byte
@@ -134,7 +134,7 @@ pub words-none : (cuts : ℕ → Bool) (text left : List ℕ) → left ≡ drop 
 words-none cuts text [] e h = sym (words-skip cuts text) ∙ ap (words_between cuts) (sym e) ∙ words_nil cuts
 words-none cuts text (byte ∷ rest) e h = absurd (omega arith)
 
--- and else the first one is the front of what is left
+-- where something is left, the first word is the front of it
 pub words-some : (cuts : ℕ → Bool) (text left : List ℕ) → left ≡ drop (prefix_len cuts text) text → 0 < length left → words_between cuts text ≡ take (front_len cuts 0 left) left ∷ words_between cuts (drop (front_len cuts 0 left) left)
 unfolding begins
 words-some cuts text [] e h = absurd (omega arith)
@@ -150,7 +150,7 @@ filled_front zero text n h = absurd (omega arith)
 filled_front (suc n) [] m h = absurd (omega arith)
 filled_front (suc n) (byte ∷ rest) m h = refl
 
--- the words of a text, by its first word and what stands behind that
+-- the words of a text, by its first word and what comes after that
 pub words-first_word : (text : List ℕ) → words text ≡ cond (is_filled (first_word text)) (first_word text ∷ words (behind_word text)) []
 unfolding first_word behind_word front_len
 words-first_word text = go (without_front_blanks text) refl
@@ -165,7 +165,7 @@ words-first_word text = go (without_front_blanks text) refl
 length-without_front_blanks : (text : List ℕ) → length (without_front_blanks text) ≤ length text
 length-without_front_blanks text = omega (arith, length-drop (prefix_len is_blank text) text)
 
--- a text is longer than what stands behind its first word
+-- a text is longer than what comes after its first word
 pub behind_word-shorter : (text : List ℕ) → 0 < length text → length (behind_word text) < length text
 unfolding behind_word front_len
 behind_word-shorter text some = go (without_front_blanks text) refl

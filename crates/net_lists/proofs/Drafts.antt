@@ -1,4 +1,4 @@
--- A fold's draft: at no part, and behind the first.
+-- A fold's draft: at no part, and after the first.
 use Rattle.std.proofs.Common.{◌≡◌, List, [], ◌∷◌, Result, Ok, Err, refl, ap}
 use Rattle.edge_io.specs.OnResult.{◌>>=◌}
 use Rattle.net_lists.specs.Folds.{draft_behind}

@@ -19,7 +19,7 @@ not_true : (b : Bool) → (b ≡ true → ⊥) → b ≡ false
 not_true true h = absurd (h refl)
 not_true false h = refl
 
--- a text with a line feed is the line before it, and the lines behind it
+-- a text with a line feed is the line before it, and the lines after it
 pub lines_cut : (text : List ℕ) (end : ℕ) → IsFirstByte (is_byte 10) text (Some end) → lines text ≡ strip_carriage_return (take end text) ∷ lines (take (length text - (end + 1)) (drop (end + 1) text))
 lines_cut text end found =
     let place : position_or_len (is_byte 10) text ≡ end =
@@ -54,7 +54,7 @@ joined_front : (x : ℕ) (parts : List (List ℕ)) (front : List ℕ) → lines_
 joined_front x [] front = refl
 joined_front x (part ∷ parts) front = refl
 
--- a line before the lines of what stands behind its line feed
+-- a line before the lines of what comes after its line feed
 lines-cons : (front text : List ℕ) → lines_of_parts (front ∷ slice_split is_feed text) ≡ strip_carriage_return front ∷ lines text
 lines-cons front [] = refl
 lines-cons front (x ∷ xs) = go (is_feed x)

@@ -3,7 +3,7 @@
 -- An address of version 4 is four decimal numbers of one to three digits, each at most 255, with dots
 -- between them. One of version 6 is eight groups of one to four hexadecimal digits with colons between
 -- them, or fewer with one `::`, which stands for at least one group of zeros; a dotted ending is refused.
--- Behind a `/` stands how many of its first bits count, from 0 to 32 or 128; the others are read as zeros.
+-- After a `/` comes how many of its first bits count, from 0 to 32 or 128; the others are read as zeros.
 -- (RFC 4291, sections 2.2 and 2.3; RFC 4632, section 3.1; Snort Users Manual 2.9, "IP Addresses". That
 -- dotted endings are refused is our own.)
 -- To try it on: `10.1.2.3/8` is 10.0.0.0 with 8 bits, and `2001:db8::8:800:200c:417a` has two zero groups.
@@ -19,7 +19,7 @@ use Rattle.net_lists.specs.declared.part.AddrBounds.TheVariants as bounds
 use Rattle.net_lists.specs.declared.network.Network.{Network}
 use Rattle.net_lists.specs.Numbers.{digits_upto, number_in}
 
--- the bytes before the first of these bytes, and those behind it
+-- the bytes before the first of these bytes, and those after it
 unfoldable pub cut : ℕ → List ℕ → Option (List ℕ × List ℕ)
 cut byte text = option_map (λ place. (take place text, drop (place + 1) text)) (position (λ b. b == byte) text)
 
@@ -55,7 +55,7 @@ is_group text = (nat_le 1 (length text) && nat_le (length text) 4) && list_all i
 unfoldable pub group : List ℕ → Option ℕ
 group text = if is_group text then Some (hex_value text) else None
 
--- all of these are groups
+-- the groups that these pieces are, where each is one
 unfoldable pub groups_of : List (List ℕ) → Option (List ℕ)
 groups_of [] = Some []
 groups_of (piece ∷ pieces) = do
@@ -78,7 +78,7 @@ gap_place [] = None
 gap_place (byte ∷ rest) =
     if starts_with nat_eq (byte ∷ rest) (codes "::") then Some 0 else option_map (λ place. 1 + place) (gap_place rest)
 
--- what stands before the first `::` and behind it
+-- what comes before the first `::` and after it
 unfoldable pub gap : List ℕ → Option (List ℕ × List ℕ)
 gap text = option_map (λ place. (take place text, drop (place + 2) text)) (gap_place text)
 
@@ -86,7 +86,7 @@ gap text = option_map (λ place. (take place text, drop (place + 2) text)) (gap_
 unfoldable pub address_of : List ℕ → Option ℕ
 address_of groups = if length groups == 8 then Some (groups_value groups) else None
 
--- seven groups at most before and behind a `::`, and zeros between them
+-- seven groups at most before and after a `::`, and zeros between them
 unfoldable pub address_around : List ℕ → List ℕ → Option ℕ
 address_around front back =
     if nat_le (length front + length back) 7
@@ -121,7 +121,7 @@ abbrev pub network_at : Addr → ℕ → Network
 network_at (V4 value) length = record { first = V4 (cleared value (32 - length)); length = length }
 network_at (V6 value) length = record { first = V6 (cleared value (128 - length)); length = length }
 
--- an address, and behind a slash (47) how many bits of it count; all, where no slash stands
+-- an address, and after a slash (47) how many bits of it count; all, where there is no slash
 unfoldable pub network : List ℕ → Option Network
 network text = elim (cut 47 text) [
   | None ↦ option_map (λ whole. network_at whole (bits_of whole)) (address text)
@@ -133,11 +133,11 @@ abbrev pub last_of : Addr → ℕ → ℕ
 last_of (V4 value) length = value + (2 ^ (32 - length) - 1)
 last_of (V6 value) length = value + (2 ^ (128 - length) - 1)
 
--- no more bits than an address has, and none behind them
+-- no more bits than an address has, and none after them
 abbrev pub IsNetwork : Network → Type 0
 IsNetwork net = (net.length ≤ bits_of net.first) × (last_of net.first net.length < 2 ^ bits_of net.first)
 
--- from the first address of a network to the last
+-- the bounds from the first address of a network to the last
 abbrev pub bounds_at : Addr → ℕ → AddrBounds
 bounds_at (V4 value) length = bounds.V4 (record { low = value; high = value + (2 ^ (32 - length) - 1) })
 bounds_at (V6 value) length = bounds.V6 (record { low = value; high = value + (2 ^ (128 - length) - 1) })

@@ -1,7 +1,7 @@
 -- Cutting a text into words, settings and comma parts. A byte cuts only outside brackets, where no `[`
 -- before it is still open.
 --
--- Words stand between blanks, settings between blanks and commas; comma parts between commas, without the
+-- Words are between blanks, settings between blanks and commas; comma parts between commas, without the
 -- blanks around them, and each of them counts, also an empty one.
 -- To try it on: `a [b, c]  d` has the words `a`, `[b, c]` and `d`; `x, [y,z] ,` has the comma parts `x`,
 -- `[y,z]` and an empty one.
@@ -18,11 +18,11 @@ is_comma byte = byte == 44
 abbrev pub is_blank_or_comma : ℕ → Bool
 is_blank_or_comma byte = is_blank byte || is_comma byte
 
--- how many brackets are open behind a byte, which may be `[` (91) or `]` (93)
+-- how many brackets are open after a byte, which may be `[` (91) or `]` (93)
 abbrev pub depth_behind : ℕ → ℕ → ℕ
 depth_behind depth byte = if byte == 91 then depth + 1 else if byte == 93 then depth - 1 else depth
 
--- what stands between the bytes that cut, where so many brackets are open in front
+-- what is between the bytes that cut, where `depth` brackets are open in front
 unfoldable pub pieces_between : (ℕ → Bool) → ℕ → List ℕ → List (List ℕ)
 pieces_between cuts depth [] = [] ∷ []
 pieces_between cuts depth (byte ∷ rest) =
@@ -34,7 +34,7 @@ abbrev pub is_filled : List ℕ → Bool
 is_filled [] = false
 is_filled (first ∷ rest) = true
 
--- what stands between the bytes that cut, each run of these taken as one
+-- what is between the bytes that cut, each run of these taken as one
 unfoldable pub words_between : (ℕ → Bool) → List ℕ → List (List ℕ)
 words_between cuts text = filter is_filled (pieces_between cuts 0 text)
 
@@ -50,7 +50,7 @@ settings text = words_between is_blank_or_comma text
 unfoldable pub comma_parts : List ℕ → List (List ℕ)
 comma_parts text = map trimmed (pieces_between is_comma 0 text)
 
--- how many bytes stand before the first that cuts
+-- how many bytes come before the first that cuts
 unfoldable pub front_len : (ℕ → Bool) → ℕ → List ℕ → ℕ
 front_len cuts depth [] = 0
 front_len cuts depth (byte ∷ rest) = if depth == 0 && cuts byte then 0 else 1 + front_len cuts (depth_behind depth byte) rest
@@ -59,6 +59,6 @@ front_len cuts depth (byte ∷ rest) = if depth == 0 && cuts byte then 0 else 1 
 unfoldable pub first_word : List ℕ → List ℕ
 first_word text = take (front_len is_blank 0 (without_front_blanks text)) (without_front_blanks text)
 
--- what stands behind the first word and the blanks behind that
+-- what comes after the first word and the blanks after that
 unfoldable pub behind_word : List ℕ → List ℕ
 behind_word text = without_front_blanks (drop (front_len is_blank 0 (without_front_blanks text)) (without_front_blanks text))

@@ -68,7 +68,7 @@ Expands (Err NoMemory) appended expanded = ⊤
 Expands (Err (Unknown from to)) appended expanded = expanded ≡ Err (Unknown from to)
 Expands (Err TooLong) appended expanded = expanded ≡ Err TooLong
 
--- a piece of the text at a place, with the place behind it, or what an undefined variable shows there
+-- a piece of the text at a place, with the place after it, or what an undefined variable shows there
 abbrev pub GivesPiece : Variables → List ℕ → ℕ → Result (Bor (List ℕ) × ℕ) Span → Type 0
 GivesPiece variables text place (Ok found) =
     (place < found.1) × (found.1 ≤ length text) × (pieces variables text place 0 (drop place text)

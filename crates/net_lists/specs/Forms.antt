@@ -16,30 +16,30 @@ pub data Otherwise : Type 0 where
   -- or nothing: these bytes are shown
   Refused : Span → Otherwise
 
--- a form that names a variable, by places in the text: its name, and the place behind it
+-- a form that names a variable, by places in the text: its name, and the place after it
 pub record Form : Type 0 where
   pub name : Span
   pub end : ℕ
   pub otherwise : Otherwise
 
--- from this place up to that
+-- the span from this place up to that
 abbrev pub span : ℕ → ℕ → Span
 span start end = record { start = start; end = end }
 
--- how many bytes of a name stand in front
+-- how many bytes of a name are in front
 unfoldable pub name_len : List ℕ → ℕ
 name_len [] = 0
 name_len (first ∷ rest) = if begins_name first then 1 + prefix_len continues_name rest else 0
 
--- from this place up to the first `)` (41), if there is one
+-- the span from this place up to the first `)` (41), if there is one
 unfoldable pub closed : List ℕ → ℕ → Option Span
 closed text place = option_map (λ count. span place (place + count)) (position (λ byte. byte == 41) (drop place text))
 
--- the form with this name that ends behind the `)` of this span
+-- the form with this name that ends after the `)` of this span
 abbrev pub form_to : Span → (Span → Otherwise) → Span → Form
 form_to name otherwise shown = record { name = name; end = shown.end + 1; otherwise = otherwise shown }
 
--- the form in parentheses with this name, by what stands behind the name
+-- the form in parentheses with this name, by what comes after the name
 unfoldable pub named_form : List ℕ → Span → Option Form
 named_form text name =
     let behind = drop name.end text in
@@ -66,7 +66,7 @@ bare text place =
       otherwise = Refused (span place (place + len));
     })
 
--- the form whose `$` stands right before this place
+-- the form whose `$` comes right before this place
 unfoldable pub form_at : List ℕ → ℕ → Option Form
 form_at text place = if starts_with nat_eq (drop place text) (codes "(") then parenthesized text (place + 1) else bare text place
 

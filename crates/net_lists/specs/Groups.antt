@@ -1,7 +1,7 @@
 -- How the groups of an address of version 6 are read one after another: how many there are so far, and the
 -- number that they make. That this gives the same as the list of groups is proved of it.
 --
--- To try it on: behind `2001:db8` there are 2 groups, which make 0x20010db8.
+-- To try it on: after `2001:db8` there are 2 groups, which make 0x20010db8.
 use denote.Ref.{Bor}
 use Rattle.std.specs.Prelude.{ℕ, ◌+◌, ◌-◌, ◌*◌, ◌^◌, ◌<◌, ◌≤◌, ◌==◌, Option, Some, None, List, [], ◌∷◌, length, nat_le, if◌then◌else◌}
 use Rattle.std.specs.List.{slice_split}
@@ -9,7 +9,7 @@ use Rattle.edge_io.specs.OnOption.{◌>>=◌}
 use Rattle.net_lists.specs.declared.address6.Groups.{Groups}
 use Rattle.net_lists.specs.Addresses.{group, groups_value}
 
--- at most eight groups, and a number that so many make
+-- at most eight groups, and a number that as many groups make
 abbrev pub IsSmall : Groups → Type 0
 IsSmall groups = (groups.count ≤ 8) × (groups.value < 2 ^ (16 * groups.count))
 
@@ -18,7 +18,7 @@ abbrev pub pieces_left : Option (Bor (List ℕ)) → List (List ℕ)
 pieces_left None = []
 pieces_left (Some text) = slice_split (λ b. b == 58) text.now
 
--- one group more, if there are fewer than eight
+-- the groups with one more, if there are fewer than eight
 abbrev pub with_group : Groups → ℕ → Option Groups
 with_group groups next =
     if groups.count == 8 then None else Some (record { count = groups.count + 1; value = groups.value * 65536 + next })

@@ -2,7 +2,7 @@
 --
 -- A list is `any`, a part, or parts in brackets between commas, nested at will; `!` before a part or a
 -- bracket negates each part in it. A `!` inside a negated bracket, `!any`, `[any]` and an empty bracket
--- are in no list. Blanks stand only inside brackets, and not inside a part.
+-- are in no list. Blanks are only inside brackets, and not inside a part.
 -- (Snort Users Manual 2.9, "IP Addresses" and "Port Numbers"; where that leaves points open, our own.)
 -- To try it on: `![80,[81,82:]]` is three negated parts, and `![80,!81]` is no list.
 use Rattle.std.specs.Prelude.{◌≡◌, ℕ, ◌<◌, ◌≤◌, ⊤, Bool, true, false, Option, Some, Result, Ok, Err, List, [], ◌∷◌, ◌++◌, length, codes}
@@ -33,7 +33,7 @@ pub data Derives {B : Type 0} (reads : List ℕ → Option B) : Rule → Bool �
   -- an item is an operand,
   plain : {negated : Bool} {operand : List Symbol} {parts : List (Part B)} → Derives reads Operand negated operand parts
       → Derives reads Item negated operand parts
-  -- or a `!` and a negated operand, where it does not stand in a negated bracket;
+  -- or a `!` and a negated operand, where it is not in a negated bracket;
   negation : {operand : List Symbol} {parts : List (Part B)} → Derives reads Operand true operand parts
       → Derives reads Item false (Not ∷ operand) parts
   -- a group is an item,
@@ -49,13 +49,13 @@ pub data IsList {B : Type 0} (reads : List ℕ → Option B) : List ℕ → List
   any : IsList reads (codes "any") []
   -- a part,
   single : {text : List ℕ} {bounds : B} → reads text ≡ Some bounds → IsList reads text (signed false bounds ∷ [])
-  -- a part behind a `!`,
+  -- a part after a `!`,
   single_negated : (text : List ℕ) {bounds : B} → reads text ≡ Some bounds
       → IsList reads (codes "!" ++ text) (signed true bounds ∷ [])
   -- a group in brackets,
   brackets : (inner : List ℕ) {parts : List (Part B)} → Derives reads Group false (symbols inner) parts
       → IsList reads (codes "[" ++ (inner ++ codes "]")) parts
-  -- or a group in brackets behind a `!`
+  -- or a group in brackets after a `!`
   brackets_negated : (inner : List ℕ) {parts : List (Part B)} → Derives reads Group true (symbols inner) parts
       → IsList reads (codes "![" ++ (inner ++ codes "]")) parts
 

@@ -2,7 +2,7 @@
 -- next, how many brackets are open, and how many of these, from the innermost on, lie in a negated one.
 -- That this accepts exactly the grammar of lists is proved of it.
 --
--- To try it on: behind `80,![` an item is wanted, one bracket is open, and it is negated.
+-- To try it on: after `80,![` an item is wanted, one bracket is open, and it is negated.
 use Rattle.std.specs.Prelude.{◌≡◌, ℕ, ◌+◌, ◌-◌, ◌<◌, ◌≤◌, ◌==◌, ◌&&◌, ◌||◌, ◌++◌, ⊤, Bool, true, false, not, Option, Some, None, Result, Ok, Err, Vec, List, [], ◌∷◌, length, take, drop, get_or, codes, bytes_eq, nat_lt, nat_le, if◌then◌else◌}
 use Rattle.std.specs.Option.{option_map, option_to_list}
 use Rattle.std.specs.declared.alloc.Global.{Global}
@@ -16,27 +16,27 @@ use Rattle.net_lists.specs.declared.read.ReadFault.TheVariants as fault
 use Rattle.net_lists.specs.Lists.{signed}
 use Rattle.net_lists.specs.Tokens.{Symbol, Open, Close, Comma, Not, Word, symbols}
 
--- an operand that stands here is negated
+-- an operand that is here is negated
 abbrev pub is_negated : Place → Bool
 is_negated place = elim (place.wanted) [ wanted.Operand ↦ true | _ ↦ nat_lt 0 place.negated ]
 
--- a part or a bracket may stand here
+-- a part or a bracket may come here
 abbrev pub wants_operand : Place → Bool
 wants_operand place = elim (place.wanted) [ wanted.Separator ↦ false | _ ↦ true ]
 
--- an item may stand here
+-- an item may come here
 abbrev pub wants_item : Place → Bool
 wants_item place = elim (place.wanted) [ wanted.Item ↦ true | _ ↦ false ]
 
--- a place with so many open brackets, so many of them negated, where this is wanted
+-- a place with `depth` open brackets, `negated` of them negated, where this is wanted
 abbrev pub at : Wanted → ℕ → ℕ → Place
 at wanted depth negated = record { wanted = wanted; depth = depth; negated = negated }
 
--- before the first symbol of brackets that may stand behind a `!`
+-- the place before the first symbol of brackets, which may come after a `!`
 abbrev pub start : Bool → Place
 start negated = at wanted.Item 0 (if negated then 1 else 0)
 
--- behind a word: the part that it is, with the place's sign
+-- the step after a word: the part that it is, with the place's sign
 unfoldable pub behind_word : {B : Type 0} → (List ℕ → Option B) → Place → List ℕ → Option (Step B)
 behind_word reads place word =
     if wants_operand place
@@ -46,32 +46,32 @@ behind_word reads place word =
     }) (reads word)
     else None
 
--- behind a mark, which is no part
+-- the step after a mark, which is no part
 abbrev pub no_part : {B : Type 0} → Place → Step B
 no_part place = record { place = place; part = None }
 
--- behind a `[`
+-- the step after a `[`
 unfoldable pub behind_open : {B : Type 0} → Place → Option (Step B)
 behind_open place =
     if wants_operand place then Some (no_part (at wanted.Item (place.depth + 1) (if is_negated place then place.negated + 1
     else 0))) else None
 
--- behind a `]`
+-- the step after a `]`
 unfoldable pub behind_close : {B : Type 0} → Place → Option (Step B)
 behind_close place =
     if wants_operand place || place.depth == 0 then None
     else Some (no_part (at wanted.Separator (place.depth - 1) (place.negated - 1)))
 
--- behind a `,`
+-- the step after a `,`
 unfoldable pub behind_comma : {B : Type 0} → Place → Option (Step B)
 behind_comma place = if wants_operand place then None else Some (no_part (at wanted.Item place.depth place.negated))
 
--- behind a `!`
+-- the step after a `!`
 unfoldable pub behind_not : {B : Type 0} → Place → Option (Step B)
 behind_not place =
     if wants_item place && place.negated == 0 then Some (no_part (at wanted.Operand place.depth place.negated)) else None
 
--- the next place behind a symbol, with the part that it is, if it may stand there
+-- the next place after a symbol, with the part that it is, if it may come there
 abbrev pub step_of : {B : Type 0} → (List ℕ → Option B) → Place → Symbol → Option (Step B)
 step_of reads place Open = behind_open place
 step_of reads place Close = behind_close place
@@ -91,7 +91,7 @@ IsNext old new = (new.depth ≤ old.depth + 1) × (old.negated ≤ old.depth + 1
 abbrev pub before : {B : Type 0} → List (Part B) → Option (List (Part B)) → Option (List (Part B))
 before parts rest = option_map (λ more. parts ++ more) rest
 
--- the parts from a place on, if the symbols may stand there and then end
+-- the parts from a place on, if the symbols may come there and then end
 unfoldable pub run : {B : Type 0} → (List ℕ → Option B) → Place → List Symbol → Option (List (Part B))
 run reads place [] = if is_end place then Some [] else None
 run reads place (symbol ∷ rest) = elim (step_of reads place symbol) [
@@ -99,11 +99,11 @@ run reads place (symbol ∷ rest) = elim (step_of reads place symbol) [
   | Some step ↦ before (option_to_list step.part) (run reads step.place rest)
 ]
 
--- the parts of the symbols of this text, which stands in brackets that may be negated
+-- the parts of the symbols of this text, which is in brackets that may be negated
 unfoldable pub group_parts : {B : Type 0} → (List ℕ → Option B) → Bool → List ℕ → Option (List (Part B))
 group_parts reads negated inner = run reads (start negated) (symbols inner)
 
--- what stands between a `[` (91) in front and a `]` (93) at the end
+-- what is between a `[` (91) in front and a `]` (93) at the end
 unfoldable pub bracketed : List ℕ → Option (List ℕ)
 bracketed text =
     if (nat_le 2 (length text) && get_or text 0 0 == 91) && get_or text (length text - 1) 0 == 93
@@ -116,7 +116,7 @@ operand_parts reads negated text = elim (bracketed text) [
   | Some inner ↦ group_parts reads negated inner
 ]
 
--- the parts of a list behind a `!` (33), if one stands in front
+-- the parts of a list after a `!` (33), if there is one in front
 unfoldable pub signed_parts : {B : Type 0} → (List ℕ → Option B) → List ℕ → Option (List (Part B))
 signed_parts reads [] = operand_parts reads false []
 signed_parts reads (first ∷ rest) =
@@ -133,7 +133,7 @@ Reads items (Err fault.Bad) parts = parts ≡ None
 Reads items (Err fault.TooLong) parts = ⊥
 Reads items (Err fault.NoMemory) parts = ⊤
 
--- the same of a reader that takes 1024 parts at most
+-- an answer of a reader that takes 1024 parts at most stands for these parts, or for none
 abbrev pub ReadsList : {X B : Type 0} → (X → List (Part B)) → Result X ReadFault → Option (List (Part B)) → Type 0
 ReadsList items (Ok list) parts = (parts ≡ Some (items list)) × (length (items list) ≤ 1024)
 ReadsList items (Err fault.Bad) parts = parts ≡ None

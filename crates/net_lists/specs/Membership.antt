@@ -12,11 +12,11 @@ use Rattle.net_lists.specs.declared.part.AddrBounds.{AddrBounds}
 use Rattle.net_lists.specs.declared.part.AddrBounds.TheVariants as bounds
 use Rattle.net_lists.specs.declared.part.Part.{Part}
 
--- the part stands without a `!`
+-- the part has no `!` before it
 abbrev pub IsPositive : {B : Type 0} → Part B → Type 0
 IsPositive part = part.negated ≡ false
 
--- the part stands behind a `!`, its own or that of a bracket around it
+-- the part comes after a `!`, its own or that of a bracket around it
 abbrev pub IsNegated : {B : Type 0} → Part B → Type 0
 IsNegated part = part.negated ≡ true
 
@@ -36,7 +36,7 @@ HasAddress (addr.V4 value) (bounds.V6 within) = ⊥
 HasAddress (addr.V6 value) (bounds.V4 within) = ⊥
 HasAddress (addr.V6 value) (bounds.V6 within) = Has value within
 
--- The same of ports, as a test.
+-- Whether a list has a port, as a test.
 
 -- the port lies between the part's bounds
 abbrev pub is_in : ℕ → Part (Bounds ℕ) → Bool

@@ -23,7 +23,7 @@ are_digits text = not (length text == 0) && list_all is_ascii_digit text
 unfoldable pub digits_upto : ℕ → List ℕ → Option ℕ
 digits_upto most text = if are_digits text && nat_le (decimal_value text) most then Some (decimal_value text) else None
 
--- a 0 stands before another byte
+-- a 0 comes before another byte
 unfoldable pub has_leading_zero : List ℕ → Bool
 has_leading_zero [] = false
 has_leading_zero (first ∷ []) = false
@@ -41,12 +41,12 @@ kept_in least most number = if nat_le least number && nat_le number most then So
 unfoldable pub number_in : ℕ → ℕ → List ℕ → Option ℕ
 number_in least most text = whole_number text >>= kept_in least most
 
--- what stands behind a `-` (45) in front, if one does
+-- what comes after a `-` (45) in front, if there is one
 abbrev pub behind_minus : List ℕ → Option (List ℕ)
 behind_minus [] = None
 behind_minus (first ∷ rest) = if first == 45 then Some rest else None
 
--- the number of a text, or of these digits behind a `-`, as a negative one
+-- the number of a text, or of these digits after a `-`, as a negative one
 abbrev pub number_signed : List ℕ → Option (List ℕ) → Option ℤ
 number_signed text None = option_map pos (whole_number text)
 number_signed text (Some digits) = option_map (λ number. neg_ℤ (pos number)) (whole_number digits)
@@ -59,6 +59,6 @@ signed_number text = number_signed text (behind_minus text)
 abbrev pub signed_kept_in : ℤ → ℤ → ℤ → Option ℤ
 signed_kept_in least most number = if int_le least number && int_le number most then Some number else None
 
--- the number that a text spells, negative behind a `-`, if it lies from `least` to `most`
+-- the number that a text spells, negative after a `-`, if it lies from `least` to `most`
 unfoldable pub signed_in : ℤ → ℤ → List ℕ → Option ℤ
 signed_in least most text = signed_number text >>= signed_kept_in least most

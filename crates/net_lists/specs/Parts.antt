@@ -11,7 +11,7 @@ use Rattle.net_lists.specs.declared.part.Part.{Part}
 use Rattle.net_lists.specs.Numbers.{number_in}
 use Rattle.net_lists.specs.Addresses.{cut}
 
--- the number before or behind a colon, which may lack
+-- the number before or after a colon, which may lack
 unfoldable pub port_end : ℕ → List ℕ → Option ℕ
 port_end lacking text = if length text == 0 then Some lacking else number_in 0 65535 text
 

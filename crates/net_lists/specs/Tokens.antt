@@ -1,6 +1,6 @@
--- What stands inside the brackets of a list, cut into symbols: the four marks `[`, `]`, `,` and `!`, and
+-- What is inside the brackets of a list, cut into symbols: the four marks `[`, `]`, `,` and `!`, and
 -- between them the words, each a longest stretch of bytes that are neither marks nor blanks. Blanks
--- (space and tab) stand for nothing, but no word goes on behind one.
+-- (space and tab) stand for nothing, but no word goes on after one.
 --
 -- To try it on: `80, ![81 82]` is Word 80, Comma, Not, Open, Word 81, Word 82, Close, and two words side
 -- by side are in no list.
@@ -24,17 +24,17 @@ mark byte = if byte == 91 then Some Open else if byte == 93 then Some Close else
 abbrev pub is_word_byte : ℕ → Bool
 is_word_byte byte = not (is_blank byte) && is_none (mark byte)
 
--- a byte of a word stands in front
+-- a byte of a word is in front
 abbrev pub begins_word : List ℕ → Bool
 begins_word [] = false
 begins_word (byte ∷ rest) = is_word_byte byte
 
--- a blank stands in front
+-- a blank is in front
 abbrev pub begins_blank : List ℕ → Bool
 begins_blank [] = false
 begins_blank (byte ∷ rest) = is_blank byte
 
--- a byte of a word before these symbols, to be joined to the first where that is a word right behind it
+-- a byte of a word before these symbols, to be joined to the first where that is a word right after it
 abbrev pub joined : ℕ → Bool → List Symbol → List Symbol
 joined byte true (Word word ∷ rest) = Word (byte ∷ word) ∷ rest
 joined byte _ symbols = Word (byte ∷ []) ∷ symbols

@@ -54,7 +54,7 @@ abbrev pub value_of : Option Variable → Option (List ℕ)
 value_of None = None
 value_of (Some variable) = Some variable.value
 
--- the variables after a definition: as they were where the name stands as fixed
+-- the variables after a definition: as they were where the name is fixed
 abbrev pub defined : Variables → List ℕ → List ℕ → Bool → Variables
 defined variables name value fixed =
     if is_fixed (map.get variables name) then variables else map.insert variables name (record { value = value; fixed = fixed })

@@ -21,7 +21,7 @@ has_address (addr.V4 value) (bounds.V6 within) = false
 has_address (addr.V6 value) (bounds.V4 within) = false
 has_address (addr.V6 value) (bounds.V6 within) = is_within value within
 
--- the verdict on what is left: whether a positive part had the value before, and whether one stood there
+-- the verdict on what is left: whether a positive part had the value before, and whether there was one
 unfoldable pub verdict : {B : Type 0} → (B → Bool) → Bool → Bool → List (Part B) → Bool
 verdict has found positive [] = found || not positive
 verdict has found positive (part ∷ parts) =

@@ -65,7 +65,7 @@ fn group(text: &[u8]) -> Option<u32>
     }
 }
 
-/// The bytes before the first colon, and those behind it, if there is one.
+/// The bytes before the first colon, and those after it, if there is one.
 fn first_piece(text: &[u8]) -> (&[u8], Option<&[u8]>)
     ensures { slice_split (λ b. b == 58) text.now ≡ result.0.now ∷ pieces_left result.1 }
 {
@@ -75,7 +75,7 @@ fn first_piece(text: &[u8]) -> (&[u8], Option<&[u8]>)
     }
 }
 
-/// One group more, if there are fewer than eight.
+/// The groups with one more, if there are fewer than eight.
 fn with_group(groups: Groups, next: u32) -> Option<Groups>
     requires small { IsSmall groups }
     requires next { next < 65536 }
@@ -156,7 +156,7 @@ fn gap_place(text: &[u8]) -> Option<usize>
     None
 }
 
-/// What stands before the first `::` and behind it.
+/// What comes before the first `::` and after it.
 #[tactic(auto, unfolding(crate::specs::Addresses::gap))]
 fn gap(text: &[u8]) -> Option<(&[u8], &[u8])>
     ensures { option_map (λ sides. (sides.0.now, sides.1.now)) result ≡ gap text.now }

@@ -10,7 +10,7 @@ pub fn is_blank(byte: u8) -> bool
     byte == b' ' || byte == b'\t'
 }
 
-/// How many blanks stand in front.
+/// How many blanks are in front.
 #[tactic(auto, using(crate::proofs::Fronts::fronts))]
 fn blanks_len(text: &[u8]) -> usize
     ensures len { result ≡ prefix_len is_blank text.now }
@@ -28,7 +28,7 @@ pub fn without_front_blanks(text: &[u8]) -> &[u8]
     &text[blanks_len(text)..]
 }
 
-/// How many bytes stand in front of the blanks behind.
+/// How many bytes there are before the blanks at the end.
 fn closed_len(text: &[u8]) -> usize
     ensures len { result + suffix_len is_blank text.now ≡ length text.now }
     ensures within { result ≤ length text.now }
@@ -43,7 +43,7 @@ fn closed_len(text: &[u8]) -> usize
     0
 }
 
-/// The text without the blanks in front and behind.
+/// The text without the blanks at its front and end.
 #[tactic(auto, unfolding(edge_io::specs::Bytes::trimmed))]
 pub fn trimmed(text: &[u8]) -> &[u8]
     ensures { result.now ≡ trimmed text.now }

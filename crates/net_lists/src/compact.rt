@@ -21,7 +21,7 @@ pub type Addr4Part = Part<Bounds<u32>>;
 /// The parts of a list of addresses, in order.
 #[derive(Debug, Drop)]
 pub enum Stored {
-    /// All are of version 4.
+    /// All parts are of version 4.
     V4(Vec<Addr4Part>),
     Mixed(Vec<AddrPart>),
 }
@@ -66,7 +66,7 @@ fn without_versions(alloc: Global, parts: &[AddrPart]) -> Result<Option<Vec<Addr
 }
 
 impl Stored {
-    /// These parts, kept compactly where that can be.
+    /// The list of these parts, kept compactly where that can be.
     fn of(alloc: Global, parts: Vec<AddrPart>) -> Result<Stored, AllocError>
         ensures parts { IfOk result (λ stored. parts_of stored ≡ parts.items) }
         ensures compact { IfOk result IsCompact }

@@ -29,7 +29,8 @@ impl Vars {
         }
     }
 
-    /// The same, but for what is left of `out` after a refusal: it begins with what it held.
+    /// Appends the expansion of a text as `expand` does, but for what is left of `out` after a refusal: it begins
+    /// with what it held.
     fn append(&self, text: &[u8], out: &mut Vec<u8>) -> Result<(), ExpandFault>
         ensures kept { out.new.items ≡ out.old.items ++ drop (vec_len out.old) out.new.items }
         ensures expanded { Expands result (drop (vec_len out.old) out.new.items) (expansion self.now text.now) }
@@ -57,7 +58,7 @@ impl Vars {
         Ok(())
     }
 
-    /// The bytes that come next, and the place behind what they stand for; or what an undefined
+    /// The bytes that come next, and the place after what they stand for; or what an undefined
     /// variable shows.
     fn piece_at<'a>(&'a self, text: &'a [u8], place: usize) -> Result<(&'a [u8], usize), Span>
         requires { place < length text.now }

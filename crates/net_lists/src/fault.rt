@@ -6,11 +6,11 @@ use std::alloc::AllocError;
 /// Why a text is not read as a list.
 #[derive(Clone, Copy, Debug, PartialEq, Eq)]
 pub enum ListFault {
-    /// It is no list of addresses.
+    /// The text is no list of addresses.
     BadAddress,
-    /// It is no list of ports.
+    /// The text is no list of ports.
     BadPort,
-    /// It is a list of more than 1024 parts.
+    /// The text is a list of more than 1024 parts.
     ListTooLong,
     /// Memory ran out.
     NoMemory,

@@ -1,7 +1,7 @@
 //! A fold over the parts of a text, proved once for any step.
 //!
-//! A form of values with parts is a step: how one part changes what stands before it, or why it may not
-//! stand there. `Parts::commas(value).fold_by(&step, draft)` then reads the whole value, up to the first part
+//! A form of values with parts is a step: how one part changes the draft before it, or why it may not
+//! come there. `Parts::commas(value).fold_by(&step, draft)` then reads the whole value, up to the first part
 //! that is refused.
 ghost use Rattle.std.specs.Prelude.{◌≡◌, List, ℕ, Result};
 ghost use Rattle.net_lists.specs.Stops.{Gives};
@@ -14,7 +14,7 @@ use crate::stop::Stop;
 pub trait PartStep<D, K> {
     ghost next_draft: { Self → D → List ℕ → Result D K };
 
-    /// The draft behind a part, or the kind of the part's fault.
+    /// The draft after a part, or the kind of the part's fault.
     fn next(&self, draft: D, part: &[u8]) -> Result<D, K>
         ensures { result ≡ next_draft self.now draft part.now };
 }
@@ -23,13 +23,13 @@ pub trait PartStep<D, K> {
 pub trait TryPartStep<D, K> {
     ghost next_draft: { Self → D → List ℕ → Result D K };
 
-    /// The draft behind a part, or the kind of the part's fault; or want of memory.
+    /// The draft after a part, or the kind of the part's fault; or want of memory.
     fn try_next(&self, draft: D, part: &[u8]) -> Result<D, Stop<K>>
         ensures { Gives result (next_draft self.now draft part.now) };
 }
 
 impl<'a> Parts<'a> {
-    /// The draft behind all parts, or the kind of the first fault.
+    /// The draft after all parts, or the kind of the first fault.
     #[tactic(auto, using(crate::proofs::Drafts::draft_steps))]
     pub fn fold_by<D, K, S: PartStep<D, K>>(self, step: &S, draft: D) -> Result<D, K>
         ensures { result ≡ draft_behind (S.next_draft step.now) draft self.entry }
@@ -41,7 +41,7 @@ impl<'a> Parts<'a> {
         Ok(draft)
     }
 
-    /// The same of a step that may want memory.
+    /// The draft after all parts, or the kind of the first fault, by a step that may want memory.
     #[tactic(auto, using(crate::proofs::Drafts::draft_steps))]
     pub fn try_fold_by<D, K, S: TryPartStep<D, K>>(self, step: &S, draft: D) -> Result<D, Stop<K>>
         ensures { Gives result (draft_behind (S.next_draft step.now) draft self.entry) }

@@ -22,12 +22,12 @@ pub enum Otherwise {
 #[derive(Clone, Copy, Debug, PartialEq, Eq)]
 pub struct Form {
     pub name: Span,
-    /// The place behind the form.
+    /// The place after the form.
     pub end: usize,
     pub otherwise: Otherwise,
 }
 
-/// The form whose `$` stands right before this place.
+/// The form whose `$` comes right before this place.
 #[tactic(auto, unfolding(crate::specs::Forms::form_at))]
 pub fn form_at(text: &[u8], place: usize) -> Option<Form>
     requires { place ≤ length text.now }
@@ -91,7 +91,7 @@ fn parenthesized(text: &[u8], place: usize) -> Option<Form>
     )
 }
 
-/// The form in parentheses with this name, by what stands behind the name.
+/// The form in parentheses with this name, by what comes after the name.
 #[tactic(auto, unfolding(crate::specs::Forms::named_form))]
 fn named_form(text: &[u8], name: Span) -> Option<Form>
     requires { IsSpan text.now name }
@@ -128,7 +128,7 @@ fn named_form(text: &[u8], name: Span) -> Option<Form>
     None
 }
 
-/// What stands from this place up to the first `)`.
+/// The span from this place up to the first `)`.
 #[tactic(auto, unfolding(crate::specs::Forms::closed))]
 fn closed(text: &[u8], place: usize) -> Option<Span>
     requires { place ≤ length text.now }
@@ -142,7 +142,7 @@ fn closed(text: &[u8], place: usize) -> Option<Span>
     })
 }
 
-/// How many bytes of a name stand in front.
+/// How many bytes of a name are in front.
 #[tactic(auto, unfolding(crate::specs::Forms::name_len))]
 fn name_len(text: &[u8]) -> usize
     ensures len { result ≡ name_len text.now }

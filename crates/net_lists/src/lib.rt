@@ -3,7 +3,7 @@
 //! `AddrList` and `PortList` read the lists of the Snort manual, `!` and nested brackets among them,
 //! and answer whether an address or a port is listed; each reads exactly the texts of the grammar in
 //! specs/Lists and is seen as the list of its parts. `Vars` keeps the variables of a configuration and
-//! expands them in a text by the forms in specs/Forms. The readers of configurations and of rules stand
+//! expands them in a text by the forms in specs/Forms. The readers of configurations and of rules build
 //! on this crate, and every rule that is tried asks `contains`.
 #![tactic(auto)]
 

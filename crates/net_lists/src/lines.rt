@@ -23,7 +23,7 @@ fn without_return(line: &[u8]) -> &[u8]
     }
 }
 
-/// The first line of a text that is not empty, and what stands behind its line feed.
+/// The first line of a text that is not empty, and what comes after its line feed.
 pub fn cut_line(text: &[u8]) -> (&[u8], &[u8])
     requires { 0 < length text.now }
     ensures cut { lines text.now ≡ result.0.now ∷ lines result.1.now }
@@ -35,7 +35,7 @@ pub fn cut_line(text: &[u8]) -> (&[u8], &[u8])
     }
 }
 
-/// The first line of a text, and what stands behind its line feed; None for an empty text.
+/// The first line of a text, and what comes after its line feed; None for an empty text.
 pub fn first_line(text: &[u8]) -> Option<(&[u8], &[u8])>
     ensures cut { MatchOption result (lines text.now ≡ []) (λ cut. lines text.now ≡ cut.0.now ∷ lines cut.1.now) }
     ensures shorter { IfSome result (λ cut. length cut.1.now < length text.now) }

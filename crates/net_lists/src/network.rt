@@ -82,7 +82,7 @@ impl Network {
         }
     }
 
-    /// From the first address to the last.
+    /// The bounds from the first address to the last.
     fn bounds(self) -> AddrBounds
         requires { IsNetwork self }
         ensures { result ≡ bounds_at self.first self.length }
@@ -121,7 +121,7 @@ fn last_of4(last: u32) -> u32
     ((1u64 << last) - 1) as u32
 }
 
-/// The same of version 6.
+/// How many addresses of version 6 share all but their last bits, less one.
 fn last_of6(last: u32) -> u128
     requires { last ≤ 128 }
     ensures { result ≡ 2 ^ last - 1 }

@@ -43,7 +43,7 @@ pub fn number_in(least: u32, most: u32, text: &[u8]) -> Option<u32>
     }
 }
 
-/// What stands behind a `-` in front, if one does.
+/// What comes after a `-` in front, if there is one.
 fn behind_minus(text: &[u8]) -> Option<&[u8]>
     ensures { option_copied result ≡ behind_minus text.now }
 {

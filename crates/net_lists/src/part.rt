@@ -15,7 +15,7 @@ pub enum AddrBounds {
     V6(Bounds<u128>),
 }
 
-/// A part of a list: what it has, and whether it stands behind a `!`, its own or that of a bracket around
+/// A part of a list: what it has, and whether it comes after a `!`, its own or that of a bracket around
 /// it.
 #[derive(Clone, Copy, Debug, PartialEq, Eq)]
 pub struct Part<B> {

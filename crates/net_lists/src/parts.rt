@@ -15,7 +15,7 @@ pub enum Cut {
     Words,
     /// Words between blanks and commas.
     Settings,
-    /// All that stands between commas, without blanks around it.
+    /// All that is between commas, without blanks around it.
     Commas,
 }
 
@@ -32,7 +32,7 @@ impl Cut {
     }
 }
 
-/// How many brackets are open behind a byte.
+/// How many brackets are open after a byte.
 fn depth_behind(depth: usize, byte: u8) -> usize
     requires { depth + 1 < 2 ^ 64 }
     ensures depth { result ≡ depth_behind depth byte }
@@ -45,7 +45,7 @@ fn depth_behind(depth: usize, byte: u8) -> usize
     }
 }
 
-/// How many bytes stand before the first that cuts.
+/// How many bytes come before the first that cuts.
 #[tactic(auto, using(crate::proofs::Cuts::cut_steps))]
 fn front_len(text: &[u8], cut: Cut) -> usize
     ensures len { result ≡ front_len (cuts cut) 0 text.now }
@@ -74,7 +74,7 @@ fn skipped_len(text: &[u8], cut: Cut) -> usize
         .unwrap_or(text.len())
 }
 
-/// The first word and what stands behind it, if there is a word.
+/// The first word and what comes after it, if there is a word.
 fn next_word(text: &[u8], cut: Cut) -> Option<(&[u8], &[u8])>
     ensures { MatchOption result (words_between (cuts cut) text.now ≡ []) (λ found. words_between (cuts cut) text.now
         ≡ found.0.now ∷ words_between (cuts cut) found.1.now) }
@@ -86,7 +86,7 @@ fn next_word(text: &[u8], cut: Cut) -> Option<(&[u8], &[u8])>
     Some(text.split_at(front_len(text, cut)))
 }
 
-/// The first comma part and what stands behind its comma, if a comma stands there.
+/// The first comma part and what comes after its comma, if there is a comma.
 fn next_comma_part(text: &[u8]) -> (&[u8], Option<&[u8]>)
     ensures { comma_parts text.now ≡ result.0.now ∷ parts_left Commas result.1 }
 {
@@ -114,7 +114,7 @@ impl<'a> Model for Parts<'a> {
 }
 
 impl<'a> Parts<'a> {
-    /// The words of a text: what stands between blanks outside brackets.
+    /// The words of a text: what is between blanks outside brackets.
     pub fn words(text: &'a [u8]) -> Parts<'a>
         ensures { result ≡ words text.now }
     {
@@ -124,7 +124,7 @@ impl<'a> Parts<'a> {
         }
     }
 
-    /// The settings of a text: what stands between blanks and commas outside brackets.
+    /// The settings of a text: what is between blanks and commas outside brackets.
     pub fn settings(text: &'a [u8]) -> Parts<'a>
         ensures { result ≡ settings text.now }
     {
@@ -134,7 +134,7 @@ impl<'a> Parts<'a> {
         }
     }
 
-    /// The comma parts of a text: all that stands between commas outside brackets, without the blanks
+    /// The comma parts of a text: all that is between commas outside brackets, without the blanks
     /// around it. An empty text has one, which is empty.
     pub fn commas(text: &'a [u8]) -> Parts<'a>
         ensures { result ≡ comma_parts text.now }
@@ -173,7 +173,7 @@ impl<'a> Iterator for Parts<'a> {
     }
 }
 
-/// The first word of a text, empty where there is none, and what stands behind it and the blanks behind
+/// The first word of a text, empty where there is none, and what comes after it and the blanks after
 /// that. Blanks inside brackets belong to the word.
 #[tactic(auto, unfolding(crate::specs::Cutting::first_word, crate::specs::Cutting::behind_word))]
 pub fn first_word(text: &[u8]) -> (&[u8], &[u8])

@@ -6,12 +6,12 @@ ghost use Rattle.net_lists.specs.Machine.{IsNext, step_of, start, is_end, is_neg
 use crate::part::{Part, Spelled};
 use crate::token::Token;
 
-/// What may stand next inside the brackets of a list.
+/// What may come next inside the brackets of a list.
 #[derive(Clone, Copy, Debug, PartialEq, Eq)]
 pub enum Wanted {
     /// A part, a bracket or a `!`.
     Item,
-    /// A part or a bracket, behind a `!`.
+    /// A part or a bracket, after a `!`.
     Operand,
     /// A comma or the end of a bracket.
     Separator,
@@ -27,7 +27,7 @@ pub struct Place {
     pub negated: usize,
 }
 
-/// A step behind a token: the next place, and the part that the token is.
+/// A step after a token: the next place, and the part that the token is.
 #[derive(Clone, Copy, Debug, PartialEq, Eq)]
 pub struct Step<B> {
     pub place: Place,
@@ -35,7 +35,7 @@ pub struct Step<B> {
 }
 
 impl Place {
-    /// Before the first symbol of a list's brackets, which a `!` may stand before.
+    /// The place before the first symbol of a list's brackets, which may come after a `!`.
     pub fn start(negated: bool) -> Place
         ensures { result ≡ start negated }
     {
@@ -53,7 +53,7 @@ impl Place {
         self.wanted == Wanted::Separator && self.depth == 0
     }
 
-    /// The step behind this token, if it may stand here.
+    /// The step after this token, if it may come here.
     pub fn step<B: Spelled>(self, token: Token<'_>) -> Option<Step<B>>
         requires depth { self.depth + 1 < 2 ^ 64 }
         requires negated { self.negated + 1 < 2 ^ 64 }
@@ -154,7 +154,7 @@ impl Place {
 }
 
 impl<B> Step<B> {
-    /// A step behind a mark, which is no part.
+    /// A step after a mark, which is no part.
     fn to(wanted: Wanted, depth: usize, negated: usize) -> Step<B>
         ensures { result ≡ no_part (at wanted depth negated) }
     {

@@ -15,7 +15,7 @@ pub fn port(text: &[u8]) -> Option<u16>
     Some(number as u16)
 }
 
-/// The port before or behind a colon, which may lack.
+/// The port before or after a colon, which may lack.
 #[tactic(auto, unfolding(crate::specs::Parts::port_end))]
 fn port_end(text: &[u8], lacking: u16) -> Option<u16>
     ensures { result ≡ port_end lacking text.now }

@@ -13,9 +13,9 @@ const MOST_PARTS: usize = 1024;
 /// Why a text is not read as a list of its kind.
 #[derive(Clone, Copy, Debug, PartialEq, Eq)]
 pub enum ReadFault {
-    /// It is none.
+    /// The text is no list of its kind.
     Bad,
-    /// It has more than 1024 parts.
+    /// The list has more than 1024 parts.
     TooLong,
     /// Memory ran out.
     NoMemory,
@@ -107,7 +107,7 @@ fn one_part<B: Copy>(alloc: Global, part: Part<B>) -> Result<Vec<Part<B>>, ReadF
     Ok(parts)
 }
 
-/// What stands between a `[` in front and a `]` at the end.
+/// What is between a `[` in front and a `]` at the end.
 #[tactic(auto, unfolding(crate::specs::Machine::bracketed))]
 fn bracketed(text: &[u8]) -> Option<&[u8]>
     ensures { option_copied result ≡ bracketed text.now }
@@ -119,7 +119,7 @@ fn bracketed(text: &[u8]) -> Option<&[u8]>
     Some(&text[1..len - 1])
 }
 
-/// The parts of a group that stands in brackets.
+/// The parts of a group that is in brackets.
 fn group_parts<B: Spelled>(
     alloc: Global,
     negated: bool,
@@ -144,7 +144,7 @@ fn group_parts<B: Spelled>(
     Ok(parts)
 }
 
-/// Adds a part behind the last, if there is one.
+/// Adds a part after the last, if there is one.
 fn push_part<B: Copy>(parts: &mut Vec<Part<B>>, part: Option<Part<B>>) -> Result<(), AllocError>
     ensures { OnOk result (parts.new.items ≡ parts.old.items ++ option_to_list part) }
 {

@@ -2,7 +2,7 @@
 ghost use Rattle.std.specs.Prelude.{◌≡◌, ◌<◌, ◌==◌, length, position, option_map, IfSome};
 ghost use Rattle.net_lists.specs.Addresses.{cut};
 
-/// The bytes before the first of these bytes and those behind it.
+/// The bytes before the first of these bytes and those after it.
 #[tactic(auto, unfolding(crate::specs::Addresses::cut))]
 pub fn cut(text: &[u8], byte: u8) -> Option<(&[u8], &[u8])>
     ensures { option_map (λ parts. (parts.0.now, parts.1.now)) result ≡ cut byte text.now }

@@ -6,7 +6,7 @@ ghost use Rattle.net_lists.specs.Tokenized.{symbol_of};
 
 use crate::blank::{is_blank, without_front_blanks};
 
-/// What stands next inside the brackets of a list.
+/// What comes next inside the brackets of a list.
 #[derive(Clone, Copy, Debug)]
 pub enum Token<'a> {
     Open,
@@ -16,7 +16,7 @@ pub enum Token<'a> {
     Word(&'a [u8]),
 }
 
-/// The first token of a text and the bytes behind it, or None where only blanks are left.
+/// The first token of a text and the bytes after it, or None where only blanks are left.
 pub fn next_token(text: &[u8]) -> Option<(Token<'_>, &[u8])>
     ensures token { MatchOption result (symbols text.now ≡ []) (λ found. symbols text.now
         ≡ symbol_of found.0 ∷ symbols found.1.now) }
@@ -43,7 +43,7 @@ fn skip_blanks(text: &[u8]) -> &[u8]
     without_front_blanks(text)
 }
 
-/// The word in front and the bytes behind it.
+/// The word in front and the bytes after it.
 #[tactic(auto, using(crate::proofs::Lists::Words::words))]
 fn first_word(text: &[u8]) -> (Token<'_>, &[u8])
     requires { begins_word text.now ≡ true }
@@ -54,7 +54,7 @@ fn first_word(text: &[u8]) -> (Token<'_>, &[u8])
     (Token::Word(word), behind)
 }
 
-/// How many bytes of a word stand in front.
+/// How many bytes of a word are in front.
 #[tactic(auto, using(crate::proofs::Fronts::fronts))]
 fn word_len(text: &[u8]) -> usize
     ensures len { result ≡ prefix_len is_word_byte text.now }

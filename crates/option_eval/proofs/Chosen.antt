@@ -40,7 +40,7 @@ same_at [] k x y below is-x is-y = absurd (omega arith)
 same_at (a ∷ xs) zero x y below is-x is-y = is-x ∙ sym is-y
 same_at (a ∷ xs) (suc k) x y below is-x is-y = same_at xs k x y (omega arith) is-x is-y
 
--- from the payload's start
+-- some way leads through the options from the payload's start
 pub way_start : (means : Means) (payload : List ℕ) (options : List Opt) → (((way : List Standing) × IsWay means payload options start way) → MatchesFromOne means payload options (0 ∷ 0 ∷ []) (0 ∷ [])) × (MatchesFromOne means payload options (0 ∷ 0 ∷ []) (0 ∷ []) → (way : List Standing) × IsWay means payload options start way)
 way_start means payload options = (
   λ m. (0, contains_first 0 [], m),

@@ -19,7 +19,7 @@ digits_small sum i below short =
 
 pub ruleset digits = (digits_below, digits_small)
 
--- and one digit more still fits
+-- one digit more still fits
 pub digits_fit : (sum radix i : ℕ) → sum < 17 ^ i → i ≤ 10 → radix ≤ 16 → sum * radix ≤ 2 ^ 45
 digits_fit sum radix i below short base =
     let small = digits_small sum i below short in

@@ -4,11 +4,11 @@ use Rattle.option_eval.specs.Sets.{IsWithin, Occurs}
 use Rattle.option_eval.specs.declared.absent.Seen.{Seen}
 use Rattle.option_eval.specs.declared.reach.Reach.{Reach}
 
--- bytes stand within reach of a place
+-- bytes occur within reach of a place
 abbrev pub IsReached : Bool → List ℕ → List ℕ → Reach → ℕ → Type 0
 IsReached nocase payload bytes reach place = (i : ℕ) × IsWithin reach (length bytes) place i × Occurs nocase payload bytes i
 
--- an occurrence that was looked at isn't behind the last that was seen
+-- an occurrence that was looked at isn't after the last that was seen
 abbrev pub IsNoted : Seen → ℕ → Type 0
 IsNoted seen i = i < seen.done → i < seen.last
 

@@ -13,7 +13,7 @@ abbrev pub is_named : ℕ → Num → Bool
 is_named name (num.Value number) = false
 is_named name (num.Name named) = named == name
 
--- the same of a number that may be absent
+-- a number, if there is one, is the value of this name
 abbrev pub is_named_if : ℕ → Option Num → Bool
 is_named_if name None = false
 is_named_if name (Some number) = is_named name number

@@ -4,7 +4,7 @@ use Rattle.rule_types.specs.declared.option.Opt.{Opt}
 use Rattle.rule_types.specs.declared.option.Opt.TheVariants as opt
 use Rattle.option_eval.specs.Places.{is_only}
 
--- it counts from the place before it
+-- the option counts from the place before it
 abbrev pub is_relative : Opt → Bool
 is_relative (opt.Content content) = not (is_only content.fast) && content.relative
 is_relative (opt.Pcre text flags relative negated) = relative
@@ -14,7 +14,7 @@ is_relative (opt.ByteExtract fetch name times align) = fetch.relative
 is_relative (opt.IsDataAt at relative negated) = relative
 is_relative _ = false
 
--- it leads nowhere but to the place before it
+-- the option leads nowhere but to the place before it
 abbrev pub is_test : Opt → Bool
 is_test (opt.Content content) = content.negated || is_only content.fast
 is_test (opt.Pcre text flags relative negated) = negated
@@ -27,7 +27,7 @@ abbrev pub needs_place : List Opt → Bool
 needs_place [] = false
 needs_place (option ∷ options) = is_relative option || (is_test option && needs_place options)
 
--- it leads from each place to one place, or nowhere
+-- the option leads from each place to one place, or nowhere
 abbrev pub IsJump : Opt → Type 0
 IsJump (opt.Pcre text flags relative negated) = negated ≡ false
 IsJump (opt.ByteJump fetch times align beginning post) = Unit {0}

@@ -15,7 +15,7 @@ use Rattle.option_eval.specs.Sets.{Gathers, IsLedTo, LeadsFrom}
 abbrev pub is_free : Opt → Bool
 is_free option = not (is_relative option) && (not (reads 0 option) && not (reads 1 option))
 
--- where the option led that stands before so many, if that is known
+-- where the option led that `left` others follow, if that is known
 unfoldable pub known_at : Known → ℕ → Option Next
 known_at known left = slice_index_or known.led.items left None
 
@@ -28,7 +28,7 @@ LeadsAlike means payload option every next = (values places : List ℕ) → leng
 abbrev pub IsKnown : Means → List ℕ → Opt → Bool → Option Next → Type 0
 IsKnown means payload option every found = IfSome found (LeadsAlike means payload option every)
 
--- the same of each of these options
+-- what is known of each of these options is where it leads
 abbrev pub AreKnown : Means → List ℕ → List Opt → Known → Type 0
 AreKnown means payload [] known = Unit {0}
 AreKnown means payload (option ∷ options) known =
@@ -38,7 +38,7 @@ AreKnown means payload (option ∷ options) known =
 abbrev pub AreRising : ℕ → Known → Type 0
 AreRising high known = (left : ℕ) → IfSome (known_at known left) (RisesTo high)
 
--- after a walk through the last so many options known places rise, and of the options before these is known what was
+-- after a walk through the last `count` options known places rise, and of the options before these is known what was
 pub record KeepsKnown (count high : ℕ) (old new : Known) : Type 0 where
   pub rising : AreRising high new
   pub others : (left : ℕ) → count ≤ left → known_at new left ≡ known_at old left

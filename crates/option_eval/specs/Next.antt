@@ -1,4 +1,4 @@
--- The places behind an option.
+-- The places after an option.
 use Rattle.std.specs.Prelude.{◌≡◌, ℕ, true, List, length}
 use Rattle.rule_types.specs.declared.option.Opt.{Opt}
 use Rattle.option_eval.specs.declared.next.Next.{Next}
@@ -6,12 +6,12 @@ use Rattle.option_eval.specs.declared.next.Next.TheVariants as next
 use Rattle.option_eval.specs.Kinds.{is_test}
 use Rattle.option_eval.specs.Sets.{IsRising}
 
--- the places behind an option, where these stand before it
+-- the places after an option, where these are the places before it
 abbrev pub next_set : Next → List ℕ → List ℕ
 next_set next.Same places = places
 next_set (next.To places') places = places'.items
 
--- they say nothing of the places before it: a test leaves them all, or none
+-- the places after an option tell nothing of those before it: a test leaves them all, or none
 abbrev pub IsForAll : Opt → Next → Type 0
 IsForAll option next.Same = is_test option ≡ true
 IsForAll option (next.To places) = is_test option ≡ true → length places.items ≡ 0

@@ -33,7 +33,7 @@ abbrev pub number_of : List ℕ → Num → ℤ
 number_of values (num.Value number) = number
 number_of values (num.Name name) = pos (slice_index values name)
 
--- the same of a number that may be absent
+-- a number of an option, if there is one
 abbrev pub number_if : List ℕ → Option Num → Option ℤ
 number_if values number = option_map (number_of values) number
 
@@ -77,7 +77,7 @@ abbrev pub place_of : ℤ → Option ℕ
 place_of (pos place) = Some place
 place_of (negsuc before) = None
 
--- so many bytes of the payload from a place on; none if they don't all lie in it
+-- this many bytes of the payload from a place on; none if they don't all lie in it
 abbrev pub bytes_from : List ℕ → ℕ → ℕ → Option (List ℕ)
 bytes_from payload count start =
     if nat_le (start + count) (length payload) then Some (slice payload start (start + count)) else None

@@ -1,7 +1,7 @@
 -- Where the payload options of a rule can lead, and when a payload matches a rule.
 --
 -- An option leads from a standing, a place of the payload with the values extracted so far, to
--- standings behind it. A payload matches where some way leads from the payload's start through all
+-- standings after it. A payload matches where some way leads from the payload's start through all
 -- options of the rule, in their order. How a way is found is not said here.
 -- Source: Snort Users Manual 2.9, section 3.5.
 -- To try it on: in `abxabc` the content `ab` leads from the start to the places 2 and 5; the content `c`
@@ -41,7 +41,7 @@ Unless negated P = MatchBool negated (¬ P) P
 abbrev pub window_start : Content → Standing → ℤ
 window_start content before = pos (origin content.relative before) +ℤ unwrap_or (number_if before.values content.from) (pos 0)
 
--- `depth`, or `within`: the place so many bytes on, by which the content ends
+-- `depth`, or `within`: the place this many bytes on, by which the content ends
 abbrev pub window_end : Content → Standing → Option ℤ
 window_end content before = option_map (λ room. window_start content before +ℤ room) (number_if before.values content.room)
 
@@ -67,13 +67,13 @@ sought content before =
     then record { nocase = true; from = pos 0; until = None }
     else record { nocase = content.nocase; from = window_start content before; until = window_end content before }
 
--- bytes stand in the payload at place i, as they are sought
+-- bytes occur in the payload at place i, as they are sought
 pub record StandsAt (bytes payload : List ℕ) (how : Sought) (i : ℕ) : Type 0 where
   pub from : how.from ≤ℤ pos i
   pub until : IfSome how.until (λ end. pos (i + length bytes) ≤ℤ end)
   pub occurs : OccursAt (folded how.nocase payload) (folded how.nocase bytes) i
 
--- a content leads behind each place where it stands; a negated one stays, where it stands nowhere; one
+-- a content leads to the end of each place where it occurs; a negated one stays, where it occurs nowhere; one
 -- that is sought by the fast pattern alone stays too
 abbrev pub ContentLeads : Content → List ℕ → Standing → Standing → Type 0
 ContentLeads content payload before after =
@@ -151,7 +151,7 @@ ByteJumpLeads fetch how payload before after =
 
 -- ---- byte_extract
 
--- byte_extract leads behind the number, which the name has from there on
+-- byte_extract leads to the end of the number, which the name has from there on
 abbrev pub ByteExtractLeads : Fetch → ℕ → ℕ → ℕ → List ℕ → Standing → Standing → Type 0
 ByteExtractLeads fetch name times align payload before after =
     (read : Fetched) × (fetched payload fetch before ≡ Some read)
@@ -159,7 +159,7 @@ ByteExtractLeads fetch name times align payload before after =
 
 -- ---- all options of a rule
 
--- from a standing an option leads to another, which has the place and the values behind it; an option
+-- from a standing an option leads to another, which has the place and the values after it; an option
 -- that asks nothing of the payload leads nowhere else
 unfoldable pub Leads : Means → List ℕ → Opt → Standing → Standing → Type 0
 Leads means payload (opt.Content content) before after = ContentLeads content payload before after
@@ -175,7 +175,7 @@ Leads means payload (opt.ByteExtract fetch name times align) before after =
     ByteExtractLeads fetch name times align payload before after
 Leads means payload _ before after = after ≡ before
 
--- a way through the options: the standings behind each of them
+-- a way through the options: the standings after each of them
 abbrev pub IsWay : Means → List ℕ → List Opt → Standing → List Standing → Type 0
 IsWay means payload [] before [] = Unit {0}
 IsWay means payload (option ∷ options) before (after ∷ later) =

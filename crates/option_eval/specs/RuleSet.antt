@@ -45,6 +45,6 @@ abbrev pub RefusesText : Opt → List Refusal → List Refusal → Type 0
 RefusesText (opt.Pcre text flags relative negated) old new = new ≡ old ++ record { text = text; flags = flags } ∷ []
 RefusesText _ old new = ⊥
 
--- that of one of the rule's options was refused
+-- the text of a pcre option among the rule's options was refused, with its flags
 abbrev pub RefusesOneOf : List Opt → List Refusal → List Refusal → Type 0
 RefusesOneOf options old new = (option : Opt) × Contains options option × RefusesText option old new

@@ -34,12 +34,12 @@ LeadsFrom means payload values option p q = Leads means payload option (standing
 abbrev pub IsLedTo : (ℕ → ℕ → Type 0) → List ℕ → ℕ → Type 0
 IsLedTo leads places q = (p : ℕ) × Contains places p × leads p q
 
--- it leads from a place to this one alone, or nowhere
+-- some relation leads from a place to this one alone, or nowhere
 abbrev pub LeadsOnlyTo : (ℕ → Type 0) → Option ℕ → Type 0
 LeadsOnlyTo leads None = (q : ℕ) → ¬ leads q
 LeadsOnlyTo leads (Some place) = leads place × ((q : ℕ) → leads q → q ≡ place)
 
--- a content of so many bytes that stands at place i is within reach of a place
+-- a content of this size that is at place i is within reach of a place
 pub record IsWithin (reach : Reach) (size place i : ℕ) : Type 0 where
   pub low : (pos place +ℤ reach.from) ≤ℤ pos i
   pub high : IfSome reach.room (λ room. pos (i + size) ≤ℤ ((pos place +ℤ reach.from) +ℤ room))
@@ -48,13 +48,13 @@ pub record IsWithin (reach : Reach) (size place i : ℕ) : Type 0 where
 abbrev pub Occurs : Bool → List ℕ → List ℕ → ℕ → Type 0
 Occurs nocase payload bytes i = OccursAt (folded nocase payload) (folded nocase bytes) i
 
--- bytes end at a place, and stand within reach of some place of the set
+-- bytes end at a place, and lie within reach of some place of the set
 abbrev pub IsHitFrom : Bool → List ℕ → List ℕ → Reach → List ℕ → ℕ → Type 0
 IsHitFrom nocase payload bytes reach places q =
     (p : ℕ) × (i : ℕ) × Contains places p × IsWithin reach (length bytes) p i × Occurs nocase payload bytes i
     × (q ≡ i + length bytes)
 
--- bytes end at a place, and stand from one place on and below another
+-- bytes end at a place, and begin from one place on and below another
 abbrev pub IsHitIn : Bool → List ℕ → List ℕ → ℕ → ℕ → ℕ → Type 0
 IsHitIn nocase payload bytes low end q = (i : ℕ) × (low ≤ i) × (i < end) × Occurs nocase payload bytes i × (q ≡ i + length bytes)
 
@@ -64,7 +64,7 @@ pub record Adds (every : Bool) (P : ℕ → Type 0) (old new : List ℕ) : Type 
   pub kept : (q : ℕ) → Contains old q → Contains new q
   pub complete : (q : ℕ) → P q → IsGot every new q
 
--- a whole number is this place of a payload of so many bytes, or is none
+-- a whole number is this place of a payload of `len` bytes, or is none
 abbrev pub PlaceIn : ℤ → ℕ → Option ℕ → Type 0
 PlaceIn place len None = (q : ℕ) → q ≤ len → ¬ (pos q ≡ place)
 PlaceIn place len (Some q) = (q ≤ len) × (pos q ≡ place)
@@ -81,7 +81,7 @@ IsAscending low (x ∷ xs) = (low ≤ x) × IsAscending x xs
 
 -- ---- content: offset, depth, distance, within; nocase
 
--- `offset`, or `distance`: how far from its origin a content stands at least
+-- `offset`, or `distance`: how far from its origin a content is at least
 abbrev pub reach_from : Content → List ℕ → ℤ
 reach_from content values = if is_only content.fast then pos 0 else unwrap_or (number_if values content.from) (pos 0)
 
@@ -93,10 +93,10 @@ reach_room content values = if is_only content.fast then None else number_if val
 abbrev pub folds_case : Content → Bool
 folds_case content = is_only content.fast || content.nocase
 
--- where it counts from
+-- where a content counts from: the place before it, if it is relative, or the payload's start
 abbrev pub content_origin : Content → ℕ → ℕ
 content_origin content place = if not (is_only content.fast) && content.relative then place else 0
 
--- the content stands somewhere, seen from a place
+-- the content occurs somewhere, seen from a place
 abbrev pub StandsFrom : List ℕ → Content → List ℕ → ℕ → Type 0
 StandsFrom payload content values place = (i : ℕ) × StandsAt content.bytes payload (sought content (standing values place)) i

@@ -17,7 +17,7 @@ use Rattle.option_eval.specs.Walks.{MatchesFrom, MatchesFromOne, IsListed, HasVa
 unfoldable pub map_at : StateMap → List ℕ → Option (List ℕ)
 map_at map values = option_map (λ places. places.items) (get (slice_cmp nat_cmp) map.places values)
 
--- the same of what is held
+-- the places of a value list, of what is held
 abbrev pub held_at : Held → List ℕ → Option (List ℕ)
 held_at held.Nothing values = None
 held_at (held.One state) values = if bytes_eq state.values values then Some state.places.items else None
@@ -51,13 +51,13 @@ abbrev pub MatchesFromSome : Means → List ℕ → List Opt → States → Type
 MatchesFromSome means payload options states =
     SomeState (λ values p. MatchesFrom means payload options (standing values p)) states
 
--- the list has the values of each state, and those that are kept behind each of the options; each standing of
--- a state is listed, and those behind each extraction
+-- the list has the values of each state, and those that are kept after each of the options; each standing of
+-- a state is listed, and those after each extraction
 abbrev pub HaveValues : Means → List ℕ → List (List ℕ) → Option (List Standing) → List Opt → States → Type 0
 HaveValues means payload lists listed options states = EachState (Contains lists)
     (λ values p. IsListed listed values p × HasValues means payload lists listed options (standing values p)) states
 
--- each place is one of a payload of so many bytes, or its end
+-- each place is one of a payload of `size` bytes, or its end
 abbrev pub AreWithin : ℕ → States → Type 0
 AreWithin size states = EachState (λ values. ⊤) (λ values p. p ≤ size) states
 
@@ -70,7 +70,7 @@ AreAmong from to = (values places : List ℕ) → places_at from values ≡ Some
 abbrev pub AreSame : States → States → Type 0
 AreSame old new = AreAmong old new × AreAmong new old
 
--- the states behind an extraction where ways lead on: those that were there, and those that the options give
+-- the states after an extraction where ways lead on: those that were there, and those that the options give
 -- from these places; and their values, where a list has those before
 pub record Leaves (means : Means) (payload : List ℕ) (options : List Opt) (values places : List ℕ)
     (old new : States) : Type 0 where

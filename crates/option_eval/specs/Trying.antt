@@ -25,7 +25,7 @@ use Rattle.option_eval.specs.Walks.{MatchesFromOne, HasEachValueList, part_stand
 abbrev pub OfMade : {P : Type 0} → (P → List ℕ → Option Span) → List Opt → List (Made P) → (Means → Type 0) → Type 0
 OfMade finds options made Holds = (means : Means) → AllZip (IsMade finds means) options (map pattern_of made) → Holds means
 
--- of one option
+-- whatever is meant, if what was made of one option finds it
 abbrev pub OfMadeOne : {P : Type 0} → (P → List ℕ → Option Span) → Opt → Made P → (Means → Type 0) → Type 0
 OfMadeOne finds option made Holds = (means : Means) → IsMade finds means option (pattern_of made) → Holds means
 
@@ -59,7 +59,7 @@ pub record Beginning : Type 0 where
 abbrev pub beginning : List ℕ → List ℕ → List ℕ → Beginning
 beginning payload values places = record { payload = payload; values = values; places = places }
 
--- a walk up to the first extraction: a way leads through, or the states that it leaves behind that
+-- a walk up to the first extraction: a way leads through, or the states that it leaves after that
 abbrev pub IsWalked : Means → List Opt → Beginning → States → States → Bool → Type 0
 IsWalked means options at old new walked =
     MatchBool walked (MatchesFromOne means at.payload options at.values at.places)

@@ -17,7 +17,7 @@ abbrev pub is_told : Num → Bool
 is_told (num.Value number) = true
 is_told (num.Name name) = false
 
--- at how many places of a payload of so many bytes an extraction can take its number: at one, if its offset is told
+-- at how many places of a payload of `size` bytes an extraction can take its number: at one, if its offset is told
 -- and counts from the payload's start; else wherever its bytes lie in the payload
 abbrev pub place_count : Opt → ℕ → ℕ
 place_count (opt.ByteExtract fetch name times align) size =
@@ -38,7 +38,7 @@ number_count option size =
 abbrev pub extracted_count : ℕ → List Opt → ℕ → ℕ
 extracted_count name options size = sum_by (λ option. if gives name option then number_count option size else 0) options
 
--- behind some option both names' values are still read
+-- after some option both names' values are still read
 abbrev pub reads_both : List Opt → Bool
 reads_both [] = false
 reads_both (option ∷ options) = (is_read 0 options && is_read 1 options) || reads_both options
@@ -50,12 +50,12 @@ list_count options size =
     if reads_both options then (1 + extracted_count 0 options size) * (1 + extracted_count 1 options size)
     else 1 + (extracted_count 0 options size + extracted_count 1 options size)
 
--- how many values a name can have behind an extraction that gives another one, where later options read it
+-- how many values a name can have after an extraction that gives another one, where later options read it
 abbrev pub other_count : ℕ → Opt → List Opt → List Opt → ℕ → ℕ
 other_count name option later all size =
     if not (gives name option) && is_read name later then 1 + extracted_count name all size else 1
 
--- how many standings there can be behind the extractions of some of a rule's options: each place that an extraction
+-- how many standings there can be after the extractions of some of a rule's options: each place that an extraction
 -- can take its number at, with each value of a name that it doesn't give
 abbrev pub standings_behind : List Opt → List Opt → ℕ → ℕ
 standings_behind all [] size = 0
@@ -63,13 +63,13 @@ standings_behind all (option ∷ later) size =
     place_count option size * (other_count 0 option later all size * other_count 1 option later all size)
     + standings_behind all later size
 
--- the same of all of a rule's options
+-- how many standings there can be after the extractions of all of a rule's options
 unfoldable pub standing_count : List Opt → ℕ → ℕ
 standing_count options size = standings_behind options options size
 
--- how many visits a rule's options can take in a payload of so many bytes. Where no more standings are held at once
+-- how many visits a rule's options can take in a payload of `size` bytes. Where no more standings are held at once
 -- than a part has, the options are gone through once for each list of values at most. Else, and no worse elsewhere,
--- those behind each extraction once for each list of values and each time that they are come to.
+-- those after each extraction once for each list of values and each time that they are come to.
 unfoldable pub most_visits : List Opt → ℕ → ℕ
 most_visits options size =
     if nat_le (standing_count options size) part_standings

@@ -10,7 +10,7 @@ use Rattle.option_eval.specs.Sets.{standing}
 abbrev pub MatchesFrom : Means → List ℕ → List Opt → Standing → Type 0
 MatchesFrom means payload options before = (way : List Standing) × IsWay means payload options before way
 
--- and from some place of a set, with these values
+-- some way leads through the options from some place of a set, with these values
 abbrev pub MatchesFromOne : Means → List ℕ → List Opt → List ℕ → List ℕ → Type 0
 MatchesFromOne means payload options values places =
     (p : ℕ) × Contains places p × MatchesFrom means payload options (standing values p)
@@ -20,22 +20,22 @@ abbrev pub ExtractsNothing : List Opt → Type 0
 ExtractsNothing [] = Unit {0}
 ExtractsNothing (option ∷ options) = (is_extract option ≡ false) × ExtractsNothing options
 
--- how many visits options may take in a payload of so many bytes
+-- how many visits options may take in a payload of `size` bytes
 abbrev pub visits_of : List Opt → ℕ → ℕ
 visits_of options size = count_by is_payload_option options * (size + 1)
 
--- the same, where those behind an extraction are tried anew from each of so many value lists
+-- how many visits they may take where those after an extraction are tried anew from each of `lists` value lists
 abbrev pub visits_apart : ℕ → List Opt → ℕ → ℕ
 visits_apart lists [] size = 0
 visits_apart lists (option ∷ options) size =
     (if is_payload_option option then size + 1 else 0)
     + (if is_extract option then lists * visits_apart lists options size else visits_apart lists options size)
 
--- behind an extraction the options are tried before more standings than these are held
+-- after an extraction the options are tried before more standings than these are held
 abbrev pub part_standings : ℕ
 part_standings = 131072
 
--- the options up to the first that extracts a value, and those behind it
+-- the options up to the first that extracts a value, and those after it
 abbrev pub upto_extraction : List Opt → List Opt
 upto_extraction [] = []
 upto_extraction (option ∷ options) = option ∷ (if is_extract option then [] else upto_extraction options)
@@ -48,8 +48,8 @@ behind_extraction (option ∷ options) = if is_extract option then options else 
 abbrev pub IsListed : Option (List Standing) → List ℕ → ℕ → Type 0
 IsListed listed values place = IfSome listed (λ standings. Contains standings (standing values place))
 
--- each way from a standing has, behind each of the options, values of which the list has what is kept; and
--- with that, behind each extraction, a standing that is listed
+-- each way from a standing has, after each of the options, values of which the list has what is kept; and
+-- with that, after each extraction, a standing that is listed
 abbrev pub HasValues : Means → List ℕ → List (List ℕ) → Option (List Standing) → List Opt → Standing → Type 0
 HasValues means payload lists listed [] before = Unit {0}
 HasValues means payload lists listed (option ∷ options) before =
@@ -57,8 +57,8 @@ HasValues means payload lists listed (option ∷ options) before =
     × (is_extract option ≡ true → IsListed listed (kept_values options after.values) after.place)
     × HasValues means payload lists listed options after
 
--- the list has what later options still read of the values behind each option of each way from the payload's
--- start, and the values there; one of standings, if there is one, has those behind each extraction
+-- the list has what later options still read of the values after each option of each way from the payload's
+-- start, and the values there; one of standings, if there is one, has those after each extraction
 abbrev pub HasEachValueList : Means → List ℕ → List Opt → List (List ℕ) → Option (List Standing) → Type 0
 HasEachValueList means payload options lists listed =
     Contains lists start.values × HasValues means payload lists listed options start

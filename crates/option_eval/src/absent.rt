@@ -1,4 +1,4 @@
-//! The places of a set within whose reach a content stands nowhere.
+//! The places of a set within whose reach a content occurs nowhere.
 
 ghost use Rattle.std.specs.Prelude.{◌≡◌, ℕ, ◌+◌, ◌<◌, ◌≤◌, ◌↔◌, Contains, length, IfOk};
 ghost use Rattle.option_eval.specs.Absent.{IsReached, SeesOn};
@@ -19,11 +19,11 @@ use std::sync::ledger::Ledger;
 struct Seen {
     /// The places before it were looked at, or lie before the reach of each place to come.
     done: usize,
-    /// The place behind the last occurrence; 0 if there was none.
+    /// The place after the last occurrence; 0 if there was none.
     last: usize,
 }
 
-/// The places of the set within whose reach the bytes stand nowhere. Each place is asked with the occurrence
+/// The places of the set within whose reach the bytes occur nowhere. Each place is asked with the occurrence
 /// that was seen last, so no place of the payload is compared twice. A visit is a place that is asked.
 pub(crate) fn places_without<L: Ledger>(
     alloc: Global,

@@ -1,4 +1,4 @@
-//! Where a content stands, and where it leads from a set of places.
+//! Where a content occurs, and where it leads from a set of places.
 
 ghost use Rattle.std.specs.Prelude.{◌≡◌, ℕ, ◌+◌, ◌<◌, ◌≤◌, ◌↔◌, Bool, true, false, ◌&&◌, [], ◌∷◌, length, IsTrue, IfOk, MatchBool, not};
 ghost use Rattle.rule_types.specs.declared.option.Opt.TheVariants.{Content as content_option};
@@ -91,7 +91,7 @@ pub(crate) fn places_after_negated_content<L: Ledger>(
     )
 }
 
-/// Whether the content stands somewhere, seen from a place.
+/// Whether the content occurs somewhere, seen from a place.
 pub(crate) fn content_stands(
     content: &Content,
     finder: &Finder<'static>,
@@ -115,7 +115,7 @@ pub(crate) fn content_stands(
     )
 }
 
-/// Whether the bytes stand within reach of a place.
+/// Whether the bytes occur within reach of a place.
 fn stands(needle: &Needle, reach: &Reach, payload: &[u8], place: usize) -> bool
     requires same { needle.now.finder.now ≡ needle.now.bytes.now }
     requires some { 1 ≤ length needle.now.bytes.now }

@@ -1,4 +1,4 @@
-//! `byte_extract`: the states behind an extraction.
+//! `byte_extract`: the states after an extraction.
 
 ghost use Rattle.std.specs.Prelude.{◌≡◌, ℕ, ◌+◌, ◌<◌, ◌≤◌, [], ◌∷◌, List, Contains, length, slice_set, IfOk, OnOk, bytes_eq};
 ghost use Rattle.rule_types.specs.declared.option.Opt.{Opt};
@@ -18,7 +18,7 @@ use edge_io::NoMemory;
 use rule_types::Fetch;
 use std::sync::ledger::Ledger;
 
-/// A `byte_extract`, and which values the options behind it still read.
+/// A `byte_extract`, and which values the options after it still read.
 #[derive(Clone, Copy)]
 pub(crate) struct Extraction {
     pub fetch: Fetch,
@@ -30,8 +30,8 @@ pub(crate) struct Extraction {
 }
 
 impl Extraction {
-    /// Adds the states behind the extraction from the places of a set, each asked: from the first alone,
-    /// unless the extraction is relative. Of the values behind it those are kept that the later options read.
+    /// Adds the states after the extraction from the places of a set, each asked: from the first alone,
+    /// unless the extraction is relative. Of the values after it those are kept that the later options read.
     pub fn extract<L: Ledger>(
         &self,
         payload: &[u8],
@@ -57,7 +57,7 @@ impl Extraction {
         )
     }
 
-    /// The same from each of these places.
+    /// Adds the states after the extraction from each of these places.
     fn extract_each<L: Ledger>(
         &self,
         payload: &[u8],
@@ -82,7 +82,7 @@ impl Extraction {
         Ok(())
     }
 
-    /// The same from one place.
+    /// Adds the state after the extraction from one place, if a number is there.
     fn extract_at(
         &self,
         payload: &[u8],

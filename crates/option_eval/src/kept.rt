@@ -17,7 +17,7 @@ fn is_named(name: u8, number: Num) -> bool
     }
 }
 
-/// The same of a number that may be absent.
+/// Whether a number, if there is one, is the value of the name.
 fn is_named_if(name: u8, number: Option<Num>) -> bool
     ensures { result ≡ is_named_if name number }
 {

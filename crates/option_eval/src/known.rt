@@ -26,7 +26,7 @@ use std::sync::ledger::Ledger;
 /// Where options led that lead alike from each state.
 #[derive(Drop)]
 pub(crate) struct Known {
-    /// By the number of options behind; empty where nothing is kept.
+    /// By the number of options that follow; empty where nothing is kept.
     led: Vec<Option<Next>>,
 }
 
@@ -61,7 +61,7 @@ impl Known {
         }
     }
 
-    /// Nothing is known yet of so many options.
+    /// Nothing is known yet of `count` options.
     #[tactic(auto, unfolding(crate::specs::Known::known_at))]
     pub fn of(alloc: Global, count: usize) -> Result<Known, NoMemory>
         ensures { IfOk result (λ known. (left : ℕ) → known_at known left ≡ None) }
@@ -73,7 +73,7 @@ impl Known {
         Ok(Known { led })
     }
 
-    /// Takes out where the option led that stands before so many.
+    /// Takes out where the option led that `left` others follow.
     #[tactic(auto, unfolding(crate::specs::Known::known_at))]
     fn take(&mut self, left: usize) -> Option<Next>
         ensures value { result ≡ known_at self.old left }
@@ -86,7 +86,7 @@ impl Known {
         }
     }
 
-    /// Keeps where an option led that stands before so many, if it leads alike from each state.
+    /// Keeps where an option led that `left` others follow, if it leads alike from each state.
     #[tactic(auto, unfolding(crate::specs::Known::known_at))]
     pub fn keep(&mut self, option: &Opt, left: usize, next: Next)
         ensures others { (other : ℕ) → (other == left) ≡ false → known_at self.new other ≡ known_at self.old other }

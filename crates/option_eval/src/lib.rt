@@ -4,7 +4,7 @@
 //! (Snort Users Manual 2.9, section 3.5; specs/Numbers, specs/Places, which have a heading an option). Where
 //! an option leads is found in src/content, src/leads (isdataat, pcre, byte_test, byte_jump) and src/extract. A
 //! `RuleSet` keeps the rules with what was made of them once, and `payload_matches` says whether some way
-//! leads through all options of a rule. The lanes of flows stand on this crate.
+//! leads through all options of a rule. The lanes of flows rest on this crate.
 #![tactic(auto)]
 
 mod absent;

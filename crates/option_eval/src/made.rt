@@ -5,7 +5,7 @@ use memchr::memmem::Finder;
 /// What serves an option at each payload.
 #[derive(Drop)]
 pub enum Made<P> {
-    /// It needs nothing.
+    /// For an option that needs nothing.
     Nothing,
     /// A search for a content's bytes.
     Needle(Finder<'static>),

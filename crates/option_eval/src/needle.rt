@@ -1,4 +1,4 @@
-//! Where the bytes of a content stand in a payload.
+//! Where the bytes of a content occur in a payload.
 
 ghost use Rattle.std.specs.Prelude.{◌≡◌, ℕ, ◌+◌, ◌-◌, ◌<◌, ◌≤◌, length, take, drop, IsTrue, ◌↔◌, true};
 ghost use Rattle.memchr.specs.Find.{IsFirst, OccursAt, Passes, is_byte2};
@@ -18,7 +18,7 @@ pub(crate) struct Needle<'a> {
 }
 
 impl<'a> Needle<'a> {
-    /// The first place from `low` on and below `end` where the bytes stand, with case folded under
+    /// The first place from `low` on and below `end` where the bytes occur, with case folded under
     /// `nocase`.
     pub fn first_in(&self, payload: &[u8], low: usize, end: usize) -> Option<usize>
         requires same { self.now.finder.now ≡ self.now.bytes.now }
@@ -35,7 +35,7 @@ impl<'a> Needle<'a> {
     }
 }
 
-/// The first place from `low` on where the finder's bytes stand, and end by `stop`.
+/// The first place from `low` on where the finder's bytes occur, and end by `stop`.
 fn first_exact(finder: &Finder<'static>, payload: &[u8], low: usize, stop: usize) -> Option<usize>
     requires some { 1 ≤ length finder.now }
     requires order { low + length finder.now ≤ stop + 1 }
@@ -48,7 +48,7 @@ fn first_exact(finder: &Finder<'static>, payload: &[u8], low: usize, stop: usize
     }
 }
 
-/// The first place from `low` on and below `end` where the bytes stand with case folded.
+/// The first place from `low` on and below `end` where the bytes occur with case folded.
 fn first_folded(bytes: &[u8], payload: &[u8], low: usize, end: usize) -> Option<usize>
     requires some { 1 ≤ length bytes.now }
     requires order { low ≤ end }
@@ -79,7 +79,7 @@ fn next_of(lower: u8, upper: u8, payload: &[u8], low: usize, end: usize) -> Opti
     }
 }
 
-/// Whether the bytes stand at a place with case folded.
+/// Whether the bytes are at a place with case folded.
 fn stands_folded(bytes: &[u8], payload: &[u8], at: usize) -> bool
     requires fits { at + length bytes.now ≤ length payload.now }
     ensures { IsTrue result ↔ Occurs true payload.now bytes.now at }

@@ -22,12 +22,12 @@ use smallvec::SmallVec;
 use std::alloc::Global;
 use std::sync::ledger::Ledger;
 
-/// The places behind an option.
+/// The places after an option.
 #[derive(Drop)]
 pub(crate) enum Next {
-    /// Those before it.
+    /// The places before the option.
     Same,
-    /// These.
+    /// Places of its own.
     To(Places),
 }
 
@@ -235,7 +235,7 @@ fn places_after_jump<P: Pattern, L: Ledger>(
     rising(alloc, sorted(led).as_slice())
 }
 
-/// The same from these places, in their order.
+/// Where a `pcre` or a `byte_jump` leads from each of these places, in their order.
 fn jump_places<P: Pattern, L: Ledger>(
     alloc: Global,
     option: &Opt,

@@ -1,4 +1,4 @@
-//! A part of the states behind an extraction: the rest of the options is tried from it before more are made.
+//! A part of the states after an extraction: the rest of the options is tried from it before more are made.
 
 ghost use Rattle.std.specs.Prelude.{◌≡◌, ℕ, ◌*◌, ◌^◌, ◌<◌, ◌≤◌, ◌↔◌, ⊤, List, None, Contains, length, IfOk, IfSome, IfNone};
 ghost use Rattle.option_eval.specs.Numbers.{Standing};
@@ -11,7 +11,7 @@ use crate::states::{State, States};
 use edge_io::NoMemory;
 use std::alloc::Global;
 
-/// States of more standings than these are a part. Where no other value is read behind an extraction there are
+/// States of more standings than these are a part. Where no other value is read after an extraction there are
 /// no more than half as many, for each place has one value.
 const PART_STANDINGS: usize = 131_072;
 

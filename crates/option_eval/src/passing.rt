@@ -1,8 +1,8 @@
 //! The way through all options of a rule.
 //!
 //! Up to the first extraction there is one state: no value, and the places to which the options so far lead.
-//! An extraction has a state for each of the value lists behind it. Each of them is gone on from alone, up to
-//! the next extraction, and the states behind that are then gone on from together. Where they become many, the
+//! An extraction has a state for each of the value lists after it. Each of them is gone on from alone, up to
+//! the next extraction, and the states after that one are then gone on from together. Where they become many, the
 //! rest of the options is tried from those that there are, and they are forgotten before there are more. So
 //! memory is bounded; states of two such parts may be the same, and are then gone on from twice.
 
@@ -64,7 +64,7 @@ pub(crate) fn is_passed<P: Pattern, L: Ledger>(
     is_passed_behind(alloc, options, made, payload, behind.states, visits)
 }
 
-/// Whether a way leads through the options behind the first extraction, from some of the states there.
+/// Whether a way leads through the options after the first extraction, from some of the states there.
 #[cycle(parts)]
 fn is_passed_behind<P: Pattern, L: Ledger>(
     alloc: Global,
@@ -133,7 +133,7 @@ fn is_passed_from<P: Pattern, L: Ledger>(
     is_passed_behind(alloc, options, made, payload, behind.states, visits)
 }
 
-/// Whether a way leads through the options behind the first extraction from the states there, if they are a
+/// Whether a way leads through the options after the first extraction from the states there, if they are a
 /// part. Then they are forgotten.
 #[cycle(parts)]
 fn is_part_passed<P: Pattern, L: Ledger>(
@@ -179,7 +179,7 @@ fn nothing_known(alloc: Global, states: &States, options: &[Opt]) -> Result<Know
     }
 }
 
-/// The options behind the first that extracts a value, and what was made of them.
+/// The options after the first that extracts a value, and what was made of them.
 fn behind_extraction<'a, 'b, P>(
     options: &'a [Opt],
     made: &'b [Made<P>],

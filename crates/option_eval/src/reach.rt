@@ -4,12 +4,12 @@ ghost use Rattle.std.specs.Prelude.{◌≡◌, ℕ, ◌+◌, ◌<◌, ◌≤◌,
 ghost use Rattle.std.specs.Option.{ForSome};
 ghost use Rattle.option_eval.specs.Ranges.{IsSmall, IsSpan};
 
-/// How far from a place a content may stand.
+/// How far from a place a content may be.
 #[derive(Clone, Copy)]
 pub(crate) struct Reach {
     /// `offset`, or `distance`: so far on at least.
     pub from: i128,
-    /// `depth`, or `within`: in so many bytes from there.
+    /// `depth`, or `within`: in this many bytes from there.
     pub room: Option<i128>,
     ghost from_small: { IsSmall from },
     ghost room_small: { ForSome room IsSmall },
@@ -32,7 +32,7 @@ impl Reach {
         first_from(self.start(place), bound)
     }
 
-    /// The place behind the last within reach of a content of this size, or `bound`.
+    /// The place after the last within reach of a content of this size, or `bound`.
     pub fn end(&self, place: usize, size: usize, bound: usize) -> usize
         ensures inside { result ≤ bound }
         ensures end { (i : ℕ) → i < bound

@@ -118,7 +118,7 @@ impl<P: Pattern> RuleSet<P> {
 /// A visit is a place of the payload at which a content that isn't negated is compared, or a place
 /// from which another payload option is asked. Of a rule that extracts values each option is asked once from
 /// each place and list of values that are still read, however many ways lead there, as long as there are no more
-/// than 131,072 of these behind its extractions; otherwise once again for each part of the states before it.
+/// than 131,072 of these after its extractions; otherwise once again for each part of the states before it.
 pub fn payload_matches<P: Pattern, L: Ledger>(
     alloc: Global,
     set: &RuleSet<P>,

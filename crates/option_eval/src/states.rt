@@ -14,7 +14,7 @@ use std::alloc::Global;
 #[derive(Drop)]
 pub(crate) struct State {
     pub values: Values,
-    /// In any order, and perhaps more than once.
+    /// The places, in any order, and perhaps more than once.
     pub places: Places,
 }
 
@@ -119,7 +119,7 @@ impl States {
         self.add_apart(values, place)
     }
 
-    /// The same, whatever is held.
+    /// Adds a place to the state with these values, whatever is held.
     #[tactic(auto, unfolding(crate::specs::States::places_at))]
     fn add_apart(&mut self, values: Values, place: usize) -> Result<(), NoMemory>
         ensures { OnOk result ((other : List ℕ) → places_at self.new other

@@ -14,7 +14,7 @@ use std::sync::ledger::Ledger;
 /// A set of places, as a list that rises. A few of them take no memory.
 pub(crate) type Places = SmallVec<usize, 8>;
 
-/// Where the bytes end that stand within reach of some place of the set: everywhere if every end is
+/// Where the bytes end that lie within reach of some place of the set: everywhere if every end is
 /// wanted, else somewhere. Windows that touch are searched as one. A visit is a place where they are compared,
 /// and none is compared twice.
 pub(crate) fn sweep<L: Ledger>(
@@ -62,7 +62,7 @@ fn still_asked(later: &[usize], every: bool, none: bool, more: bool) -> &[usize]
     if (every || none) && more { later } else { &[] }
 }
 
-/// Where a window begins once another one from `low` on is behind it: those that touch are one.
+/// Where a window begins once another one from `low` on follows: those that touch are one.
 fn joined(from: usize, done: usize, low: usize) -> usize
     ensures { result ≡ (if nat_lt done low then low else from) }
 {
@@ -96,7 +96,7 @@ fn gather_apart(
     }
 }
 
-/// Adds where the bytes end that stand from `low` on and below `end`; nothing where one end is enough and
+/// Adds where the bytes end that occur from `low` on and below `end`; nothing where one end is enough and
 /// there is one.
 fn gather(
     needle: &Needle,
@@ -131,7 +131,7 @@ fn first_start(every: bool, none: bool, low: usize, end: usize) -> usize
     if every || none { low } else { end }
 }
 
-/// Where a window goes on behind a place: at its end where one place is enough.
+/// Where a window goes on after a place: at its end where one place is enough.
 fn next_start(every: bool, start: usize, end: usize) -> usize
     requires { start < end }
     ensures { result ≡ (if every then start + 1 else end) }

@@ -1,6 +1,6 @@
 //! The way through the options up to the first extraction, from one value list.
 //!
-//! An extraction leaves states behind it, and a walk adds its own to those that are there. So a value list and
+//! An extraction leaves states after it, and a walk adds its own to those that are there. So a value list and
 //! a place are gone on from once, whichever ways lead there.
 
 ghost use Rattle.std.specs.Prelude.{◌≡◌, ℕ, ◌+◌, ◌≤◌, Contains, length, IfOk};
@@ -26,7 +26,7 @@ use rule_types::Opt;
 use std::alloc::Global;
 use std::sync::ledger::Ledger;
 
-/// What a walk up to the first extraction leaves: the states behind it, and where options led that lead alike
+/// What a walk up to the first extraction leaves: the states after it, and where options led that lead alike
 /// from each state.
 #[derive(Drop)]
 pub(crate) struct Behind {
@@ -35,7 +35,7 @@ pub(crate) struct Behind {
 }
 
 /// Whether a way leads through the options from a state. Where they extract a value, none leads through yet,
-/// and the states behind the first extraction are added.
+/// and the states after the first extraction are added.
 pub(crate) fn is_state_walked<P: Pattern, L: Ledger>(
     alloc: Global,
     options: &[Opt],
@@ -73,7 +73,7 @@ pub(crate) fn is_state_walked<P: Pattern, L: Ledger>(
     is_walked(alloc, options, made, &at, behind, visits)
 }
 
-/// The same from a set of places with these values.
+/// Whether a way leads through the options from a set of places with these values.
 #[cycle(walk)]
 pub(crate) fn is_walked<P: Pattern, L: Ledger>(
     alloc: Global,
@@ -129,7 +129,7 @@ pub(crate) fn is_walked<P: Pattern, L: Ledger>(
     Ok(walked)
 }
 
-/// The same from the places behind an option.
+/// Whether a way leads through the options that follow from the places after an option.
 #[cycle(walk)]
 fn is_walked_from<P: Pattern, L: Ledger>(
     alloc: Global,

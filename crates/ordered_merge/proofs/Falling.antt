@@ -22,7 +22,7 @@ pub record FallsInto {T : Type 0} (taken left : List (Numbered T)) : Type 0 wher
 AtMost-taken : {T : Type 0} (number : ℕ) (left rest : List (Numbered T)) (entry : Numbered T) → IsPermutation left (entry ∷ rest) → AtMost number left → AtMost number (entry ∷ rest)
 AtMost-taken number left rest entry moved = All-permutation (λ entry. entry.number ≤ number) left (entry ∷ rest) moved
 
--- the greatest of what is left goes behind what was taken
+-- the greatest of what is left goes after what was taken
 pub FallsInto-more : {T : Type 0} (taken left rest : List (Numbered T)) (entry : Numbered T) → FallsInto taken left → IsPermutation left (entry ∷ rest) → AtMost entry.number left → FallsInto (taken ++ entry ∷ []) rest
 FallsInto-more {T} taken left rest entry so_far moved greatest = record {
   falls = all_pairs_push (λ (one other : Numbered T). other.number ≤ one.number) taken entry so_far.falls (λ k d within. All-head (λ (e : Numbered T). e.number ≤ (get_or taken k d).number) entry rest (AtMost-taken (get_or taken k d).number left rest entry moved (so_far.above k d within)));

@@ -15,7 +15,7 @@ use Rattle.ordered_merge.proofs.Numbers.{apart_above, eqb_flips}
 
 -- ---- the entry of a number
 
--- what a number finds at the first entry or behind it
+-- what a number finds at the first entry or after it
 at_first : {T : Type 0} (first entry : Numbered T) (entries : List (Numbered T)) (number : ℕ) (same : Bool) → eqb first.number number ≡ same → cond same (Some first) (entry_of entries number) ≡ Some entry → (entry_of entries number ≡ Some entry → Contains entries entry × (entry.number ≡ number)) → Contains (first ∷ entries) entry × (entry.number ≡ number)
 at_first {T} first entry entries number true test found behind =
     let is : first ≡ entry = same_Some first entry found in
@@ -25,7 +25,7 @@ at_first first entry entries number false test found behind =
     let has = behind found in
     ((suc has.0.0, omega (arith, has.0.1), has.0.2), has.1)
 
--- what a number finds has it and stands in the list
+-- what a number finds has it and is in the list
 entry_of-Some : {T : Type 0} (entries : List (Numbered T)) (number : ℕ) (entry : Numbered T) → entry_of entries number ≡ Some entry → Contains entries entry × (entry.number ≡ number)
 entry_of-Some [] number entry found = absurd (cc)
 entry_of-Some (first ∷ entries) number entry found =
@@ -85,7 +85,7 @@ least_or_same : (x z : ℕ) (xs : List ℕ) → Rises (x ∷ xs) → Contains (x
 least_or_same x z xs up (zero, within, is) = omega (arith, is)
 least_or_same x z xs up (suc k, within, is) = let above = least x z xs up (k, omega arith, is) in omega arith
 
--- a number above the first stands behind it
+-- a number above the first is after it
 behind_first : (y z : ℕ) (ys : List ℕ) → y < z → Contains (y ∷ ys) z → Contains ys z
 behind_first y z ys above (zero, within, is) = absurd (omega (arith, is))
 behind_first y z ys above (suc k, within, is) = (k, omega arith, is)
@@ -112,7 +112,7 @@ pub ascending_unique : (xs ys : List ℕ) → IsPermutation xs ys → IsStrictly
 ascending_unique xs ys permutation up up_too =
     same_lists xs ys (AllPairs-from_increasing xs up) (AllPairs-from_increasing ys up_too) (λ z. Contains-permutation xs ys z permutation) (λ z. Contains-permutation ys xs z (IsPermutation-sym xs ys permutation))
 
--- numbers that are those of an ascending list, in another order, stand apart
+-- numbers that are those of an ascending list, in another order, are all different
 pub apart_permuted : (given permuted : List ℕ) → IsStrictlyIncreasing given → IsPermutation given permuted → IsDistinct eqb permuted
 apart_permuted given permuted up permutation =
     IsDistinct-IsPermutation eqb eqb_flips given permuted permutation (IsDistinct-from_apart eqb given (λ i j d before within. apart_above (get_or given i d) (get_or given j d) (AllPairs-from_increasing given up i j d before within)))

@@ -1,4 +1,4 @@
--- What stands in all parts together, where one part loses its last entry, and where a number bounds each.
+-- What all parts have together, where one part loses its last entry, and where a number bounds each.
 use Rattle.std.proofs.Common.{◌≡◌, ℕ, ◌+◌, ◌-◌, ◌<◌, zero, suc, List, [], ◌∷◌, ◌++◌, length, get_or, set, Vec, All, ap, ◌∙◌, subst, refl, arith, append_assoc, length-append}
 use Rattle.std.specs.List.Sorted.{IsPermutation, IsStrictlyIncreasing, IsNonDecreasing}
 use Rattle.std.proofs.lemmas.List.{get_or_append_left, get_or-map, length-map, map-append}

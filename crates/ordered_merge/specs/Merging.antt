@@ -1,4 +1,4 @@
--- Numbered entries that stand in ascending parts, and the one ascending list of them all.
+-- Numbered entries in ascending parts, and the one ascending list of them all.
 --
 -- A merge of sorted runs, as in any textbook on external sorting (Knuth, The Art of Computer
 -- Programming, volume 3, section 5.4.1). To try it on: the parts with the numbers 1, 4 and 0, 2
@@ -12,7 +12,7 @@ use Rattle.ordered_merge.specs.declared.numbered.Numbered.{Numbered}
 abbrev pub numbers : {T : Type 0} → List (Numbered T) → List ℕ
 numbers entries = map (λ entry. entry.number) entries
 
--- the entries of all parts, one part behind the other
+-- the entries of all parts, one part after the other
 abbrev pub joined : {T A : Type 0} → List (Vec (Numbered T) A) → List (Numbered T)
 joined parts = flat_map (λ part. part.items) parts
 

@@ -7,7 +7,7 @@ ghost use Rattle.ordered_merge.specs.Greatest.{AtMost, EndsIn, GreatestUpTo};
 
 use crate::Numbered;
 
-/// The end of a part: where the part stands, and the number of its last entry.
+/// The end of a part: which part it is, and the number of its last entry.
 #[derive(Clone, Copy)]
 struct End {
     at: usize,

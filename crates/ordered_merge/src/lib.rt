@@ -3,7 +3,7 @@
 //!
 //! Each worker answers its share of the jobs in order; `merge` makes one list of the answers, in the
 //! order of the jobs. It is an ordered permutation of the entries of all parts (`specs/Merging.antt`):
-//! nothing is lost, doubled or made up. What runs jobs in several lanes stands on this crate.
+//! nothing is lost, doubled or made up. What runs jobs in several lanes rests on this crate.
 #![tactic(auto)]
 
 mod greatest;

@@ -37,7 +37,7 @@ fn greatest_first<T: Drop>(
 
 /// One list of all entries, each as often as it was there, in the order of their numbers.
 ///
-/// Each part ascends, and no number stands twice in the parts. One pass over the entries: each turn
+/// Each part ascends, and no number is there twice in the parts. One pass over the entries: each turn
 /// looks at the end of every part, of which there are few (at most 64 where lanes are merged), and
 /// moves one entry. No value is copied, and memory is asked for once.
 pub fn merge<T: Drop>(
@@ -64,7 +64,7 @@ pub fn merge<T: Drop>(
     Ok(merged)
 }
 
-/// A law for callers: numbers that are those of an ascending list, in another order, stand apart, as
+/// A law for callers: numbers that are those of an ascending list, in another order, are all different, as
 /// `merge` asks of the numbers of its parts.
 pub fn permuted_numbers_stand_apart()
     ensures { (given permuted : List ℕ) → IsStrictlyIncreasing given

@@ -14,8 +14,8 @@ pub record IsRoom (floor top : ℕ) (pieces : Pieces Piece) (room : Room) : Type
   pub some : room.bounds.start < room.bounds.end
   pub ready : IsRoomFor floor top room.bounds pieces room.buffers
 
--- the pieces are in order and hold what is chosen, the greatest end is kept beside them, and where room
--- stands there is memory for it
+-- the pieces are in order and hold what is chosen, the greatest end is kept beside them, and where there
+-- is room, its memory is there
 pub record IsSound (queue : Inside) : Type 0 where
   pub row : IsRow queue.floor queue.pieces.list queue.top
   pub holds : HoldChosen queue.preference queue.arrivals.segments queue.floor queue.pieces.list

@@ -14,16 +14,16 @@ byte_in pieces place = option_map (λ (kept : Kept). kept.byte) (kept_in pieces 
 abbrev pub run_of : Piece → Run
 run_of piece = record { start = piece.start; bytes = piece.bytes }
 
--- the first of the pieces begins at a place or behind it, if there is one
+-- the first of the pieces begins at a place or after it, if there is one
 abbrev pub FirstFrom : ℕ → List Piece → Type 0
 FirstFrom at [] = Unit {0}
 FirstFrom at (piece ∷ pieces) = at ≤ piece.start
 
--- the place behind a run's last byte
+-- the place after a run's last byte
 abbrev pub end_of_run : Run → ℕ
 end_of_run run = run.start + length run.bytes
 
--- bytes behind runs: added to the last, where that ends at their start
+-- bytes after runs: added to the last, where that ends at their start
 abbrev pub with_run : List Run → ℕ → List ℕ → List Run
 with_run [] start bytes = record { start = start; bytes = bytes } ∷ []
 with_run (run ∷ []) start bytes = if nat_eq (end_of_run run) start

@@ -2,8 +2,8 @@
 --
 -- The rows are those of Judy Novak, "Target-Based Fragmentation Reassembly" (2005), and, for stream
 -- segments, Novak and Sturges, "Target-Based TCP Stream Reassembly" (2007), as this project reads
--- them; that the whole bounds of both segments are compared, however little of the older one still
--- stands, is this project's own reading where three or more overlap.
+-- them; that the whole bounds of both segments are compared, however little of the older one is
+-- left, is this project's own reading where three or more overlap.
 -- To try it on: "aaaa" at 0, then "bbbb" at 2, then "cccc" at 0 give `ccccbb` under Linux, and
 -- `aaaabb` under Bsd.
 use Rattle.std.specs.Prelude.{◌≡◌, ℕ, ◌+◌, ◌-◌, ◌≤◌, ◌⊎◌, Bool, true, false, ◌&&◌, List, [], ◌∷◌, Option, Some, None, All, Any, nat_lt, nat_le, max, length, filter, fold, slice_index, if◌then◌else◌}
@@ -24,7 +24,7 @@ wins Linux old new = nat_le new.start old.start
 wins Windows old new = nat_lt new.start old.start && nat_lt old.end new.end
 wins Solaris old new = nat_lt new.start old.start && nat_le old.end new.end
 
--- the place behind a segment's last byte
+-- the place after a segment's last byte
 abbrev pub end_of : Segment → ℕ
 end_of segment = segment.start + length segment.bytes
 
@@ -40,16 +40,16 @@ covers segment place = nat_le segment.start place && nat_lt place (end_of segmen
 abbrev pub byte_at : ℕ → Segment → ℕ
 byte_at place segment = slice_index segment.bytes (place - segment.start)
 
--- the one of two segments that stands where both cover a place: the older, unless the newer wins
+-- the one of two segments that is kept where both cover a place: the older, unless the newer wins
 abbrev pub stronger : Preference → Segment → Segment → Segment
 stronger preference old new = if wins preference (bounds_of old) (bounds_of new) then new else old
 
--- of segments in order of arrival, the one that stands: the first, until a later one takes its stead
+-- of segments in order of arrival, the one that is kept: the first, until a later one takes its place
 abbrev pub standing : Preference → List Segment → Option Segment
 standing preference [] = None
 standing preference (first ∷ later) = Some (fold (stronger preference) first later)
 
--- of the segments that cover the place, the one that stands there
+-- of the segments that cover the place, the one that is kept there
 unfoldable pub chosen_segment : Preference → List Segment → ℕ → Option Segment
 chosen_segment preference segments place = standing preference (filter (λ segment. covers segment place) segments)
 
@@ -65,7 +65,7 @@ is_covered segments place = list_any (λ segment. covers segment place) segments
 unfoldable pub covered_end : ℕ → List Segment → ℕ
 covered_end floor segments = fold (λ most segment. max most (end_of segment)) floor segments
 
--- the same in other words: neither the floor nor an end is larger, and it is one of them
+-- what a covered end is: neither the floor nor an end is larger, and it is one of them
 pub record IsCoveredEnd (floor : ℕ) (segments : List Segment) (place : ℕ) : Type 0 where
   pub from_floor : floor ≤ place
   pub from_ends : All (λ segment. end_of segment ≤ place) segments

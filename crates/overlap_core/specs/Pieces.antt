@@ -1,7 +1,7 @@
 -- What a queue keeps: pieces in order of place, no two of which overlap.
 --
 -- A piece has bytes of one segment, and tells the whole bounds of that segment, however little of it
--- still stands. "aaaa" at 0, then "bbbb" at 2 leave two pieces under First: "aaaa" at 0, of 0 to 4, and
+-- is left. "aaaa" at 0, then "bbbb" at 2 leave two pieces under First: "aaaa" at 0, of 0 to 4, and
 -- "bb" at 4, of 2 to 6; under Last "aa" at 0 and "bbbb" at 2.
 use Rattle.std.specs.Prelude.{◌≡◌, ℕ, ◌+◌, ◌-◌, ◌<◌, ◌≤◌, Bool, ◌&&◌, List, [], ◌∷◌, Option, Some, None, nat_le, nat_lt, length, slice_index, if◌then◌else◌}
 use Rattle.std.specs.Option.{option_map}
@@ -16,7 +16,7 @@ pub record Piece : Type 0 where
   pub bytes : List ℕ
   pub whole : Bounds
 
--- the place behind a piece's last byte
+-- the place after a piece's last byte
 abbrev pub piece_end : Piece → ℕ
 piece_end piece = piece.start + length piece.bytes
 
@@ -35,7 +35,7 @@ pub record Kept : Type 0 where
   pub whole : Bounds
   pub byte : ℕ
 
--- those of a segment that covers the place
+-- the whole bounds of a segment that covers the place, and its byte there
 abbrev pub kept_at : ℕ → Segment → Kept
 kept_at place segment = record { whole = bounds_of segment; byte = byte_at place segment }
 

@@ -5,7 +5,7 @@ use Rattle.overlap_core.specs.declared.segment.Bounds.{Bounds}
 use Rattle.overlap_core.specs.Segments.{Segment}
 use Rattle.overlap_core.specs.Overlap.{chosen_byte}
 
--- a floor, a preference, the segments in order of arrival, and the bounds of the one segment for which room stands
+-- a floor, a preference, the segments in order of arrival, and the bounds of the one segment for which there is room
 pub record QueueState : Type 0 where
   pub floor : ℕ
   pub preference : Preference

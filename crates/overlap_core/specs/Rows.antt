@@ -34,7 +34,7 @@ abbrev pub IsCutAt : ℕ → List Piece → Type 0
 IsCutAt at [] = Unit {0}
 IsCutAt at (piece ∷ pieces) = (piece.start < at → piece_end piece ≤ at) × IsCutAt at pieces
 
--- all begin below a place, or from it on
+-- all pieces begin below a place, or from it on
 abbrev pub BeginBelow : ℕ → List Piece → Type 0
 BeginBelow at [] = Unit {0}
 BeginBelow at (piece ∷ pieces) = (piece.start < at) × BeginBelow at pieces
@@ -47,7 +47,7 @@ BeginFrom at (piece ∷ pieces) = (at ≤ piece.start) × BeginFrom at pieces
 abbrev pub part_of : Segment → ℕ → ℕ → Piece
 part_of new low high = record { start = low; bytes = take (high - low) (drop (low - new.start) new.bytes); whole = bounds_of new }
 
--- the same as a list, with nothing for no place
+-- the segment's bytes from one place on and below another as a list of pieces, with nothing for no place
 abbrev pub gap_piece : Segment → ℕ → ℕ → List Piece
 gap_piece new low high = if nat_lt low high then part_of new low high ∷ [] else []
 
@@ -70,7 +70,7 @@ abbrev pub gap_sizes : ℕ → ℕ → List Piece → List ℕ
 gap_sizes low high [] = gap_size low high
 gap_sizes low high (piece ∷ pieces) = gap_size low (min piece.start high) ++ gap_sizes (piece_end piece) high pieces
 
--- the list stands between these pieces
+-- the list's place is between these pieces
 pub record StandsAt (pieces : Pieces Piece) (front rest : List Piece) : Type 0 where
   pub list : pieces.list ≡ front ++ rest
   pub place : pieces.place ≡ length front
@@ -108,14 +108,14 @@ pub record IsRoomAmong (floor : ℕ) (bounds : Bounds) (pieces : Pieces Piece) (
       → map length gaps ≡ gap_sizes (max floor bounds.start) bounds.end rest
   pub nodes : length gaps ≤ pieces.spare
 
--- the same for one that lies behind all pieces, which end at `top` at the latest: there is a node, and a
--- buffer of its length
+-- a segment of these bounds, which lies after all pieces, can be laid without further memory: the pieces end at
+-- `top` at the latest, and there is a node, and a buffer of its length
 pub record IsRoomBehind (top : ℕ) (bounds : Bounds) (pieces : Pieces Piece) (buffer : List ℕ) : Type 0 where
   pub behind : top ≤ bounds.start
   pub size : bounds.start + length buffer ≡ bounds.end
   pub node : 0 < pieces.spare
 
--- one or the other, by the buffers that were made
+-- there is room for a segment of these bounds, after all pieces or among them, by the buffers that were made
 abbrev pub IsRoomFor : ℕ → ℕ → Bounds → Pieces Piece → Buffers → Type 0
 IsRoomFor floor top bounds pieces (Behind buffer) = IsRoomBehind top bounds pieces buffer
 IsRoomFor floor top bounds pieces (Among buffers) = IsRoomAmong floor bounds pieces buffers.items

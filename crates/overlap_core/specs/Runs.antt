@@ -14,7 +14,7 @@ abbrev pub AreBytes : (ℕ → Option ℕ) → ℕ → List ℕ → Type 0
 AreBytes byte low bytes = (k : ℕ) → k < length bytes → byte (low + k) ≡ Some (slice_index bytes k)
 
 -- the first run of the places from `low` on and below `high`: no place before it has a byte, it has
--- at least one, it holds those of its places, and the place behind it is the limit or has none
+-- at least one, it holds those of its places, and the place after it is the limit or has none
 pub record IsFirstRun (byte : ℕ → Option ℕ) (low high : ℕ) (run : Run) : Type 0 where
   pub begins : low ≤ run.start
   pub nothing_before : NoByte byte low run.start
@@ -28,10 +28,10 @@ abbrev pub AreRuns : (ℕ → Option ℕ) → ℕ → ℕ → List Run → Type 
 AreRuns byte low high [] = NoByte byte low high
 AreRuns byte low high (run ∷ runs) = IsFirstRun byte low high run × AreRuns byte (run.start + length run.bytes) high runs
 
--- the new list is the old one with so many bytes behind it, those from the place `low` on
+-- the new list is the old one with `count` bytes after it, those from the place `low` on
 abbrev pub AppendsBytes : (ℕ → Option ℕ) → ℕ → ℕ → List ℕ → List ℕ → Type 0
 AppendsBytes byte low count old new = (bytes : List ℕ) × (new ≡ old ++ bytes) × (length bytes ≡ count) × AreBytes byte low bytes
 
--- the new list is the old one with the maximal runs behind it
+-- the new list is the old one with the maximal runs after it
 abbrev pub AppendsRuns : (ℕ → Option ℕ) → ℕ → ℕ → List Run → List Run → Type 0
 AppendsRuns byte low high old new = (runs : List Run) × (new ≡ old ++ runs) × AreRuns byte low high runs

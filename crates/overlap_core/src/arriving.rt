@@ -33,7 +33,7 @@ impl<'a> Arriving<'a> {
         Arriving { start, bytes }
     }
 
-    /// Its whole bounds.
+    /// The segment's whole bounds.
     pub(crate) fn bounds(&self) -> Bounds
         ensures { result ≡ bounds_of self.now }
     {
@@ -43,7 +43,7 @@ impl<'a> Arriving<'a> {
         }
     }
 
-    /// Its bytes from `low` on and below `high`.
+    /// The segment's bytes from `low` on and below `high`.
     pub(crate) fn part(&self, low: u64, high: u64) -> &[u8]
         requires from { self.now.start ≤ low }
         requires order { low ≤ high }
@@ -74,7 +74,7 @@ impl Arrivals {
         Arrivals {}
     }
 
-    /// These and one more.
+    /// The segments that arrived, and one more.
     pub(crate) fn with(&self, _new: &Arriving<'_>) -> Arrivals
         ensures { result.segments ≡ self.now.segments ++ _new.now ∷ [] }
     {

@@ -53,7 +53,7 @@ impl Piece {
         self.whole
     }
 
-    /// The place behind the last byte.
+    /// The place after the last byte.
     pub(crate) fn end(&self) -> u64
         ensures { result ≡ piece_end self.now }
     {
@@ -72,7 +72,7 @@ impl Piece {
         })
     }
 
-    /// The same bytes as a run. Takes no memory.
+    /// The piece's bytes as a run. Takes no memory.
     pub(crate) fn into_run(self) -> Run
         ensures { result ≡ run_of self }
     {
@@ -132,7 +132,8 @@ impl Piece {
         })
     }
 
-    /// The same in its own buffer, or the piece where it begins at `at` or behind it. Takes no memory.
+    /// The piece from `at` on in its own buffer, or the whole piece where it begins at `at` or after it.
+    /// Takes no memory.
     pub(crate) fn from_place(self, at: u64) -> Piece
         requires { at ≤ piece_end self }
         ensures { result ≡ (if nat_lt self.start at then right_part at self else self) }

@@ -25,8 +25,8 @@ struct Room {
 /// The segments of one datagram or of one direction of a stream, in order of arrival.
 ///
 /// Contracts see the floor, below which no byte is given any more, the preference, the segments
-/// whole, and the bounds of the one segment for which room stands. What is kept is pieces: the bytes
-/// from the floor on that stand, each once.
+/// whole, and the bounds of the one segment for which there is room. What is kept is pieces: the bytes
+/// from the floor on that are kept, each once.
 #[derive(Drop)]
 pub struct Queue {
     alloc: Global,
@@ -66,8 +66,8 @@ impl Queue {
         }
     }
 
-    /// Makes room for one segment of `len` bytes at `start`, in place of any room that stood.
-    /// Without memory no room stands, and nothing else changes.
+    /// Makes room for one segment of `len` bytes at `start`, in place of any room that there was.
+    /// Without memory there is no room, and nothing else changes.
     pub fn reserve(&mut self, start: u64, len: usize) -> Result<(), NoMemory>
         requires some { 0 < len }
         requires fits { start + len < 2 ^ 64 }
@@ -82,7 +82,7 @@ impl Queue {
         Ok(())
     }
 
-    /// Adds a segment for which room stands, and uses up the room. Takes no memory.
+    /// Adds a segment for which there is room, and uses up the room. Takes no memory.
     pub fn insert_reserved(&mut self, start: u64, bytes: &[u8])
         requires { self.old.room ≡ Some (record { start = start; end = start + length bytes.now }) }
         ensures { self.new ≡ with_segment self.old (record { start = start; bytes = bytes.now }) }
@@ -96,8 +96,8 @@ impl Queue {
         }
     }
 
-    /// Makes room for a segment and adds it. Without memory no segment and no byte changes. No
-    /// room stands afterwards.
+    /// Makes room for a segment and adds it. Without memory no segment and no byte changes. There is no
+    /// room afterwards.
     pub fn insert(&mut self, start: u64, bytes: &[u8]) -> Result<(), NoMemory>
         requires some { 0 < length bytes.now }
         requires fits { start + length bytes.now < 2 ^ 64 }
@@ -112,7 +112,7 @@ impl Queue {
         Ok(())
     }
 
-    /// The same for a segment behind all that came, in one step.
+    /// Makes room for a segment after all that came, and adds it, in one step.
     fn insert_behind(&mut self, start: u64, bytes: &[u8]) -> Result<(), NoMemory>
         requires behind { covered_end self.old.floor self.old.segments ≤ start }
         requires some { 0 < length bytes.now }
@@ -140,7 +140,7 @@ impl Queue {
         byte_of(&self.pieces, place)
     }
 
-    /// What the queue keeps, in order of place: the bytes that stand from the floor on, each piece with
+    /// What the queue keeps, in order of place: the bytes that are kept from the floor on, each piece with
     /// the whole bounds of the segment that it came in. There are at most as many as they have bytes, each
     /// of another place. The place in the list and its spare nodes are open. Takes no memory.
     #[tactic(auto, using(crate::proofs::Few::few))]
@@ -199,7 +199,7 @@ impl Queue {
     }
 
     /// Appends the maximal runs of covered places from the floor on and below `below`, in order,
-    /// and makes `below` the floor; no room stands then. Without memory the queue and `out` stay.
+    /// and makes `below` the floor; there is no room then. Without memory the queue and `out` stay.
     pub fn take_runs(
         &mut self,
         alloc: Global,

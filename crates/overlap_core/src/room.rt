@@ -16,9 +16,9 @@ use std::collections::VecDeque;
 /// Memory for the bytes of one segment.
 #[derive(Drop)]
 pub enum Buffers {
-    /// It lies behind all pieces: one buffer.
+    /// The segment lies after all pieces: one buffer.
     Behind(Text),
-    /// It may lie anywhere: a buffer for each gap that it fills.
+    /// The segment may lie anywhere: a buffer for each gap that it fills.
     Among(VecDeque<Text>),
 }
 
@@ -43,7 +43,7 @@ pub fn room_for(
     Ok(Buffers::Among(buffers))
 }
 
-/// Makes room for a segment of these bounds behind all pieces: a node, and a buffer of its length.
+/// Makes room for a segment of these bounds after all pieces: a node, and a buffer of its length.
 fn room_behind(
     alloc: Global,
     pieces: &mut PieceList<Piece>,
@@ -101,7 +101,7 @@ pub fn lay_over(
     }
 }
 
-/// Puts a segment behind the last piece. Takes no memory.
+/// Puts a segment after the last piece. Takes no memory.
 fn lay_behind(pieces: &mut PieceList<Piece>, buffer: Text, new: &Arriving<'_>)
     requires size { new.now.start + length buffer ≡ end_of new.now }
     requires node { 0 < pieces.old.spare }
@@ -111,7 +111,7 @@ fn lay_behind(pieces: &mut PieceList<Piece>, buffer: Text, new: &Arriving<'_>)
     pieces.push_back(Piece::of(new, start, buffer));
 }
 
-/// Puts a segment behind the last piece without room that was made before. Without memory the list stays.
+/// Puts a segment after the last piece without room that was made before. Without memory the list stays.
 pub fn add_behind(
     alloc: Global,
     pieces: &mut PieceList<Piece>,

@@ -11,7 +11,7 @@ use piece_list::PieceList;
 use std::alloc::Global;
 use std::collections::VecDeque;
 
-/// Whether the list stands at a piece that begins below `at`.
+/// Whether the list's place is at a piece that begins below `at`.
 fn begins_below(pieces: &PieceList<Piece>, at: u64) -> bool
     ensures yes_at { IsTrue result → (piece : Kept) × (slice_get pieces.now.list pieces.now.place ≡ Some piece)
         × (piece.start < at) }
@@ -49,8 +49,8 @@ fn step_on(pieces: &mut PieceList<Piece>, at: u64)
     }
 }
 
-/// Moves to the first piece that begins at `at` or behind it, or to the end: from where the list
-/// stands, so that what is near is found in a few steps.
+/// Moves to the first piece that begins at `at` or after it, or to the end: from where the list
+/// is, so that what is near is found in a few steps.
 pub fn seek(pieces: &mut PieceList<Piece>, at: u64)
     ensures list { pieces.new.list ≡ pieces.old.list }
     ensures spare { pieces.new.spare ≡ pieces.old.spare }
@@ -61,7 +61,7 @@ pub fn seek(pieces: &mut PieceList<Piece>, at: u64)
     step_on(pieces, at);
 }
 
-/// Cuts the piece before the place, if it has `at` inside, and stands behind what is below `at`. At
+/// Cuts the piece before the place, if it has `at` inside. The place is then at that piece or its left part. At
 /// an error only the place has changed.
 fn cut_before(alloc: Global, pieces: &mut PieceList<Piece>, at: u64) -> Result<(), NoMemory>
     requires { 0 < pieces.old.spare }
@@ -148,7 +148,7 @@ pub fn buffers_for(
     Ok(buffers)
 }
 
-/// Fills the gap from `low` on and below `high`, if there is one, and stands behind it.
+/// Fills the gap from `low` on and below `high`, if there is one, and is then after it.
 fn fill_gap(
     pieces: &mut PieceList<Piece>,
     buffers: &mut VecDeque<Text>,
@@ -174,7 +174,7 @@ fn fill_gap(
     }
 }
 
-/// Lays the new segment over the piece at the place, and stands behind it.
+/// Lays the new segment over the piece at the place, and is then after it.
 fn overlay(pieces: &mut PieceList<Piece>, preference: Preference, new: &Arriving<'_>)
     ensures list { (front rest : List Kept) (piece : Kept) → StandsAt pieces.old front (piece ∷ rest)
         → StandsAt pieces.new (front ++ overlaid preference new.now piece ∷ []) rest }
@@ -209,7 +209,7 @@ pub fn lay(
     fill_gap(pieces, &mut buffers, new, low, high);
 }
 
-/// Gives up the pieces below a later floor, and stands at the last, near which the next segment mostly
+/// Gives up the pieces below a later floor, and is then at the last, near which the next segment mostly
 /// lies.
 pub fn raise(pieces: &mut PieceList<Piece>, below: u64)
     ensures { pieces.new.list ≡ raised below pieces.old.list }

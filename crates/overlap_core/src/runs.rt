@@ -52,7 +52,7 @@ pub fn filled(pieces: &PieceList<Piece>, floor: u64, out: &mut [u8]) -> bool
 }
 
 /// Whether every place from the floor on has a byte, `len` places; then `out`, which has room for them, ends
-/// with these bytes. What stood in `out` stays its front.
+/// with these bytes. What was in `out` stays its front.
 pub fn append_places(pieces: &PieceList<Piece>, floor: u64, len: usize, out: &mut Vec<u8>) -> bool
     requires fits { floor + len < 2 ^ 64 }
     requires room { vec_len out.old + len ≤ vec_capacity out.old }
@@ -217,7 +217,7 @@ fn first_run_len(pieces: &PieceList<Piece>, below: u64) -> usize
     end.saturating_sub(first.start()) as usize
 }
 
-/// Where a run ends that has come to `end`, with these pieces behind it; only so far as `below` asks.
+/// Where a run ends that has come to `end`, with these pieces after it; only so far as `below` asks.
 fn run_end(end: u64, rest: Iter<'_, Piece>, below: u64) -> u64
     ensures { result ≤ end + bytes_held rest.entry }
 {
@@ -231,7 +231,7 @@ fn run_end(end: u64, rest: Iter<'_, Piece>, below: u64) -> u64
     end
 }
 
-/// The piece's bytes below a place behind its start.
+/// The piece's bytes below a place after its start.
 fn bytes_below(piece: &Piece, below: u64) -> &[u8]
     requires { piece.now.start ≤ below }
     ensures { result.now ≡ take (below - piece.now.start) piece.now.bytes }
@@ -241,8 +241,8 @@ fn bytes_below(piece: &Piece, below: u64) -> &[u8]
     &bytes[..count.min(bytes.len())]
 }
 
-/// Adds bytes behind runs: to the last, where that ends at their start, or as a run of their own. The
-/// first run gets a buffer with room for so many.
+/// Adds bytes after runs: to the last, where that ends at their start, or as a run of their own. The
+/// first run gets a buffer with room for `room` bytes.
 fn add_run(
     alloc: Global,
     runs: &mut Vec<Run>,
@@ -272,7 +272,7 @@ fn add_run(
     push_run(alloc, runs, bytes.len(), start, bytes)
 }
 
-/// Adds bytes behind runs as a run of their own, in a buffer with room for so many.
+/// Adds bytes after runs as a run of their own, in a buffer with room for `room` bytes.
 fn push_run(
     alloc: Global,
     runs: &mut Vec<Run>,

@@ -1,6 +1,6 @@
 -- The internet checksum, as one checks it: RFC 1071, section 1, rules (1) and (3).
 --
--- The bytes are paired to 16-bit words, an odd last byte with a zero byte behind it; `word_sum` of
+-- The bytes are paired to 16-bit words, an odd last byte with a zero byte after it; `word_sum` of
 -- edge_io's specs/Bytes is their plain sum. The one's complement sum of the words, the checksum field
 -- among them, is to be all ones, ffff. A one's complement sum adds each carry out of the 16 bits back in
 -- at the low end, so it is the plain sum modulo 65535, where a multiple of 65535 is written as 0000 if

@@ -58,7 +58,7 @@ abbrev pub placed : List ℕ → Option Skip → Placed → Result Fields Skip
 placed bytes None packet = Ok (fields_at bytes packet)
 placed bytes (Some skip) packet = Err skip
 
--- The place of the type field behind a tag whose own type, 8100, stands at `place`: a tag has 4
+-- The place of the type field after a tag whose own type, 8100, is at `place`: a tag has 4
 -- bytes, and the type of what it holds follows it (IEEE 802.1Q). Without a tag it is the place itself.
 unfoldable pub behind_tag : List ℕ → ℕ → Result ℕ Skip
 behind_tag bytes place =
@@ -66,8 +66,8 @@ behind_tag bytes place =
     then (if nat_lt (length bytes) (place + 6) then Err Short else Ok (place + 4))
     else Ok place
 
--- Where the packet of a version starts, if a type field stands at `place`: behind at most two tags,
--- and behind a type that names the version.
+-- Where the packet of a version starts, if a type field is at `place`: after at most two tags,
+-- and after a type that names the version.
 unfoldable pub typed_start : IpVersion → List ℕ → ℕ → Result ℕ Skip
 typed_start version bytes place = do
   inner ← behind_tag bytes place

@@ -3,7 +3,7 @@
 -- The standards: RFC 894 and RFC 2464 for the types by which a link names the versions, RFC 791
 -- section 3.1 and RFC 8200 section 3 for the first four bits, RFC 792 and RFC 4443 section 1 for the
 -- protocol numbers of the control messages.
--- To try it on: behind the type 86dd stands a packet whose first byte begins with the digit 6.
+-- To try it on: after the type 86dd comes a packet whose first byte begins with the digit 6.
 use Rattle.std.specs.Prelude.{ℕ}
 use Rattle.edge_io.specs.declared.address.Addr.{Addr}
 use Rattle.edge_io.specs.declared.address.Addr.TheVariants.{V4, V6}

@@ -38,7 +38,7 @@ fn is_all_ones(sum: u128) -> bool
     total > 0 && total % 0xFFFF == 0
 }
 
-/// Adds the wide word in the first bytes, and gives the bytes behind it.
+/// Adds the wide word in the first bytes, and gives the bytes after it.
 fn add_wide(total: u128, bytes: &[u8]) -> (u128, &[u8])
     requires room { total < 2 ^ 126 }
     requires long { 8 ≤ length bytes.now }
@@ -50,7 +50,7 @@ fn add_wide(total: u128, bytes: &[u8]) -> (u128, &[u8])
     (total + u128::from(LittleEndian::read_u64(front)), rest)
 }
 
-/// Adds the four wide words in the first bytes, and gives the bytes behind them.
+/// Adds the four wide words in the first bytes, and gives the bytes after them.
 fn add_row(total: u128, bytes: &[u8]) -> (u128, &[u8])
     requires room { total < 2 ^ 125 }
     requires long { 32 ≤ length bytes.now }

@@ -7,7 +7,7 @@
 //! `decode_at` writes the packet in place, its payload by its place in the bytes.
 //! They meet the definitions of `specs/Decoding`, which name every field by its place in the whole
 //! record, for every link and all bytes; the checksums are those of `specs/Checksum`. None takes
-//! memory. Reassembly, sessions, rule headers and alert lines stand on the types of this crate:
+//! memory. Reassembly, sessions, rule headers and alert lines build on the types of this crate:
 //! packets, and the heads of the items that rules are tried on.
 #![tactic(auto)]
 

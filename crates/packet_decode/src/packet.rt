@@ -70,7 +70,7 @@ pub struct TcpHead {
     pub window: u16,
 }
 
-/// What a packet carries behind its IP header.
+/// What a packet carries after its IP header.
 #[derive(Clone, Copy, Debug, PartialEq, Eq)]
 pub enum Body {
     Tcp(TcpHead),

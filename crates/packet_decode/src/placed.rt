@@ -60,7 +60,7 @@ impl Placed {
         }
     }
 
-    /// Puts in what stands behind the header.
+    /// Puts in what comes after the header.
     pub(crate) fn put(&mut self, body: Body, start: usize, len: usize)
         ensures { self.new ≡ record self.old { body = body; start = start; len = len } }
     {

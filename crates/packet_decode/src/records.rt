@@ -10,7 +10,7 @@ use crate::transport::transport;
 use crate::{Body, Checks, IpVersion, Packet, Placed, Skip};
 use edge_io::Link;
 
-/// The data of a datagram that is no fragment, between these bounds; its head stands in `out`.
+/// The data of a datagram that is no fragment, between these bounds; its head is in `out`.
 fn datagram_data(bytes: &[u8], bounds: Bounds, checks: Checks, out: &mut Placed) -> Result<(), Skip>
     requires in_order { bounds.start ≤ bounds.stop }
     requires captured { bounds.stop ≤ length bytes.now }
@@ -82,7 +82,7 @@ pub fn decode_at(link: Link, bytes: &[u8], checks: Checks, out: &mut Placed) -> 
 ///
 /// `bytes` are all that was captured, and the payload is lent from them; it ends with the datagram.
 /// The first step that fails decides. `Skip::Short` says that captured bytes are missing, up to the
-/// total length; `Skip::OtherProtocol` that this is no IPv4, or stands behind more than two tags;
+/// total length; `Skip::OtherProtocol` that this is no IPv4, or comes after more than two tags;
 /// `Skip::Malformed` and `Skip::Checksum` speak of the IPv4 header and then of the transport header.
 /// Takes no memory.
 pub fn decode<'a>(link: Link, bytes: &'a [u8], checks: Checks) -> Result<Packet<'a>, Skip>

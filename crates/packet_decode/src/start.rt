@@ -33,7 +33,7 @@ fn behind_tag(bytes: &[u8], place: usize) -> Result<usize, Skip>
     Ok(place + TAG_LEN)
 }
 
-/// Where the packet starts behind the type field at `place`, and behind at most two tags.
+/// Where the packet starts after the type field at `place`, and after at most two tags.
 #[tactic(auto, unfolding(crate::specs::Decoding::typed_start))]
 fn typed_start(version: IpVersion, bytes: &[u8], place: usize) -> Result<usize, Skip>
     requires { place + 2 ≤ length bytes.now }

@@ -106,7 +106,7 @@ fn icmp(message: &[u8], check: bool, out: &mut Placed) -> Result<(), Skip>
     Ok(())
 }
 
-/// The data of a datagram, by the protocol of its head, which stands in `out`.
+/// The data of a datagram, by the protocol of its head, which is in `out`.
 #[tactic(auto, unfolding(crate::specs::Decoding::datagram_decoded, crate::specs::Decoding::transport_at))]
 pub(crate) fn transport(bytes: &[u8], checks: Checks, out: &mut Placed) -> Result<(), Skip>
     ensures told { placed bytes.now (result_err result) out.new

@@ -1,4 +1,4 @@
--- The laws of a capture that callers use: what a record needs to stand, what it leaves, that it
+-- The laws of a capture that callers use: what a record needs to be there, what it leaves, that it
 -- depends on its own bytes alone, and what follows for the records of a whole text.
 use Rattle.std.proofs.Common.{◌≡◌, ℕ, ◌+◌, ◌<◌, ◌≤◌, Bool, true, false, List, [], ◌++◌, length, take, drop, refl, sym, ap, ◌∙◌, arith}
 use Rattle.std.specs.Prelude.{if◌then◌else◌, nat_lt, nat_le, ◌==◌}
@@ -26,7 +26,7 @@ number_at-append false place count front back fits =
     ∙ ap (little_from place count) (take-append-le (place + count) front back fits)
     ∙ little_from-take place count (place + count) front (omega arith)
 
--- the head behind the magic number depends on the first 24 bytes alone
+-- the head after the magic number depends on the first 24 bytes alone
 head_behind-append : (swapped nanos : Bool) (front back : List ℕ) → 24 ≤ length front → head_behind swapped nanos (front ++ back) ≡ head_behind swapped nanos front
 unfolding head_behind
 head_behind-append swapped nanos front back long =
@@ -48,12 +48,12 @@ head_of-append front back long =
     let d = head_behind-append true true front back long in
     rw (longer, as_long, least, most, a, b, c, d) refl
 
--- where a record stands, a test that ends the capture doesn't hold
+-- where there is a record, a test that ends the capture doesn't hold
 not_ended : (test : Bool) (ending : Ending CaptureFault) (next : Next) (given : Record) (rest : List ℕ) → (if test then Ends ending else next) ≡ Stands given rest → (test ≡ false) × (next ≡ Stands given rest)
 not_ended true ending next given rest is = cc
 not_ended false ending next given rest is = (refl, is)
 
--- what a record needs to stand behind its header, and what it leaves
+-- what a record needs after its header, and what it leaves
 pub record IsBehind (head : CaptureHead) (number : ℕ) (header bytes : List ℕ) (given : Record) (rest : List ℕ) : Type 0 where
   pub short : captured_length head header ≤ 262144
   pub whole : captured_length head header ≤ length bytes
@@ -68,7 +68,7 @@ behind_means head number place header bytes given rest is =
     let two = not_ended (nat_lt (length bytes) (captured_length head header)) (Refused (Truncated place)) _ given rest one.1 in
     record { short = grind (arith, nat_tests, one.0); whole = grind (arith, nat_tests, two.0); is = cc (two.1); left = cc (two.1) }
 
--- a record stands behind its header where its bytes are there
+-- after a header there is a record where its bytes are there
 pub behind_stands : (head : CaptureHead) (number place : ℕ) (header bytes : List ℕ) → captured_length head header ≤ 262144 → captured_length head header ≤ length bytes
     → next_behind head number place header bytes ≡ Stands (record_of head number header (take (captured_length head header) bytes)) (drop (captured_length head header) bytes)
 unfolding next_behind
@@ -77,7 +77,7 @@ behind_stands head number place header bytes short whole =
     let two : nat_lt (length bytes) (captured_length head header) ≡ false = grind (arith, nat_tests) in
     rw (one, two) refl
 
--- behind a header, so many bytes as it says are the record's, whatever follows
+-- after a header, as many bytes as it says are the record's, whatever follows
 pub bytes_stand : (head : CaptureHead) (number place : ℕ) (header bytes more : List ℕ) → captured_length head header ≡ length bytes → length bytes ≤ 262144
     → next_behind head number place header (bytes ++ more) ≡ Stands (record_of head number header bytes) more
 bytes_stand head number place header bytes more is short =
@@ -105,7 +105,7 @@ behind_truncated head number place header bytes short fewer =
     let two : nat_lt (length bytes) (captured_length head header) ≡ true = grind (arith, nat_tests) in
     rw (one, two) refl
 
--- what a record needs to stand next: fewer than 4294967295 before it, and a whole header
+-- what a record needs to come next: fewer than 4294967295 before it, and a whole header
 pub record IsNext (head : CaptureHead) (number place : ℕ) (bytes : List ℕ) (given : Record) (rest : List ℕ) : Type 0 where
   pub few : number < 4294967295
   pub header : 16 ≤ length bytes
@@ -120,7 +120,7 @@ next_means head number place bytes given rest is =
     let three = not_ended (nat_lt (length bytes) 16) (Refused (Truncated place)) _ given rest two.1 in
     record { few = grind (arith, nat_tests, two.0); header = grind (arith, nat_tests, three.0); behind = three.1 }
 
--- behind a whole header stands what stands behind it
+-- after a whole header comes what `next_behind` says
 pub next_of_header : (head : CaptureHead) (number place : ℕ) (header bytes : List ℕ) → length header ≡ 16 → number < 4294967295
     → next_of head number place (header ++ bytes) ≡ next_behind head number place header bytes
 unfolding next_of
@@ -138,7 +138,7 @@ pub next_of_nothing : (head : CaptureHead) (number place : ℕ) → next_of head
 unfolding next_of
 next_of_nothing head number place = refl
 
--- a byte is left behind the last record that may be
+-- a byte is left after the last record that may be
 pub next_of_too_many : (head : CaptureHead) (number place : ℕ) (bytes : List ℕ) → 0 < length bytes → 4294967295 ≤ number
     → next_of head number place bytes ≡ Ends (Refused TooMany)
 unfolding next_of

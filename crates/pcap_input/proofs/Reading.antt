@@ -61,7 +61,7 @@ reading-told first reader given left_first left whole so_far told =
     let split = split_told left_first left so_far.taken whole so_far.took told in
     (split.rest, split.still, ap (cut_for first) split.joined ∙ so_far.cut split.rest)
 
--- no record stands next behind them
+-- no record comes next after those that were given
 front_ends : (first reader : Reading) (given : List Record) (left_first left : Option (List ℕ)) (so_far : HasRead first reader given left_first left) (rest : List ℕ) (ending : Ending CaptureFault)
     → next_of reader.head reader.number reader.at rest ≡ Ends ending → cut_for first (so_far.taken ++ rest) ≡ record { records = given; ending = ending }
 front_ends first reader given left_first left so_far rest ending ends =
@@ -89,7 +89,7 @@ reading-stopped first reader given why left_first left left_next so_far takes =
       are = ap (λ (cut : Cut Record CaptureFault). cut.records) (front_ends first reader given left_first left so_far takes.taken shown.0 shown.1);
     }
 
--- what stands next for the reader, where that is told, is this ending
+-- what comes next for the reader, where that is told, is this ending
 ends_with : (first reader : Reading) (given : List Record) (left_first left : Option (List ℕ)) (ending : Ending CaptureFault)
     → HasRead first reader given left_first left → ((rest : List ℕ) → left ≡ Some rest → next_of reader.head reader.number reader.at rest ≡ Ends ending) → EndsWith first given left_first ending
 ends_with first reader given left_first left ending so_far ends whole told =

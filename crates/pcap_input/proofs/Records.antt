@@ -1,4 +1,4 @@
--- The laws of a capture's records that callers use: how what is left goes on with what stands next,
+-- The laws of a capture's records that callers use: how what is left goes on with what comes next,
 -- what a record takes, and where an ending lies.
 use Rattle.std.proofs.Common.{◌≡◌, ℕ, zero, suc, ◌+◌, ◌<◌, ◌≤◌, List, ◌∷◌, ◌++◌, length, take, drop, refl, sym, ap, append_assoc, ◌∙◌, arith}
 use Rattle.std.proofs.lemmas.List.{length-append, length-take-le, take-append-drop}
@@ -11,7 +11,7 @@ use Rattle.pcap_input.specs.Savefile.{captured_length, record_of, Next, Ends, St
 use Rattle.pcap_input.specs.Reader.{Shows}
 use Rattle.pcap_input.proofs.Laws.{behind_means, bytes_stand, next_means, next_of_header}
 
--- a record that stands: its own bytes, and that it stands there whatever follows them
+-- a record that is there: its own bytes, and that it is there whatever follows them
 pub record Parts (head : CaptureHead) (number place : ℕ) (bytes : List ℕ) (given : Record) (rest : List ℕ) : Type 0 where
   pub own : List ℕ
   pub joined : bytes ≡ own ++ rest
@@ -54,7 +54,7 @@ stands_parts head number place bytes given rest is =
       short = omega (arith, ap length holds, behind.short);
     }
 
--- one more step of a cut
+-- a cut after one more step
 cut_on : ℕ → CaptureHead → ℕ → ℕ → Next → Cut Record CaptureFault
 cut_on most head number place (Ends ending) = no_more ending
 cut_on most head number place (Stands first more) = with_first first (cut_up most head (number + 1) (place_behind place first) more)
@@ -87,7 +87,7 @@ enough (suc some) (suc more_steps) head number place rest fits fits_more =
     ∙ enough_by some more_steps head number place rest (λ n p more f m. enough some more_steps head n p more f m) fits fits_more next refl
     ∙ sym (cut_up-suc more_steps head number place rest next refl)
 
--- what is left is the ending where that stands next
+-- what is left is the ending where that comes next
 pub records_left-ends : (head : CaptureHead) (number place : ℕ) (rest : List ℕ) (ending : Ending CaptureFault) → next_of head number place rest ≡ Ends ending
     → records_left head number place rest ≡ no_more ending
 unfolding records_left cut_on
@@ -95,7 +95,7 @@ records_left-ends head number place rest ending is =
     let step : length rest + 1 ≡ suc (length rest) = omega arith in
     ap (λ (n : ℕ). cut_up n head number place rest) step ∙ cut_up-suc (length rest) head number place rest (Ends ending) is
 
--- what is left is the record that stands next, and then what is left behind it
+-- what is left is the record that comes next, and then what is left after it
 pub records_left-stands : (head : CaptureHead) (number place : ℕ) (rest : List ℕ) (first : Record) (more : List ℕ) → next_of head number place rest ≡ Stands first more
     → records_left head number place rest ≡ with_first first (records_left head (number + 1) (place_behind place first) more)
 unfolding records_left cut_on

@@ -10,7 +10,7 @@ magics_apart : (bytes : List ℕ) → number_at false 0 4 bytes ≡ 0x0a0d_0d0a 
 unfolding number_at
 magics_apart bytes is = (λ other. omega (arith, is, other), λ other. omega (arith, is, other))
 
--- so a file that begins with them has no head
+-- a file that begins with the type of a section header has no head
 pub section-head : (bytes : List ℕ) → file_header ≤ length bytes → number_at false 0 4 bytes ≡ 0x0a0d_0d0a → head_of bytes ≡ Err NotPcap
 unfolding head_of
 section-head bytes enough begins =

@@ -44,7 +44,7 @@ abbrev pub AreWithin : {R : Type 0} → Option ℕ → List R → Type 0
 AreWithin None records = ⊤
 AreWithin (Some limit) records = length records ≤ limit
 
--- this many, or as many as a limit lets
+-- this number, or as many as a limit lets
 abbrev pub limited : Option ℕ → ℕ → ℕ
 limited None count = count
 limited (Some limit) count = min limit count
@@ -54,7 +54,7 @@ pub record IsWhole {R F : Type 0} (count : ℕ) (cut : Cut R F) : Type 0 where
   pub count_is : length cut.records ≡ count
   pub clean : cut.ending ≡ Clean
 
--- ---- the same in other words
+-- ---- endings and cuts in other words
 
 -- an ending whose fault is told so
 abbrev pub ending_by : {F G : Type 0} → (F → G) → Ending F → Ending G

@@ -31,7 +31,7 @@ ip_fields source destination protocol size check =
     69 ∷ 0 ∷ big_bytes 2 (20 + size) ++ 0 ∷ 1 ∷ 0 ∷ 0 ∷ 64 ∷ protocol ∷ big_bytes 2 check
     ++ address source ++ address destination
 
--- the same with the checksum that is right
+-- the IPv4 header in front of `size` bytes, with the checksum that is right
 unfoldable pub ip_header : Endpoint → Endpoint → ℕ → ℕ → List ℕ
 ip_header source destination protocol size =
     ip_fields source destination protocol size (checksum (word_sum (ip_fields source destination protocol size 0)))

@@ -6,7 +6,7 @@
 -- handshake (RFC 9293, section 3.5), then 64 bytes and their acknowledgement take turns; one piece of
 -- data in fifty begins with `attack`. The packets' bytes are those of `Frames`, and the file is a
 -- libpcap savefile (pcap-savefile(5)) of microseconds, least significant byte first, for Ethernet.
--- To try it on: behind seed 1 the states are 1103527590 and 377401575, whose numbers over 65536 are
+-- To try it on: after seed 1 the states are 1103527590 and 377401575, whose numbers over 65536 are
 -- 16838 and 5758. The first is 2 below 4, so the first packet is no datagram; the second is 14 below 16:
 -- it is the SYN of session 14, from 10.1.0.15, port 40014, with the sequence number 14000.
 use Rattle.std.specs.Prelude.{◌≡◌, ℕ, zero, suc, ◌+◌, ◌*◌, ◌/◌, ◌%◌, ◌^◌, ◌==◌, Bool, true, false, if◌then◌else◌, List, [], ◌∷◌, ◌++◌, length, drop, map, codes, decimal, slice_index_or, slice_set}
@@ -26,11 +26,11 @@ use Rattle.pcap_input.specs.Frames.{tcp_frame, udp_frame}
 use Rattle.pcap_input.specs.Cut.{Cut}
 use Rattle.pcap_input.specs.Savefile.{file_header, records_left}
 
--- the state behind this one
+-- the state after this one
 abbrev pub step : ℕ → ℕ
 step state = (state * 1103515245 + 12345) % 2147483648
 
--- the state after so many steps
+-- the state after `count` steps
 unfoldable pub steps : ℕ → ℕ → ℕ
 steps zero state = state
 steps (suc count) state = steps count (step state)
@@ -39,7 +39,7 @@ steps (suc count) state = steps count (step state)
 unfoldable pub draw : ℕ → ℕ → ℕ
 draw limit state = step state / 65536 % limit
 
--- so many letters, each drawn
+-- `count` letters, each drawn
 unfoldable pub letters : ℕ → ℕ → List ℕ
 letters zero state = []
 letters (suc count) state = (97 + draw 26 state) ∷ letters count (step state)
@@ -95,11 +95,11 @@ segment_at s client server DataAck = record {
   flags = 16;
 }
 
--- a sequence number behind so many bytes: they go round at 2 ^ 32
+-- a sequence number after `count` bytes: they go round at 2 ^ 32
 abbrev pub seq_behind : ℕ → ℕ → ℕ
 seq_behind seq count = (seq + count) % 2 ^ 32
 
--- the session behind its turn
+-- the session after its turn
 unfoldable pub session_behind : ℕ → ℕ → Turn → Session
 session_behind client server Syn = record { client = seq_behind client 1; server = server; turn = SynAck }
 session_behind client server SynAck = record { client = client; server = seq_behind server 1; turn = Established }
@@ -119,7 +119,7 @@ has_payload DataAck = false
 unfoldable pub payload_at : Turn → ℕ → List ℕ
 payload_at turn state = if has_payload turn then payload_drawn state else []
 
--- the state behind it
+-- the state after the payload of a turn
 unfoldable pub state_behind : Turn → ℕ → ℕ
 state_behind turn state = if has_payload turn then steps 65 state else state
 
@@ -135,7 +135,7 @@ first_traffic seed = record { draws = record { state = seed }; sessions = map fi
 abbrev pub session_at : List Session → ℕ → Session
 session_at sessions s = slice_index_or sessions s (first_session s)
 
--- a frame, and the traffic behind it
+-- a frame, and the traffic after it
 pub record Made : Type 0 where
   pub frame : List ℕ
   pub behind : Traffic
@@ -177,11 +177,11 @@ made traffic =
     let behind = with_state traffic (step traffic.draws.state) in
     if draw 4 traffic.draws.state == 0 then made_datagram behind else made_segment behind
 
--- this is the next frame, and this is the traffic behind it
+-- this is the next frame, and this is the traffic after it
 abbrev pub IsMade : Made → List ℕ → Traffic → Type 0
 IsMade next frame behind = next ≡ record { frame = frame; behind = behind }
 
--- so many frames
+-- the next `count` frames
 unfoldable pub frames : ℕ → Traffic → List (List ℕ)
 frames zero traffic = []
 frames (suc count) traffic = (made traffic).frame ∷ frames count (made traffic).behind
@@ -191,13 +191,13 @@ abbrev pub header_bytes : List ℕ
 header_bytes =
     212 ∷ 195 ∷ 178 ∷ 161 ∷ 2 ∷ 0 ∷ 4 ∷ 0 ∷ 0 ∷ 0 ∷ 0 ∷ 0 ∷ 0 ∷ 0 ∷ 0 ∷ 0 ∷ 255 ∷ 255 ∷ 0 ∷ 0 ∷ 1 ∷ 0 ∷ 0 ∷ 0 ∷ []
 
--- the header of a record of `size` bytes at so many milliseconds: the second, its microseconds, the
+-- the header of a record of `size` bytes at `millis` milliseconds: the second, its microseconds, the
 -- captured and the original length
 unfoldable pub record_fields : ℕ → ℕ → List ℕ
 record_fields millis size =
     little_bytes 4 (millis / 1000) ++ little_bytes 4 (millis % 1000 * 1000) ++ little_bytes 4 size ++ little_bytes 4 size
 
--- the record of a frame at so many milliseconds
+-- the record of a frame at `millis` milliseconds
 unfoldable pub record_bytes : ℕ → List ℕ → List ℕ
 record_bytes millis frame = record_fields millis (length frame) ++ frame
 
@@ -214,12 +214,12 @@ capture_of frames = header_bytes ++ records_from 0 frames
 unfoldable pub generated : ℕ → ℕ → List ℕ
 generated seed count = capture_of (frames count (first_traffic seed))
 
--- What it is as a savefile.
+-- What a made capture is as a savefile.
 
--- its head
+-- the head of a made capture
 abbrev pub made_head : CaptureHead
 made_head = record { link = Ethernet; swapped = false; nanos = false }
 
--- what stands behind its file header
+-- what comes after its file header
 abbrev pub made_cut : ℕ → ℕ → Cut Record CaptureFault
 made_cut seed count = records_left made_head 0 file_header (drop file_header (generated seed count))

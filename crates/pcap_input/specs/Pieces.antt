@@ -1,7 +1,7 @@
--- What the inner steps of the reader promise: the file header, and the bytes behind a record header.
+-- What the inner steps of the reader promise: the file header, and the bytes after a record header.
 --
 -- They are the parts of `Reader`'s promises, each about the piece that one step reads.
--- To try it on: behind a header that says 5, a step that took 5 bytes has taken the record's bytes.
+-- To try it on: after a header that says 5, a step that took 5 bytes has taken the record's bytes.
 use Rattle.std.specs.Prelude.{◌≡◌, ℕ, ◌<◌, ◌≤◌, List, ◌++◌, length, Option, Result, Ok, Err, ⊤}
 use Rattle.edge_io.specs.Told.{before, NothingLeft}
 use Rattle.pcap_input.specs.declared.capture.CaptureHead.{CaptureHead}
@@ -25,14 +25,14 @@ pub record TakesFileHeader (answer : Result CaptureHead CaptureFault) (old new :
   pub few : length taken ≤ file_header
   pub answers : Reads answer (head_of taken)
 
--- the answer is what stands next, unless memory lacked or the host failed
+-- the answer is what comes next, unless memory lacked or the host failed
 abbrev pub GivesOne : Result Record CaptureFault → Next → Type 0
 GivesOne (Ok given) next = (rest : List ℕ) × (next ≡ Stands given rest)
 GivesOne (Err fault.NoMemory) next = ⊤
 GivesOne (Err fault.Failed) next = ⊤
 GivesOne (Err why) next = next ≡ Ends (Refused why)
 
--- exactly the captured bytes behind this header were taken
+-- exactly the captured bytes after this header were taken
 pub record TakesBytes (head : CaptureHead) (number place : ℕ) (header : List ℕ) (given : Record)
     (old new : Option (List ℕ)) : Type 0 where
   pub taken : List ℕ
@@ -40,7 +40,7 @@ pub record TakesBytes (head : CaptureHead) (number place : ℕ) (header : List �
   pub size : length taken ≡ length given.bytes
   pub goes : (more : List ℕ) → next_behind head number place header (taken ++ more) ≡ Stands given more
 
--- fewer than the captured bytes behind this header were taken, and they show the refusal
+-- fewer than the captured bytes after this header were taken, and they show the refusal
 pub record TakesFewer (head : CaptureHead) (number place : ℕ) (header : List ℕ) (why : CaptureFault)
     (old new : Option (List ℕ)) : Type 0 where
   pub taken : List ℕ

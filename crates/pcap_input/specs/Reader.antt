@@ -1,10 +1,10 @@
 -- What a reader of a capture stands for, and how its answers follow from the bytes of the file.
 --
--- A reader has a head, has given some records, and stands at the place behind them; or it has
+-- A reader has a head, has given some records, and is at the place after them; or it has
 -- refused, and answers that refusal from then on. Its answers are those of the libpcap savefile
 -- format (`Savefile`), but that memory may lack and the host may fail.
--- To try it on: a reader that has given no record stands at 24; where a record of 5 bytes stands
--- there, it gives that record, has taken 21 bytes and stands at 45.
+-- To try it on: a reader that has given no record is at 24; where a record of 5 bytes is
+-- there, it gives that record, has taken 21 bytes and is at 45.
 use Rattle.std.specs.Prelude.{◌≡◌, ℕ, ◌+◌, ◌≤◌, List, ◌++◌, length, Option, Some, None, Result, Ok, Err, ⊤}
 use Rattle.std.specs.FinMap.{get}
 use Rattle.edge_io.specs.Told.{before}
@@ -16,14 +16,14 @@ use Rattle.pcap_input.specs.declared.capture.CaptureFault.TheVariants as fault
 use Rattle.pcap_input.specs.Cut.{Ending, Clean, Refused}
 use Rattle.pcap_input.specs.Savefile.{file_header, record_header, head_of, Next, Ends, Stands, next_of, place_behind}
 
--- a reader: its head, how many records it has given, where it stands, and what it has refused
+-- a reader: its head, how many records it has given, where it is, and what it has refused
 pub record Reading : Type 0 where
   pub head : CaptureHead
   pub number : ℕ
   pub at : ℕ
   pub refused : Option CaptureFault
 
--- a reader that has given so many records and stands at this place
+-- a reader that has given `number` records and is at this place
 abbrev pub reader_at : CaptureHead → ℕ → ℕ → Reading
 reader_at head number place = record { head = head; number = number; at = place; refused = None }
 
@@ -31,7 +31,7 @@ reader_at head number place = record { head = head; number = number; at = place;
 abbrev pub new_reader : CaptureHead → Reading
 new_reader head = reader_at head 0 file_header
 
--- the reader behind a record, or where it was
+-- the reader after a record, or where it was
 abbrev pub after_next : Reading → Option Record → Reading
 after_next reader None = reader
 after_next reader (Some given) =
@@ -77,7 +77,7 @@ IsOfHead fault.TooMany = ⊥
 IsOfHead fault.Failed = ⊤
 IsOfHead fault.NoMemory = ⊥
 
--- the answer is what stands next, unless memory lacked or the host failed
+-- the answer is what comes next, unless memory lacked or the host failed
 abbrev pub Gives : Result (Option Record) CaptureFault → Next → Type 0
 Gives (Ok None) next = next ≡ Ends Clean
 Gives (Ok (Some given)) next = (rest : List ℕ) × (next ≡ Stands given rest)
@@ -85,7 +85,7 @@ Gives (Err fault.NoMemory) next = ⊤
 Gives (Err fault.Failed) next = ⊤
 Gives (Err why) next = next ≡ Ends (Refused why)
 
--- exactly the bytes of the record were taken: whatever follows them, that record stands first
+-- exactly the bytes of the record were taken: whatever follows them, that record comes first
 pub record TakesRecord (reader : Reading) (given : Record) (old new : Option (List ℕ)) : Type 0 where
   pub taken : List ℕ
   pub took : old ≡ before taken new

@@ -1,7 +1,7 @@
 -- What reading several records, one after another, knows of the bytes that were left.
 --
 -- Some bytes were taken off the front, some records were given, and whatever follows those bytes, the
--- capture (`Savefile`) goes on as it does for the reader behind these records. Where reading ended, the
+-- capture (`Savefile`) goes on as it does for the reader after these records. Where reading ended, the
 -- records that are whole within the bytes taken are those that were given.
 -- To try it on: where a record of 5 bytes and then 3 bytes of a header are left, reading gives that
 -- record and then Truncated; 24 bytes were taken, and the one record is all that is whole within them.

@@ -3,11 +3,11 @@
 -- The libpcap savefile format, version 2.4, as the manual page pcap-savefile(5) states it. A file
 -- header of 24 bytes (magic number at 0, major version at 4, link type at 20) is followed by
 -- records, each a header of 16 bytes (seconds at 0, their fraction at 4, captured length at 8,
--- original length at 12) and so many captured bytes. All numbers stand in the byte order that the
+-- original length at 12) and the captured bytes. All numbers are in the byte order that the
 -- magic number tells. The limits of 262144 captured bytes and 4294967295 records are this project's.
 -- To try it on: the 24 bytes d4c3b2a1 0200 0400 00000000 00000000 ffff0000 01000000 alone have the
 -- head Ethernet, least significant byte first, microseconds, no record and a clean ending; with one
--- byte behind them the ending is Truncated at 24; without the last of them the head is refused as
+-- byte after them the ending is Truncated at 24; without the last of them the head is refused as
 -- Truncated at 0.
 use Rattle.std.specs.Prelude.{◌≤◌, ℕ, zero, suc, ◌+◌, ◌*◌, ◌%◌, ◌==◌, nat_lt, nat_le, Bool, true, false, if◌then◌else◌, List, length, take, drop, Option, Result, Ok, Err}
 use Rattle.byteorder.specs.Endian.{big_from, little_from}
@@ -34,7 +34,7 @@ longest = 262144
 abbrev pub most_records : ℕ
 most_records = 4294967295
 
--- a place that so many records can reach behind the file header
+-- a place that `number` records can reach after the file header
 abbrev pub IsReachable : ℕ → ℕ → Type 0
 IsReachable number place = place ≤ file_header + number * (record_header + longest)
 
@@ -52,7 +52,7 @@ head_with swapped nanos link_type =
     if link_type == 113 then Ok (record { link = Cooked; swapped = swapped; nanos = nanos }) else
     Err (LinkType link_type)
 
--- the head of a file header behind its magic number: the major version is 2, and the low 16 bits of
+-- the head of a file header after its magic number: the major version is 2, and the low 16 bits of
 -- the last field are the link type
 unfoldable pub head_behind : Bool → Bool → List ℕ → Result CaptureHead CaptureFault
 head_behind swapped nanos bytes =
@@ -90,19 +90,19 @@ record_of head number header bytes = record {
   bytes = bytes;
 }
 
--- what stands at a place: the ending, or a record and the bytes behind it
+-- what is at a place: the ending, or a record and the bytes after it
 pub data Next : Type 0 where
   Ends : Ending CaptureFault → Next
   Stands : Record → List ℕ → Next
 
--- what stands where these bytes of a record header stand at `place`, before these bytes
+-- what comes where these bytes of a record header are at `place`, before these bytes
 unfoldable pub next_behind : CaptureHead → ℕ → ℕ → List ℕ → List ℕ → Next
 next_behind head number place header bytes =
     if nat_lt longest (captured_length head header) then Ends (Refused (TooLong place (captured_length head header))) else
     if nat_lt (length bytes) (captured_length head header) then Ends (Refused (Truncated place)) else
     Stands (record_of head number header (take (captured_length head header) bytes)) (drop (captured_length head header) bytes)
 
--- what stands behind `number` records, at `place`, where these bytes are left
+-- what comes after `number` records, at `place`, where these bytes are left
 unfoldable pub next_of : CaptureHead → ℕ → ℕ → List ℕ → Next
 next_of head number place rest =
     if length rest == 0 then Ends Clean else
@@ -110,11 +110,11 @@ next_of head number place rest =
     if nat_lt (length rest) record_header then Ends (Refused (Truncated place)) else
     next_behind head number place (take record_header rest) (drop record_header rest)
 
--- the place behind a record that begins at this place
+-- the place after a record that begins at this place
 abbrev pub place_behind : ℕ → Record → ℕ
 place_behind place record_here = place + record_header + length record_here.bytes
 
--- at most `most` records, one behind the other, and then the ending
+-- at most `most` records, one after the other, and then the ending
 unfoldable pub cut_up : ℕ → CaptureHead → ℕ → ℕ → List ℕ → Cut Record CaptureFault
 cut_up zero head number place rest = no_more Clean
 cut_up (suc most) head number place rest =
@@ -123,7 +123,7 @@ cut_up (suc most) head number place rest =
       | Stands first more ↦ with_first first (cut_up most head (number + 1) (place_behind place first) more)
     ]
 
--- the records and the ending of these bytes, which stand behind `number` records at `place`: there
+-- the records and the ending of these bytes, which come after `number` records at `place`: there
 -- are fewer records than bytes, so all of them
 unfoldable pub records_left : CaptureHead → ℕ → ℕ → List ℕ → Cut Record CaptureFault
 records_left head number place rest = cut_up (length rest + 1) head number place rest

@@ -8,7 +8,7 @@ use thiserror::Error;
 pub struct CaptureHead {
     /// The link layer that each record begins with.
     pub link: Link,
-    /// The file's numbers stand with their most significant byte first.
+    /// The file's numbers are written with their most significant byte first.
     pub swapped: bool,
     /// The fractions of a second are nanoseconds, not microseconds.
     pub nanos: bool,
@@ -17,9 +17,9 @@ pub struct CaptureHead {
 /// One packet of a capture.
 #[derive(Debug, Drop)]
 pub struct Record {
-    /// How many records stand before it in the capture.
+    /// How many records come before it in the capture.
     pub number: u32,
-    /// When it was captured: its seconds and their fraction.
+    /// When the packet was captured: its seconds and their fraction.
     pub moment: Moment,
     /// How many bytes the packet had on the wire, as its record says. They may be more than were captured.
     pub original: u32,
@@ -42,7 +42,7 @@ pub enum CaptureFault {
     /// The record that begins at this place says that more than 262144 bytes were captured.
     #[error("capture has a record of {len} bytes at byte {at}")]
     TooLong { at: u64, len: u32 },
-    /// The file goes on behind 4294967295 records.
+    /// The file goes on after 4294967295 records.
     #[error("capture has too many records")]
     TooMany,
     /// The host failed, or has no such file.

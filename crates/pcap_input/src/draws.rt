@@ -7,7 +7,7 @@ use std::alloc::{AllocError, Global};
 /// How many letters the payload of a segment has.
 const LETTERS: u32 = 64;
 
-/// What stands in front of a payload that is marked.
+/// What a payload that is marked begins with.
 const MARK: &[u8; 6] = b"attack";
 
 /// A generator of numbers: a linear congruential one modulo 2 ^ 31.

@@ -28,7 +28,7 @@ pub fn fill<H: Host>(host: &mut H, buf: &mut [u8]) -> Result<usize, FillStop>
     ensures quiet { OnOk result (H.faults host.new ≡ H.faults host.old) }
     ensures later { H.faults host.old ≤ H.faults host.new }
 
-    // The same by whatever may be seen of the host afterwards: what it tells, or files that give all
+    // What is taken, by whatever may be seen of the host afterwards: what it tells, or files that give all
     // that it answered.
     ensures seen_taken { (seen : Option Files) → MaySee (H.contents host.new) (H.agrees host.new) seen
         → IfOk result (λ count. left_by (H.left_of host.old) seen

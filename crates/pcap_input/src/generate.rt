@@ -34,13 +34,13 @@ pub fn make_capture(alloc: Global, seed: u32, count: u32) -> Result<Vec<u8>, NoM
 }
 
 /// A law for callers: a capture that is made is a savefile of Ethernet, of microseconds and with the least
-/// significant byte first; behind its file header stand as many records as were asked for, up to a clean ending.
+/// significant byte first; after its file header come as many records as were asked for, up to a clean ending.
 pub fn made_captures_are_whole()
     ensures head { (seed count : ℕ) → head_of (generated seed count) ≡ Ok made_head }
     ensures whole { (seed count : ℕ) → count ≤ most_records → IsWhole count (made_cut seed count) }
 {}
 
-/// The header of the record of a frame of `size` bytes at so many milliseconds.
+/// The header of the record of a frame of `size` bytes at `millis` milliseconds.
 #[tactic(auto, unfolding(crate::specs::Generated::record_fields))]
 fn record_fields(millis: u32, size: u32) -> [u8; RECORD_HEADER]
     ensures { result ≡ record_fields millis size }

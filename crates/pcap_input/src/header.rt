@@ -24,7 +24,7 @@ const MAJOR: u16 = 2;
 /// What a capture's magic number tells of its numbers.
 #[derive(Clone, Copy)]
 struct Order {
-    /// The most significant byte stands first.
+    /// The most significant byte comes first.
     swapped: bool,
     /// The fractions of a second are nanoseconds, not microseconds.
     nanos: bool,

@@ -3,8 +3,8 @@
 //! A capture is a file header and records, as the libpcap savefile format has them (`Savefile` in
 //! `specs/`). `CaptureReader` takes the bytes of a host's open capture piece by piece and gives
 //! exactly the head, the records and the ending that the whole text has by that definition. At
-//! each record it has taken that record's bytes and none behind them. The decoder of packets and
-//! the run over a capture stand on it.
+//! each record it has taken that record's bytes and none after them. The decoder of packets and
+//! the run over a capture build on it.
 #![tactic(auto)]
 
 mod capture;

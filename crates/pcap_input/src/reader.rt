@@ -20,7 +20,7 @@ use std::marker::Model;
 const LONGEST: u32 = 262_144;
 
 /// A reader of the host's open capture. Contracts see its head, how many records it has given,
-/// where it stands, and what it has refused.
+/// where it is, and what it has refused.
 #[derive(Debug, Drop)]
 pub struct CaptureReader {
     head: CaptureHead,
@@ -61,8 +61,8 @@ impl CaptureReader {
         ensures quiet { (IsErrOf result CaptureFault.Failed → ⊥) → H.faults host.new ≡ H.faults host.old }
         ensures later { H.faults host.old ≤ H.faults host.new }
 
-        // The same by whatever may be seen of the host afterwards: what it tells, or files that give all
-        // that it answered.
+        // What `open` gives and takes, by whatever may be seen of the host afterwards: what it tells, or files
+        // that give all that it answered.
         ensures seen_gives { (seen : Option Files) → MaySee (H.contents host.new) (H.agrees host.new) seen
             → (bytes : List ℕ) → Tells seen name.now bytes → Opens result (head_of bytes) }
         ensures seen_rest { (seen : Option Files) → MaySee (H.contents host.new) (H.agrees host.new) seen
@@ -113,7 +113,7 @@ impl CaptureReader {
         self.head
     }
 
-    /// A reader that has given `number` records and stands at the byte `at` of the capture. Takes
+    /// A reader that has given `number` records and is at the byte `at` of the capture. Takes
     /// no memory.
     pub fn resume(head: CaptureHead, number: u32, at: u64) -> CaptureReader
         requires behind_header { file_header ≤ at }
@@ -130,7 +130,7 @@ impl CaptureReader {
     }
 
     /// Takes back the bytes of a record that is done with: a later record is read into their memory.
-    /// The reader stands where it stood. Where memory is lacking to keep the bytes, they are freed.
+    /// The reader is where it was. Where memory is lacking to keep the bytes, they are freed.
     pub fn take_back(&mut self, alloc: Global, bytes: Text)
         ensures { self.new ≡ self.old }
     {
@@ -145,21 +145,21 @@ impl CaptureReader {
         alloc: Global,
         host: &mut H,
     ) -> Result<Option<Record>, CaptureFault>
-        // Where the bytes left are told, the answer is what stands next in them; where nothing is
+        // Where the bytes left are told, the answer is what comes next in them; where nothing is
         // open, it is the end.
         ensures gives { self.old.refused ≡ None → (rest : List ℕ) → H.left host.old ≡ Some rest
             → Gives result (next_of self.old.head self.old.number self.old.at rest) }
         ensures unopened { self.old.refused ≡ None → IsUnopened (H.contents host.old) (H.left host.old)
             → Gives result (Ends Clean) }
 
-        // What is taken: the bytes of the record that is given and none behind it. Before a refusal
+        // What is taken: the bytes of the record that is given and none after it. Before a refusal
         // no record is whole within what is taken.
         ensures takes { IfOk result (λ given. IfSome given (λ r. TakesRecord self.old r (H.left host.old) (H.left host.new))) }
         ensures ended { IfOk result (λ given. IfNone given (H.left host.new ≡ H.left host.old)) }
         ensures partial { self.old.refused ≡ None
             → IfErr result (λ why. TakesNone self.old why (H.left host.old) (H.left host.new)) }
 
-        // Where the reader stands afterwards.
+        // Where the reader is afterwards.
         ensures stands { IfOk result (λ given. self.new ≡ after_next self.old given) }
         ensures refused { IfErr result (λ why. self.new ≡ after_refusal self.old why) }
 
@@ -174,8 +174,8 @@ impl CaptureReader {
         ensures quiet { (IsErrOf result CaptureFault.Failed → ⊥) → H.faults host.new ≡ H.faults host.old }
         ensures later { H.faults host.old ≤ H.faults host.new }
 
-        // The same by whatever may be seen of the host afterwards: what it tells, or files that give all
-        // that it answered.
+        // What `next` gives and takes, by whatever may be seen of the host afterwards: what it tells, or files
+        // that give all that it answered.
         ensures seen_gives { (seen : Option Files) → MaySee (H.contents host.new) (H.agrees host.new) seen
             → self.old.refused ≡ None → (rest : List ℕ) → left_by (H.left_of host.old) seen ≡ Some rest
             → Gives result (next_of self.old.head self.old.number self.old.at rest) }
@@ -203,7 +203,7 @@ impl CaptureReader {
         alloc: Global,
         host: &mut H,
     ) -> Result<Option<Record>, CaptureFault>
-        // Where the bytes left are told, the answer is what stands next in them; where nothing is
+        // Where the bytes left are told, the answer is what comes next in them; where nothing is
         // open, it is the end.
         ensures gives { (seen : Option Files) → MaySee (H.contents host.new) (H.agrees host.new) seen
             → self.old.refused ≡ None → (rest : List ℕ) → left_by (H.left_of host.old) seen ≡ Some rest
@@ -212,7 +212,7 @@ impl CaptureReader {
             → self.old.refused ≡ None → IsUnopened seen (left_by (H.left_of host.old) seen)
             → Gives result (Ends Clean) }
 
-        // What is taken: the bytes of the record that is given and none behind it. Before a refusal
+        // What is taken: the bytes of the record that is given and none after it. Before a refusal
         // no record is whole within what is taken.
         ensures takes { (seen : Option Files) → MaySee (H.contents host.new) (H.agrees host.new) seen
             → IfOk result (λ given. IfSome given (λ r. TakesRecord self.old r
@@ -224,7 +224,7 @@ impl CaptureReader {
             → IfErr result (λ why. TakesNone self.old why
             (left_by (H.left_of host.old) seen) (left_by (H.left_of host.new) seen)) }
 
-        // Where the reader stands afterwards.
+        // Where the reader is afterwards.
         ensures stands { IfOk result (λ given. self.new ≡ after_next self.old given) }
         ensures refused { IfErr result (λ why. self.new ≡ after_refusal self.old why) }
 
@@ -280,7 +280,7 @@ fn opened_head<H: Host>(host: &mut H) -> Result<CaptureHead, CaptureFault>
     read_head(&header)
 }
 
-/// Reads the record that stands at `at` behind `number` records, into a block of any length.
+/// Reads the record that is at `at` after `number` records, into a block of any length.
 fn read_record<H: Host>(
     host: &mut H,
     head: CaptureHead,
@@ -322,7 +322,7 @@ fn read_record<H: Host>(
     Ok(Some(given))
 }
 
-/// Reads the captured bytes behind a record header that stands at `at`.
+/// Reads the captured bytes after a record header that is at `at`.
 fn read_behind<H: Host>(
     host: &mut H,
     head: CaptureHead,
@@ -359,7 +359,7 @@ fn read_behind<H: Host>(
     })
 }
 
-/// Reads so many captured bytes of the record that stands at `at`, into a block of any length.
+/// Reads `len` captured bytes of the record that is at `at`, into a block of any length.
 fn read_bytes<H: Host>(
     host: &mut H,
     at: u64,

@@ -16,7 +16,7 @@ impl Spares {
         Spares { blocks: None }
     }
 
-    /// The block that was kept last, with the bytes that stood in it, or an empty one. Takes no memory.
+    /// The block that was kept last, with the bytes that were in it, or an empty one. Takes no memory.
     pub fn pop(&mut self, alloc: Global) -> Vec<u8> {
         match &mut self.blocks {
             Some(blocks) => blocks.pop().unwrap_or(Vec::new(alloc)),

@@ -112,7 +112,7 @@ impl Session {
         }
     }
 
-    /// The session behind its turn.
+    /// The session after its turn.
     #[tactic(auto, unfolding(crate::specs::Generated::session_behind))]
     fn behind(self) -> Session
         ensures { result ≡ session_behind self.client self.server self.turn }

@@ -18,7 +18,7 @@ use Rattle.pcapng_input.proofs.Captures.Endings.{below_limit, ng_records-skips, 
 
 -- ---- a call of `open`
 
--- it gave a reader: some bytes are left, and the capture's records are those that they hold for it
+-- `open` gave a reader: some bytes are left, and the capture's records are those that they hold for it
 record IsBehind (bytes : List ℕ) (first : Reading) (left : Option (List ℕ)) : Type 0 where
   fresh : first.refused ≡ None
   rest : List ℕ
@@ -47,7 +47,7 @@ behind_open contents name bytes first left tells call =
     (λ (failed : IsErrOf (Ok first) fault.Failed × (left ≡ None)). let no : Ok first ≡ Err fault.Failed = failed.0 in cc)
     call.takes
 
--- it was refused
+-- `open` was refused
 refused_open : (contents : Option Files) (name bytes : List ℕ) (limit : Option ℕ) (why : NgFault) → IsOfBytes why
     → Opens (Err why) (opening bytes) → ng_records bytes limit ≡ Err why
 refused_open contents name bytes limit fault.NotPcapng shown opens = ng_records-refused bytes limit _ opens
@@ -61,7 +61,8 @@ refused_open contents name bytes limit fault.NoMemory shown opens = absurd shown
 
 -- ---- calls of `next`
 
--- they gave these records: some bytes are left, and behind these records stand those that they hold for the reader
+-- calls of `next` gave these records: some bytes are left, and after these records come those that they hold
+-- for the reader
 record GoesOn (first : Reading) (whole : List ℕ) (given : List NgRecord) (last : Reading) (left : Option (List ℕ)) : Type 0 where
   fresh : last.refused ≡ None
   rest : List ℕ
@@ -102,7 +103,7 @@ next_ends (Err fault.TooMany) next ending is answers = answers ∙ ap Ends (sym 
 next_ends (Err fault.Failed) next ending is answers = absurd is.0
 next_ends (Err fault.NoMemory) next ending is answers = absurd is.0
 
--- the limit was reached behind these records
+-- the limit was reached after these records
 reached : (first : Reading) (whole : List ℕ) (cut : Cut NgRecord NgFault) (last : Reading) (left : Option (List ℕ)) (limit : Option ℕ)
     → GoesOn first whole cut.records last left
     → limit ≡ Some (length cut.records) → cut.ending ≡ Clean → first_records limit (records_left first.walk whole) ≡ cut
@@ -126,7 +127,7 @@ ended first whole cut last left limit on below ends =
 
 -- ---- a capture that was opened and read
 
--- it was opened
+-- where a capture was opened, no record is read yet
 pub read-none : (contents : Option Files) (name : List ℕ) (reader : Reading) (left : Option (List ℕ))
     → IsOpenCall contents name (Ok reader) left
     → HasRead contents name [] reader left

@@ -51,7 +51,7 @@ held-reached contents name limit records reader left read reached bytes tells en
     reads_all contents name bytes (Some limit) (Ok (record { records = records; ending = ending })) tells
     (record { reader = reader; left = left; read = read; ended = inl (ap Some (sym reached), is) })
 
--- none was left
+-- no record was left
 pub held-ended : (contents : Option Files) (name : List ℕ) (limit : ℕ) (records : List NgRecord) (reader new : Reading) (left left_new : Option (List ℕ))
     → HasRead contents name records reader left → length records < limit → IsNextCall reader new (Ok None) left left_new
     → (bytes : List ℕ) → Tells contents name bytes → IsHeld (Ok (record { records = records; refused = None })) limit bytes

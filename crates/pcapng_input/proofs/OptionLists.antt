@@ -70,7 +70,7 @@ pub tells_none : (swapped : Bool) (so_far : Resolution) (rest options : List ℕ
     → option_size swapped rest ≤ length rest → found_in so_far (option_code swapped rest) (option_value swapped rest) ≡ None → resolution_told swapped options ≡ None
 tells_none swapped so_far rest options tells long is fits none = tells.same ∙ none_by swapped so_far rest tells.most tells.enough long is fits none
 
--- one more option
+-- after one more option, the options left and the resolution found tell what all options do
 more_by : (swapped : Bool) (so_far found : Resolution) (rest options : List ℕ) (most : ℕ) → resolution_told swapped options ≡ resolution_along most swapped so_far rest
     → length rest < most → 4 ≤ length rest → (option_code swapped rest ≡ 0 → ⊥) → option_size swapped rest ≤ length rest
     → found_in so_far (option_code swapped rest) (option_value swapped rest) ≡ Some found → Tells swapped found (drop (option_size swapped rest) rest) options
@@ -87,7 +87,7 @@ pub tells_more : (swapped : Bool) (so_far found : Resolution) (rest options : Li
     → option_size swapped rest ≤ length rest → found_in so_far (option_code swapped rest) (option_value swapped rest) ≡ Some found → Tells swapped found (drop (option_size swapped rest) rest) options
 tells_more swapped so_far found rest options tells long is fits some = more_by swapped so_far found rest options tells.most tells.same tells.enough long is fits some
 
--- the same by the numbers that the code reads: the option's code, its length, and that filled up
+-- what the options tell, by the numbers that the code reads: an option's code, its length, and that filled up
 pub record Reads (swapped : Bool) (rest : List ℕ) (code size full : ℕ) : Type 0 where
   pub code_is : code ≡ option_code swapped rest
   pub size_is : size ≡ option_length swapped rest

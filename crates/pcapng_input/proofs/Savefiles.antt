@@ -66,7 +66,7 @@ unfolding pcap_fields word
 pcap_fields-length true nanos packet = refl
 pcap_fields-length false nanos packet = refl
 
--- its four numbers
+-- the four numbers that the header of a packet's record is read as
 record FourRead (swapped : Bool) (fields : List ℕ) (a b c d : ℕ) : Type 0 where
   first : number_at swapped 0 4 fields ≡ a
   second : number_at swapped 4 4 fields ≡ b

@@ -126,7 +126,7 @@ unfolding packet_front word
 packet_front-length true packet = refl
 packet_front-length false packet = refl
 
--- its five numbers
+-- the five numbers that the front of a packet's block is read as
 record FiveRead (swapped : Bool) (front : List ℕ) (a b c d e : ℕ) : Type 0 where
   first : number_at swapped 0 4 front ≡ a
   second : number_at swapped 4 4 front ≡ b
@@ -383,7 +383,7 @@ opening-on : (bytes : List ℕ) (swapped : Bool) → (nat_le 4 (length bytes) &&
 unfolding opening
 opening-on bytes swapped one two three = rw (opening, one, two, three) refl
 
--- so the first block is skipped
+-- a section header as it is written opens a file: the first block is skipped
 section-opens : (swapped : Bool) (more : List ℕ) → opening (block_text swapped section_type (section_body swapped) ++ more) ≡ Skips (walk_in swapped [] 0 (record { nanos = 0 }) 28) more
 unfolding opening
 section-opens swapped more =

@@ -1,12 +1,12 @@
 -- What a pcapng capture holds: its records and how it ends.
 --
--- The pcapng format (draft-ietf-opsawg-pcapng) as this project reads it. Blocks stand behind one another,
+-- The pcapng format (draft-ietf-opsawg-pcapng) as this project reads it. Blocks follow one another,
 -- each its type and its total length in four bytes each, its body, and the total length again (section
 -- 3.1). A section header (4.1) tells the byte order of its section and begins a new list of interfaces; an
 -- interface description (4.2) adds one to it; an enhanced packet (4.3) and a simple packet (4.4) are
 -- records. All other blocks are skipped, and so are all options but an interface's resolution (`Options`);
--- if_tsoffset is one of them. Places of fields are counted from behind the type and the total length,
--- those of a section header from behind its byte-order magic too: the format's figures count 8, or 12, more.
+-- if_tsoffset is one of them. Places of fields are counted from after the type and the total length,
+-- those of a section header from after its byte-order magic too: the format's figures count 8, or 12, more.
 -- The order in which refusals are found, and the limits (262144 captured bytes, 4096 interfaces, 1048576
 -- bytes of a section header or an interface, 4294967295 records, 2 ^ 62 bytes), are this project's own.
 -- To try it on: the section header 0a0d0d0a 1c000000 4d3c2b1a 01000000 ffffffff ffffffff 1c000000 alone
@@ -49,7 +49,7 @@ abbrev pub section_type : ℕ
 section_type = 0x0a0d_0d0a
 
 -- what one block gives: the ending; or that it is skipped, or a record, and then how far the blocks were
--- read, and the bytes behind it
+-- read, and the bytes after it
 pub data Step : Type 0 where
   Stops : Ending NgFault → Step
   Skips : Walk → List ℕ → Step
@@ -81,7 +81,7 @@ least_total kind.Simple = 16
 least_total kind.Enhanced = 32
 least_total kind.Other = 12
 
--- how many bytes stand before what differs in length
+-- how many bytes are before what differs in length
 abbrev pub fixed_front : Kind → ℕ
 fixed_front kind.Section = 24
 fixed_front kind.Interface = 16
@@ -89,8 +89,8 @@ fixed_front kind.Simple = 12
 fixed_front kind.Enhanced = 28
 fixed_front kind.Other = 8
 
--- how many of them stand behind what a block is known by: its type and total length, and of a section
--- header the byte-order magic
+-- how many bytes of the fixed front are after what a block is known by: its type and total length, and of a
+-- section header the byte-order magic
 abbrev pub front_length : Kind → ℕ
 front_length kind.Section = 12
 front_length kind.Interface = 8
@@ -112,18 +112,18 @@ is_sized block =
     (block.total % 4 == 0) && nat_le (least_total block.kind) block.total
     && (nat_le block.total most_bytes || not (is_short block.kind))
 
--- how many bytes stand between the fixed front and the last four
+-- how many bytes are between the fixed front and the last four
 abbrev pub inner_length : Block → ℕ
 inner_length block = block.total - fixed_front block.kind - 4
 
--- the byte order that a byte-order magic tells: whether the most significant byte stands first
+-- the byte order that a byte-order magic tells: whether the most significant byte comes first
 unfoldable pub order_of : List ℕ → Option Bool
 order_of magic =
     if number_at false 0 4 magic == 0x1a2b_3c4d then Some false else
     if number_at true 0 4 magic == 0x1a2b_3c4d then Some true else
     None
 
--- nothing was read
+-- the walk before anything was read
 abbrev pub first_walk : Walk
 first_walk = record {
   section = record { swapped = false; interfaces = [] };
@@ -136,18 +136,18 @@ first_walk = record {
 abbrev pub new_section : Walk → Bool → Walk
 new_section walk swapped = record walk { section = record { swapped = swapped; interfaces = [] } }
 
--- behind a block
+-- the walk after a block
 abbrev pub behind_block : Walk → Block → Walk
 behind_block walk block = record walk { at = walk.at + block.total }
 
--- behind an interface description
+-- the walk after an interface description
 abbrev pub behind_interface : Walk → Block → Interface → Walk
 behind_interface walk block interface = record walk {
   section = record { swapped = walk.section.swapped; interfaces = walk.section.interfaces ++ interface ∷ [] };
   at = walk.at + block.total;
 }
 
--- behind a packet
+-- the walk after a packet
 abbrev pub behind_packet : Walk → Block → Packet → Walk
 behind_packet walk block packet = record walk { number = walk.number + 1; last = packet.moment; at = walk.at + block.total }
 
@@ -237,7 +237,7 @@ record_of walk packet bytes = record {
   item = record { number = walk.number; moment = packet.moment; original = packet.original; bytes = bytes };
 }
 
--- what a whole block gives: these bytes stand between its fixed front and its last four, and these behind
+-- what a whole block gives: these bytes are between its fixed front and its last four, and these come after
 unfoldable pub given_by : Walk → Block → Content → List ℕ → List ℕ → Step
 given_by walk block content.Skipped inner more = Skips (behind_block walk block) more
 given_by walk block (content.Interface link snaplen) inner more =
@@ -249,7 +249,7 @@ given_by walk block (content.Interface link snaplen) inner more =
 given_by walk block (content.Packet packet) inner more =
     Gives (record_of walk packet (take packet.captured inner)) (behind_packet walk block packet) more
 
--- what stands behind a fixed front that tells this: the block is whole, and its last four bytes are its
+-- what comes after a fixed front that tells this: the block is whole, and its last four bytes are its
 -- total length again
 unfoldable pub closing : Walk → Block → Content → List ℕ → Step
 closing walk block told behind =
@@ -258,7 +258,7 @@ closing walk block told behind =
     then given_by walk block told (take (inner_length block) behind) (drop (inner_length block + 4) behind)
     else refused (bad_block walk)
 
--- what stands where a block has this fixed front, before these bytes
+-- what comes where a block has this fixed front, before these bytes
 unfoldable pub fronted : Walk → Block → List ℕ → List ℕ → Step
 fronted walk block front behind =
     elim (content_of walk block front) [
@@ -266,7 +266,7 @@ fronted walk block front behind =
       | Ok told ↦ closing walk block told behind
     ]
 
--- what stands where a block is known, before its front
+-- what comes where a block is known, before its front
 unfoldable pub known : Walk → Block → List ℕ → Step
 known walk block body =
     if is_sized block then
@@ -281,7 +281,7 @@ section_block swapped first = record { kind = kind.Section; total = number_at sw
 abbrev pub other_block : Bool → List ℕ → Block
 other_block swapped first = record { kind = kind_of (number_at swapped 0 4 first); total = number_at swapped 4 4 first }
 
--- what stands where a section header begins with these eight bytes: its magic tells the order of its
+-- what comes where a section header begins with these eight bytes: its magic tells the order of its
 -- numbers, its own total length among them
 unfoldable pub section_begun : Walk → List ℕ → List ℕ → Step
 section_begun walk first body =
@@ -291,7 +291,7 @@ section_begun walk first body =
       | Some swapped ↦ known (new_section walk swapped) (section_block swapped first) (drop 4 body)
     ]
 
--- what stands where a block begins with these eight bytes
+-- what comes where a block begins with these eight bytes
 unfoldable pub begun : Walk → List ℕ → List ℕ → Step
 begun walk first body =
     if number_at false 0 4 first == section_type
@@ -302,7 +302,7 @@ begun walk first body =
 abbrev pub is_full : Walk → Bool
 is_full walk = nat_le most_records walk.number || nat_le last_place walk.at
 
--- what the block that stands next gives
+-- what the block that comes next gives
 unfoldable pub step_of : Walk → List ℕ → Step
 step_of walk rest =
     if length rest == 0 then Stops Clean else
@@ -321,12 +321,12 @@ opening bytes =
     ])
     else refused fault.NotPcapng
 
--- what stands next: the ending, or a record, how far the blocks were read, and the bytes behind its block
+-- what comes next: the ending, or a record, how far the blocks were read, and the bytes after its block
 pub data Next : Type 0 where
   Ends : Ending NgFault → Next
   Stands : NgRecord → Walk → List ℕ → Next
 
--- what stands next behind at most `most` skipped blocks
+-- what comes next after at most `most` skipped blocks
 unfoldable pub next_along : ℕ → Walk → List ℕ → Next
 next_along zero walk rest = Ends Clean
 next_along (suc most) walk rest =
@@ -336,11 +336,11 @@ next_along (suc most) walk rest =
       | Gives given behind more ↦ Stands given behind more
     ]
 
--- what stands next: fewer blocks are skipped than bytes are left
+-- what comes next: fewer blocks are skipped than bytes are left
 unfoldable pub next_of : Walk → List ℕ → Next
 next_of walk rest = next_along (length rest + 1) walk rest
 
--- at most `most` records, one behind the other, and then the ending
+-- at most `most` records, one after the other, and then the ending
 unfoldable pub cut_up : ℕ → Walk → List ℕ → Cut NgRecord NgFault
 cut_up zero walk rest = no_more Clean
 cut_up (suc most) walk rest =

@@ -24,7 +24,7 @@ pub record IsOpenCall (contents : Option Files) (name : List ℕ) (answer : Resu
   pub gives : (bytes : List ℕ) → Tells contents name bytes → Opens answer (opening bytes)
   pub takes : TakesHead contents name answer left ⊎ (IsErrOf answer fault.Failed × (left ≡ None))
 
--- a call of `next`: the reader before and behind it, its answer, and what was left of the capture and is left
+-- a call of `next`: the reader before and after it, its answer, and what was left of the capture and is left
 pub record IsNextCall (old new : Reading) (answer : Result (Option NgRecord) NgFault)
     (left_old left_new : Option (List ℕ)) : Type 0 where
   pub gives : old.refused ≡ None → (rest : List ℕ) → left_old ≡ Some rest → Answers answer (next_of old.walk rest)
@@ -44,16 +44,16 @@ IsEnding (Err why) ending = IsOfBytes why × (ending ≡ Refused why)
 
 -- ---- calls one after another
 
--- Calls of `next` gave these records: the reader and what was left before the first of them, and behind the last.
+-- Calls of `next` gave these records: the reader and what was left before the first of them, and after the last.
 pub data HasGiven (first : Reading) (left_first : Option (List ℕ)) : List NgRecord → Reading → Option (List ℕ) → Type 0 where
   -- there was no call,
   none : HasGiven first left_first [] first left_first
-  -- or behind the others one that gave a record
+  -- or after the others one that gave a record
   one_more : {given : List NgRecord} {old new : Reading} {left_old left_new : Option (List ℕ)} {last : NgRecord}
       → HasGiven first left_first given old left_old → IsNextCall old new (Ok (Some last)) left_old left_new
       → HasGiven first left_first (given ++ last ∷ []) new left_new
 
--- A capture was opened, and calls of `next` gave these records: where the reader and what is left stand then.
+-- A capture was opened, and calls of `next` gave these records: where the reader and what is left are then.
 pub record HasRead (contents : Option Files) (name : List ℕ) (given : List NgRecord) (reader : Reading)
     (left : Option (List ℕ)) : Type 0 where
   pub first : Reading
@@ -63,7 +63,7 @@ pub record HasRead (contents : Option Files) (name : List ℕ) (given : List NgR
 
 -- ---- the end
 
--- one more record may be asked for behind so many, where there is a limit
+-- one more record may be asked for after `count` records, where there is a limit
 abbrev pub IsBelow : Option ℕ → ℕ → Type 0
 IsBelow None count = ⊤
 IsBelow (Some limit) count = count < limit

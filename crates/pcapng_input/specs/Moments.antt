@@ -1,4 +1,4 @@
--- How long an interface's ticks are, and the moment of so many of them.
+-- How long an interface's ticks are, and the moment of a number of them.
 --
 -- The option if_tsresol of the pcapng format (draft-ietf-opsawg-pcapng, section 4.2): one byte. Where its
 -- top bit is 0, the rest is a power of ten, and where it is 1, a power of two; a tick is one over that
@@ -16,11 +16,11 @@ abbrev pub ticks_a_second : Resolution → ℕ
 ticks_a_second (TenToMinus digits) = 10 ^ digits
 ticks_a_second (TwoToMinus bits) = 2 ^ bits
 
--- the moment of so many nanoseconds, where they fit 64 bits (own)
+-- the moment of `nanos` nanoseconds, where they fit 64 bits (own)
 abbrev pub moment_within : ℕ → Option Moment
 moment_within nanos = if nat_lt nanos (2 ^ 64) then Some (record { nanos = nanos }) else None
 
--- the moment of so many ticks: their nanoseconds, rounded down
+-- the moment of `ticks` ticks: their nanoseconds, rounded down
 unfoldable pub moment_of : Resolution → ℕ → Option Moment
 moment_of resolution ticks = moment_within (ticks * 1000000000 / ticks_a_second resolution)
 

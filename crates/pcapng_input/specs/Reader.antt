@@ -2,8 +2,8 @@
 --
 -- A reader has walked over some blocks; or it has refused, and answers that refusal from then on. Its
 -- answers are those of `Blocks`, but that memory may lack and the host may fail.
--- To try it on: a reader of a file with one section header, of 28 bytes, stands at 28 and has no interface;
--- where 28 such bytes follow and no more, it answers that no record is left, and stands at 56.
+-- To try it on: a reader of a file with one section header, of 28 bytes, is at 28 and has no interface;
+-- where 28 such bytes follow and no more, it answers that no record is left, and is at 56.
 use Rattle.std.specs.Prelude.{◌≡◌, ℕ, List, ◌++◌, Option, Some, None, Result, Ok, Err, ⊤}
 use Rattle.edge_io.specs.Told.{before}
 use Rattle.edge_io.specs.Files.{Files, IsOpened}
@@ -67,7 +67,7 @@ IsHeadAnswer (Ok read.Skipped) = ⊤
 IsHeadAnswer (Ok (read.Record given)) = ⊥
 IsHeadAnswer (Err why) = IsOfHead why
 
--- the answer is what stands next, unless memory lacked or the host failed
+-- the answer is what comes next, unless memory lacked or the host failed
 abbrev pub Answers : Result (Option NgRecord) NgFault → Next → Type 0
 Answers (Ok None) next = next ≡ Ends Clean
 Answers (Ok (Some given)) next = (walk : Walk) × ((rest : List ℕ) × (next ≡ Stands given walk rest))
@@ -76,7 +76,7 @@ Answers (Err fault.Failed) next = ⊤
 Answers (Err why) next = next ≡ Ends (Refused why)
 
 -- exactly the bytes up to the end of the record's block were taken: whatever follows them, that record
--- stands first, and behind it the reader goes on with what follows
+-- comes first, and after it the reader goes on with what follows
 pub record TakesRecord (old new : Reading) (given : NgRecord) (left_old left_new : Option (List ℕ)) : Type 0 where
   pub taken : List ℕ
   pub took : left_old ≡ before taken left_new
@@ -102,7 +102,7 @@ pub record TakesNone (reader : Reading) (why : NgFault) (left_old left_new : Opt
   pub took : left_old ≡ before taken left_new
   pub shows : ShowsRefusal why (next_of reader.walk taken)
 
--- what a call on a walk says of what stands next by the bytes that it took, and where the walk then stands
+-- what a call on a walk says of what comes next by the bytes that it took, and where the walk then is
 abbrev pub GoesBy : Walk → Walk → Result (Option NgRecord) NgFault → List ℕ → Option (List ℕ) → Type 0
 GoesBy old new (Ok None) taken left =
     ((more : List ℕ) → next_of old (taken ++ more) ≡ next_of new more)

@@ -1,8 +1,8 @@
 -- What the inner steps of the reader promise: a piece of a block, its last four bytes, and a whole block.
 --
--- A stage is what stands next (`Blocks`), as a function of the bytes that are not taken yet. A step takes
+-- A stage is what comes next (`Blocks`), as a function of the bytes that are not taken yet. A step takes
 -- some of them and answers; what it says of the stage it says by the bytes that it took.
--- To try it on: where `known walk block` says what stands behind a block's first eight bytes, and a step
+-- To try it on: where `known walk block` says what comes after a block's first eight bytes, and a step
 -- took the block's other bytes and answered that it is skipped, then whatever follows them, that stage is
 -- `Skips`.
 use Rattle.std.specs.Prelude.{◌≡◌, ℕ, ◌<◌, ◌≤◌, ◌==◌, Bool, List, [], ◌++◌, length, Option, Some, Result, Ok, Err, ⊤}
@@ -54,7 +54,7 @@ pub record TakesLast (swapped : Bool) (total len : ℕ) (same : Bool) (old new :
   pub four : length last ≡ 4
   pub tells : (number_at swapped 0 4 last == total) ≡ same
 
--- no record stands in these bytes: they end a block before one is whole, or end with a block
+-- no record is in these bytes: they end a block before one is whole, or end with a block
 abbrev pub HoldsNone : Step → Type 0
 HoldsNone (Stops ending) = ⊤
 HoldsNone (Skips behind more) = more ≡ []
@@ -65,7 +65,7 @@ pub record EndsBy (stage : List ℕ → Step) (step : Step) (taken : List ℕ) (
   pub shown : stage taken ≡ step
   pub told : (rest : List ℕ) → new ≡ Some rest → stage (taken ++ rest) ≡ step
 
--- what an answer, and where the walk then stands, say of a stage by the bytes taken
+-- what an answer, and where the walk then is, say of a stage by the bytes taken
 abbrev pub ShowsBy : (List ℕ → Step) → Walk → Result BlockRead NgFault → List ℕ → Option (List ℕ) → Type 0
 ShowsBy stage walk (Ok read.End) taken new =
     EndsBy stage (Stops Clean) taken new × ((more : List ℕ) → stage (taken ++ more) ≡ step_of walk more)
@@ -82,7 +82,7 @@ pub record Shows (stage : List ℕ → Step) (walk : Walk) (answer : Result Bloc
   pub took : old ≡ before taken new
   pub shows : ShowsBy stage walk answer taken new
 
--- a packet's captured bytes stand within its block, and are no more than a record may have
+-- a packet's captured bytes are within its block, and are no more than a record may have
 abbrev pub FitsIn : Block → Content → Type 0
 FitsIn block content.Skipped = ⊤
 FitsIn block (content.Interface link snaplen) = ⊤

@@ -39,7 +39,7 @@ pub record IsWritable (nanos : Bool) (packet : Caught) : Type 0 where
   pub length_on_wire : packet.original < 2 ^ 32
   pub short : length packet.bytes ≤ pcap.longest
 
--- a number of so many bytes, the most significant first or last
+-- a number of `size` bytes, the most significant first or last
 unfoldable pub word : Bool → ℕ → ℕ → List ℕ
 word swapped size number = if swapped then big_bytes size number else little_bytes size number
 
@@ -94,7 +94,7 @@ ng_text swapped nanos link packets =
     ++ (block_text swapped 1 (interface_body swapped nanos link)
     ++ flat_map (λ packet. block_text swapped 6 (packet_body swapped packet)) packets)
 
--- ---- what they hold
+-- ---- what the two files hold
 
 -- a packet as a record of this number, and the records of these packets, numbered from here on
 abbrev pub held_as : ℕ → Bool → Caught → Record

@@ -1,7 +1,7 @@
 -- What was read of a whole pcapng capture, and whether it is what the capture's bytes hold.
 --
 -- To try it on: of a section header and one byte more, no record was read, and the refusal Truncated at 28 came
--- behind none; so it is under every limit but 0, under which no refusal came.
+-- after none; so it is under every limit but 0, under which no refusal came.
 use Rattle.std.specs.Prelude.{◌≡◌, ℕ, List, Option, Some, None, Result, Ok, Err}
 use Rattle.pcapng_input.specs.declared.capture.NgFault.{NgFault}
 use Rattle.pcapng_input.specs.declared.capture.NgFault.TheVariants as fault
@@ -10,7 +10,7 @@ use Rattle.pcapng_input.specs.Blocks.{ng_records}
 use Rattle.pcapng_input.specs.Calls.{IsOfBytes}
 use Rattle.pcapng_input.specs.declared.whole.Found.{Found}
 
--- the refusal behind the records is this ending
+-- the refusal after the records is this ending
 abbrev pub IsEndingOf : Option NgFault → Ending NgFault → Type 0
 IsEndingOf None ending = ending ≡ Clean
 IsEndingOf (Some why) ending = IsOfBytes why × (ending ≡ Refused why)

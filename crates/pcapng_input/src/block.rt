@@ -54,7 +54,7 @@ impl Kind {
         }
     }
 
-    /// The bytes that stand before what differs in length.
+    /// The bytes that are before what differs in length.
     fn fixed_front(self) -> u32
         ensures { result ≡ fixed_front self }
     {
@@ -67,8 +67,8 @@ impl Kind {
         }
     }
 
-    /// How many of them stand behind what a block is known by: its type and total length, and of a section
-    /// header the byte-order magic.
+    /// How many bytes of the fixed front are after what a block is known by: its type and total length, and of a
+    /// section header the byte-order magic.
     pub fn front_length(self) -> usize
         ensures { result ≡ front_length self }
     {
@@ -100,7 +100,7 @@ impl Block {
             && (self.total <= MOST_BYTES || !self.kind.is_short())
     }
 
-    /// How many bytes stand between the fixed front and the last four.
+    /// How many bytes are between the fixed front and the last four.
     #[tactic(auto, using(crate::proofs::Blocks::Sizes::sizes))]
     pub fn inner(self) -> u32
         requires { IsTrue (is_sized self) }

@@ -32,7 +32,7 @@ pub enum NgFault {
     /// More than 262144 bytes of the packet were captured.
     #[error("capture has a record of {len} bytes at byte {at}")]
     TooLong { at: u64, len: u32 },
-    /// The file goes on behind 4294967295 records, or behind 2 ^ 62 bytes.
+    /// The file goes on after 4294967295 records, or after 2 ^ 62 bytes.
     #[error("capture has too many records")]
     TooMany,
     /// The host failed, or has no such file.

@@ -16,7 +16,7 @@ pub struct Packet {
     pub moment: Moment,
     /// How many bytes the packet had.
     pub original: u32,
-    /// How many bytes of it stand in the block.
+    /// How many bytes of it are in the block.
     pub captured: u32,
 }
 

@@ -7,7 +7,7 @@ ghost use Rattle.pcapng_input.specs.Blocks.{ng_records};
 ghost use Rattle.pcapng_input.specs.Calls.{ReadsAll, ReadsFirst};
 ghost use Rattle.pcapng_input.specs.Twins.{AreTwins, Caught, IsPcapngOf, IsSavefileOf, IsWritable, ng_text, pcap_text};
 
-/// What `NgReader::open` and the calls of `NgReader::next` behind it give, one after another, is what the
+/// What `NgReader::open` and the calls of `NgReader::next` after it give, one after another, is what the
 /// capture's bytes hold (`ng_records`), for every limit of records, where the host tells those bytes. Where
 /// the host fails or memory lacks, the records given until then are the first of them.
 pub fn calls_give_the_records()

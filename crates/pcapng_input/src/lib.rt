@@ -1,10 +1,10 @@
 //! The reader of pcapng captures: the packets of a file, one by one.
 //!
-//! A pcapng file is blocks behind one another (draft-ietf-opsawg-pcapng; `Blocks` in `specs/` says
+//! A pcapng file is blocks one after another (draft-ietf-opsawg-pcapng; `Blocks` in `specs/` says
 //! which of them this project reads, and how). `NgReader` takes the bytes of a host's open capture
 //! piece by piece and gives exactly the records and the ending that the whole text has by that
 //! definition. At each record it has taken the bytes up to the end of that record's block, and none
-//! behind them. Bytes that nothing is read from are passed over and never held. A record is that of
+//! after them. Bytes that nothing is read from are passed over and never held. A record is that of
 //! `pcap_input`, beside the link of its own interface. `read_up_to` reads a whole capture by these calls.
 #![tactic(auto)]
 

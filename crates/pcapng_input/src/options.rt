@@ -14,7 +14,7 @@ const END: u16 = 0;
 /// The option if_tsresol.
 const RESOLUTION: u16 = 9;
 
-/// So many bytes, and those that fill up the last four.
+/// `size` bytes, and those that fill up the last four.
 fn padded(size: u16) -> usize
     ensures { result ≡ padded size }
 {
@@ -45,7 +45,7 @@ pub fn resolution_told(swapped: bool, options: &[u8]) -> Option<Resolution>
     Some(found)
 }
 
-/// The resolution behind an option of this code and value: what it tells, where it tells it, or that
+/// The resolution after an option of this code and value: what it tells, where it tells it, or that
 /// so far.
 fn found_in(so_far: Resolution, code: u16, value: &[u8]) -> Option<Resolution>
     ensures { result ≡ found_in so_far code value.now }

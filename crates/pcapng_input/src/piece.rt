@@ -33,7 +33,7 @@ pub fn read_piece<H: Host>(host: &mut H, at: u64, piece: &mut [u8]) -> Result<()
     Ok(())
 }
 
-/// Reads so many bytes of the block that begins at `at`, into a block of memory of any length.
+/// Reads `len` bytes of the block that begins at `at`, into a block of memory of any length.
 pub fn read_bytes<H: Host>(
     host: &mut H,
     at: u64,
@@ -59,7 +59,7 @@ pub fn read_bytes<H: Host>(
     Ok(bytes)
 }
 
-/// Passes over so many bytes of the block that begins at `at`, piece by piece, and keeps none.
+/// Passes over `count` bytes of the block that begins at `at`, piece by piece, and keeps none.
 pub fn skip<H: Host>(host: &mut H, at: u64, count: u32) -> Result<(), NgFault>
     ensures whole { (seen : Option Files) → MaySee (H.contents host.new) (H.agrees host.new) seen
         → OnOk result (TakesBytes count (left_by (H.left_of host.old) seen) (left_by (H.left_of host.new) seen)) }

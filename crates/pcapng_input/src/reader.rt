@@ -47,7 +47,7 @@ impl NgReader {
         // Where contents are told, the answer is what the file's first block gives.
         ensures gives { (bytes : List ℕ) → Tells (H.contents host.old) name.now bytes → Opens result (opening bytes) }
 
-        // What is taken: the first block and nothing behind it. Before a refusal it isn't whole within
+        // What is taken: the first block and nothing after it. Before a refusal it isn't whole within
         // what is taken; where the opening itself failed, nothing is open.
         ensures takes { TakesHead (H.contents host.old) name.now result (H.left host.new)
             ⊎ (IsErrOf result NgFault.Failed × (H.left host.new ≡ None)) }
@@ -61,8 +61,8 @@ impl NgReader {
         ensures quiet { (IsErrOf result NgFault.Failed → ⊥) → H.faults host.new ≡ H.faults host.old }
         ensures later { H.faults host.old ≤ H.faults host.new }
 
-        // The same by whatever may be seen of the host afterwards: what it tells, or files that give all
-        // that it answered.
+        // What `open` gives and takes, by whatever may be seen of the host afterwards: what it tells, or files
+        // that give all that it answered.
         ensures seen_gives { (seen : Option Files) → MaySee (H.contents host.new) (H.agrees host.new) seen
             → (bytes : List ℕ) → Tells seen name.now bytes → Opens result (opening bytes) }
         ensures seen_takes { (seen : Option Files) → MaySee (H.contents host.new) (H.agrees host.new) seen
@@ -80,7 +80,7 @@ impl NgReader {
         ensures gives { (seen : Option Files) → MaySee (H.contents host.new) (H.agrees host.new) seen
             → (bytes : List ℕ) → Tells seen name.now bytes → Opens result (opening bytes) }
 
-        // What is taken: the first block and nothing behind it. Before a refusal it isn't whole within
+        // What is taken: the first block and nothing after it. Before a refusal it isn't whole within
         // what is taken; where the opening itself failed, nothing is open.
         ensures takes { (seen : Option Files) → MaySee (H.contents host.new) (H.agrees host.new) seen
             → TakesHead seen name.now result (left_by (H.left_of host.new) seen)
@@ -109,7 +109,7 @@ impl NgReader {
     }
 
     /// Takes back the bytes of a record that is done with: a later record is read into their memory.
-    /// The reader stands where it stood. Where memory is lacking to keep the bytes, they are freed.
+    /// The reader is where it was. Where memory is lacking to keep the bytes, they are freed.
     pub fn take_back(&mut self, alloc: Global, bytes: Text)
         ensures { self.new ≡ self.old }
     {
@@ -124,14 +124,14 @@ impl NgReader {
         alloc: Global,
         host: &mut H,
     ) -> Result<Option<NgRecord>, NgFault>
-        // Where the bytes left are told, the answer is what stands next in them; where nothing is
+        // Where the bytes left are told, the answer is what comes next in them; where nothing is
         // open, it is the end.
         ensures gives { self.old.refused ≡ None → (rest : List ℕ) → H.left host.old ≡ Some rest
             → Answers result (next_of self.old.walk rest) }
         ensures unopened { self.old.refused ≡ None → IsUnopened (H.contents host.old) (H.left host.old)
             → Answers result (Ends Clean) }
 
-        // What is taken: the bytes up to the end of the record's block and none behind them, or the blocks
+        // What is taken: the bytes up to the end of the record's block and none after them, or the blocks
         // that no record follows. Before a refusal no record is whole within what is taken.
         ensures takes { IfOk result (λ given. IfSome given
             (λ r. TakesRecord self.old self.new r (H.left host.old) (H.left host.new))) }
@@ -151,8 +151,8 @@ impl NgReader {
         ensures quiet { (IsErrOf result NgFault.Failed → ⊥) → H.faults host.new ≡ H.faults host.old }
         ensures later { H.faults host.old ≤ H.faults host.new }
 
-        // The same by whatever may be seen of the host afterwards: what it tells, or files that give all
-        // that it answered.
+        // What `next` gives and takes, by whatever may be seen of the host afterwards: what it tells, or files
+        // that give all that it answered.
         ensures seen_gives { (seen : Option Files) → MaySee (H.contents host.new) (H.agrees host.new) seen
             → self.old.refused ≡ None → (rest : List ℕ) → left_by (H.left_of host.old) seen ≡ Some rest
             → Answers result (next_of self.old.walk rest) }
@@ -181,7 +181,7 @@ impl NgReader {
         alloc: Global,
         host: &mut H,
     ) -> Result<Option<NgRecord>, NgFault>
-        // Where the bytes left are told, the answer is what stands next in them; where nothing is
+        // Where the bytes left are told, the answer is what comes next in them; where nothing is
         // open, it is the end.
         ensures gives { (seen : Option Files) → MaySee (H.contents host.new) (H.agrees host.new) seen
             → self.old.refused ≡ None → (rest : List ℕ) → left_by (H.left_of host.old) seen ≡ Some rest
@@ -190,7 +190,7 @@ impl NgReader {
             → self.old.refused ≡ None → IsUnopened seen (left_by (H.left_of host.old) seen)
             → Answers result (Ends Clean) }
 
-        // What is taken: the bytes up to the end of the record's block and none behind them, or the blocks
+        // What is taken: the bytes up to the end of the record's block and none after them, or the blocks
         // that no record follows. Before a refusal no record is whole within what is taken.
         ensures takes { (seen : Option Files) → MaySee (H.contents host.new) (H.agrees host.new) seen
             → IfOk result (λ given. IfSome given
@@ -270,7 +270,7 @@ fn read_first<H: Host>(
     }
 }
 
-/// Reads the record that stands next behind the blocks that are no record, if one does.
+/// Reads the record that comes next after the blocks that are no record, if there is one.
 fn read_next<H: Host>(
     walk: &mut Walk,
     spares: &mut Spares,

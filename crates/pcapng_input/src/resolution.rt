@@ -38,7 +38,7 @@ impl Resolution {
         }
     }
 
-    /// The nanoseconds of so many ticks, rounded down.
+    /// The nanoseconds of `ticks` ticks, rounded down.
     #[tactic(auto, using(crate::proofs::Ticks::ticks))]
     fn nanoseconds(self, ticks: u64) -> u128
         ensures { result ≡ ticks * 1000000000 / ticks_a_second self }
@@ -50,7 +50,7 @@ impl Resolution {
         }
     }
 
-    /// The moment of so many ticks, rounded down, where its nanoseconds fit 64 bits.
+    /// The moment of `ticks` ticks, rounded down, where its nanoseconds fit 64 bits.
     #[tactic(auto, unfolding(crate::specs::Moments::moment_of))]
     pub fn moment(self, ticks: u64) -> Option<Moment>
         ensures { result ≡ moment_of self ticks }

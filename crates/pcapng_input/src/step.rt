@@ -38,7 +38,7 @@ pub enum BlockRead {
     Record(NgRecord),
 }
 
-/// The byte order that a byte-order magic tells: whether the most significant byte stands first.
+/// The byte order that a byte-order magic tells: whether the most significant byte comes first.
 #[tactic(auto, unfolding(crate::specs::Blocks::order_of))]
 pub fn order_of(magic: &[u8]) -> Option<bool>
     requires { length magic.now ≡ 4 }
@@ -267,7 +267,7 @@ fn read_begun<H: Host>(
     read_known(walk, spares, alloc, host, block)
 }
 
-/// Reads the block that stands next, if a byte is left.
+/// Reads the block that comes next, if a byte is left.
 pub fn read_block<H: Host>(
     walk: &mut Walk,
     spares: &mut Spares,

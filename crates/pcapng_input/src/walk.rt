@@ -21,9 +21,9 @@ pub struct Interface {
 /// What is known of the section that is read.
 #[derive(Debug, Drop)]
 pub struct Section {
-    /// Its numbers stand with their most significant byte first.
+    /// The section's numbers are written with their most significant byte first.
     pub swapped: bool,
-    /// Its interfaces, in order.
+    /// The section's interfaces, in order.
     pub interfaces: Items<Interface>,
 }
 
@@ -44,7 +44,7 @@ pub struct Walk {
 const LAST_PLACE: u64 = 4_611_686_018_427_387_904;
 
 impl Walk {
-    /// Nothing was read.
+    /// The walk before anything was read.
     pub fn new(alloc: Global) -> Walk
         ensures { result ≡ first_walk }
     {

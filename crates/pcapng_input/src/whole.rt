@@ -14,9 +14,9 @@ use std::alloc::Global;
 /// What was read of a capture.
 #[derive(Debug, Drop)]
 pub struct Found {
-    /// Its records, in order.
+    /// The capture's records, in order.
     pub records: Items<NgRecord>,
-    /// The refusal behind them; None at the capture's end and at the limit.
+    /// The refusal after the records; None at the capture's end and at the limit.
     pub refused: Option<NgFault>,
 }
 
@@ -28,7 +28,7 @@ impl Found {
     }
 }
 
-/// Opens a file of the host as its capture, and reads at most so many records of it. Where the host fails or memory
+/// Opens a file of the host as its capture, and reads at most `limit` records of it. Where the host fails or memory
 /// lacks, the records found are the first of the capture.
 pub fn read_up_to<H: Host>(
     alloc: Global,
@@ -46,7 +46,7 @@ pub fn read_up_to<H: Host>(
     ensures quiet { (HasFailed result → ⊥) → H.faults host.new ≡ H.faults host.old }
     ensures later { H.faults host.old ≤ H.faults host.new }
 
-    // The same by whatever may be seen of the host afterwards: what it tells, or files that give all
+    // What is held, by whatever may be seen of the host afterwards: what it tells, or files that give all
     // that it answered.
     ensures seen_held { (seen : Option Files) → MaySee (H.contents host.new) (H.agrees host.new) seen
         → (bytes : List ℕ) → Tells seen name.now bytes → IsHeld result limit bytes }

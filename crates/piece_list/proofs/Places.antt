@@ -7,7 +7,7 @@ use Rattle.piece_list.specs.Linked.{Linked, places, values, ring, first_place, H
 use Rattle.piece_list.proofs.Apart.{first_place_cut, places_cut}
 
 module _ {T : Type 0} where
-  -- the node at a place, with those behind it
+  -- the node at a place, with those after it
   pub node_here : (ns : List (Linked T)) (at : ℕ) → at < length ns → (n : Linked T) × (drop at ns ≡ n ∷ drop (suc at) ns)
   node_here [] at within = absurd (omega arith)
   node_here (n ∷ ns) zero within = (n, refl)

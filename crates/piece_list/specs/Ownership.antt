@@ -66,7 +66,7 @@ module _ (V : RattleType) where
   abbrev pub deed_owns : (Ty → Ptr → Fml) → Ptr → Fml
   deed_owns token p = fsep (token node_type p) (fwand (blank_owns p) (room_for node_type p))
 
-  -- the same for the heap's blocks
+  -- the allocator's token of the heap, and that the three empty fields make the whole block
   abbrev pub heap_deed : Ptr → Fml
   heap_deed = deed_owns (ghosts.dealloc_token heap)
 

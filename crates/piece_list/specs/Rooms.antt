@@ -2,7 +2,7 @@
 use Rattle.std.specs.Prelude.{ℕ, ◌+◌, ◌^◌, ◌<◌, ◌≤◌, List, length}
 
 module _ {T : Type 0} where
-  -- there is room for one element, and the place is at it or behind it
+  -- there is room for one element, and the place is at it or after it
   pub record IsSingle (list : List T) (place spare : ℕ) : Type 0 where
     pub fits : length list + spare ≤ 1
     pub within : place ≤ length list

@@ -93,7 +93,7 @@ impl<T> Chain<T> {
         self.at = 0;
     }
 
-    /// Behind the last value.
+    /// Moves to the place after the last value.
     pub(crate) fn end(&mut self)
         ensures { self.new ≡ (self.old.0, length self.old.0) }
     {
@@ -117,7 +117,7 @@ impl<T> Chain<T> {
         self.at -= 1;
     }
 
-    /// Puts the node before the place, and stands at it.
+    /// Puts the node before the place, and is then at it.
     pub(crate) fn insert(&mut self, node: Detached<T>)
         requires { length self.old.0 + 1 < 2 ^ 64 }
         ensures { self.new ≡ (insert self.old.0 self.old.1 node.value, self.old.1) }

@@ -46,14 +46,14 @@ impl<T: Drop> Few<T> {
         })
     }
 
-    /// Whether so many nodes are spare.
+    /// Whether `nodes` nodes are spare.
     pub(crate) fn has_spare(&self, nodes: usize) -> bool
         ensures { IsTrue result → nodes ≤ self.now.spare }
     {
         nodes <= self.spare
     }
 
-    /// The same list over nodes, to which the elements move. Without memory it stays.
+    /// The elements moved to a list over nodes, at the same place. Without memory this list stays.
     pub(crate) fn linked(&mut self, alloc: Global) -> Result<NodeList<T>, NoMemory>
         ensures grown { IfOk result (λ linked. self.old.spare ≤ linked.spare) }
         ensures kept { IfOk result (λ linked. linked ≡ pieces self.old.list self.old.place linked.spare) }
@@ -153,7 +153,7 @@ fn move_all<T: Drop>(row: &mut Vec<T>, linked: &mut NodeList<T>)
     }
 }
 
-/// Moves on from the first element by so many.
+/// Moves on from the first element by `count`.
 fn step_on<T: Drop>(linked: &mut NodeList<T>, count: usize)
     requires within { count ≤ length linked.old.list }
     requires front { linked.old.place ≡ 0 }

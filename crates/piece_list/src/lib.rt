@@ -6,7 +6,7 @@
 //! Underneath, `node` says who owns which part of a block, `ring` links the nodes between two
 //! sentinels, and `chain` puts a place into a ring. Only `node` and `ring` touch raw pointers, each step
 //! proved by hand under one invariant (`specs/Ownership.antt`); all else sees lists. The queue of
-//! segments stands on this crate.
+//! segments builds on this crate.
 #![tactic(auto)]
 
 mod chain;

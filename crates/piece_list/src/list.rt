@@ -10,7 +10,7 @@ use edge_io::NoMemory;
 use std::alloc::Global;
 use std::marker::Model;
 
-/// A list of elements and a place in it, from before the first element to behind the last. An element
+/// A list of elements and a place in it, from before the first element to after the last. An element
 /// alone lies in the list itself, a few lie in a row; with more each has a node of its own, linked both
 /// ways. So the place moves by one in constant time, and from either end; nodes that were reserved, or
 /// whose element was taken out, are spare. Contracts see the elements, the place as a number, and the
@@ -83,7 +83,7 @@ impl<T: Drop> PieceList<T> {
         }
     }
 
-    /// Appends an element, and stands at it.
+    /// Appends an element, and is then at it.
     pub fn push_back(&mut self, value: T)
         requires { 0 < self.old.spare }
         ensures { self.new ≡ pieces (self.old.list ++ value ∷ []) (length self.old.list) (self.old.spare - 1) }
@@ -92,7 +92,7 @@ impl<T: Drop> PieceList<T> {
         self.insert_here(value);
     }
 
-    /// Moves behind the last element.
+    /// Moves to the place after the last element.
     fn end(&mut self)
         ensures { self.new ≡ pieces self.old.list (length self.old.list) self.old.spare }
     {
@@ -133,7 +133,7 @@ impl<T: Drop> PieceList<T> {
         }
     }
 
-    /// The element at the place. None at the end, behind which the place never is.
+    /// The element at the place. None at the end, beyond which the place never is.
     pub fn peek(&self) -> Option<&T>
         ensures value { option_copied result ≡ slice_get self.now.list self.now.place }
         ensures within { self.now.place ≤ length self.now.list }
@@ -169,7 +169,7 @@ impl<T: Drop> PieceList<T> {
         }
     }
 
-    /// Puts an element before the place, and stands at it.
+    /// Puts an element before the place, and is then at it.
     pub fn insert_here(&mut self, value: T)
         requires { 0 < self.old.spare }
         ensures { self.new ≡ pieces (insert self.old.list self.old.place value) self.old.place (self.old.spare - 1) }
@@ -181,7 +181,7 @@ impl<T: Drop> PieceList<T> {
         }
     }
 
-    /// Takes the element at the place out: the place stays a number, and names the element behind.
+    /// Takes the element at the place out: the place stays a number, and names the element after it.
     /// None, without a change, at the end.
     pub fn remove_here(&mut self) -> Option<T>
         ensures taken { result ≡ slice_get self.old.list self.old.place }

@@ -8,7 +8,7 @@ use edge_io::NoMemory;
 use std::alloc::Global;
 use std::marker::Model;
 
-/// At most one element, and a place at it or behind it. Seen as a list with a place, where what lies
+/// At most one element, and a place at it or after it. Seen as a list with a place, where what lies
 /// here counts as a node.
 #[derive(Drop)]
 pub(crate) struct Single<T: Drop> {
@@ -42,7 +42,7 @@ impl<T: Drop> Single<T> {
         }
     }
 
-    /// Whether so many nodes are spare. Where there is no element, one is from now on.
+    /// Whether `nodes` nodes are spare. Where there is no element, one is from now on.
     pub(crate) fn reserve(&mut self, nodes: usize) -> bool
         ensures enough { IsTrue result → nodes ≤ self.new.spare }
         ensures grown { self.old.spare ≤ self.new.spare }
@@ -54,8 +54,8 @@ impl<T: Drop> Single<T> {
         nodes <= self.spare
     }
 
-    /// The same list over nodes of which so many are spare, to which the element moves. Without
-    /// memory it stays.
+    /// The element moved to a list over nodes of which `nodes` are spare, at the same place. Without memory
+    /// this list stays.
     pub(crate) fn linked(&mut self, alloc: Global, nodes: usize) -> Result<NodeList<T>, NoMemory>
         ensures enough { IfOk result (λ linked. nodes ≤ linked.spare) }
         ensures grown { IfOk result (λ linked. self.old.spare ≤ linked.spare) }
@@ -67,7 +67,7 @@ impl<T: Drop> Single<T> {
         Ok(linked)
     }
 
-    /// The same list in a row with room for a few, to which the element moves. Without memory it stays.
+    /// The element moved to a row with room for a few, at the same place. Without memory this list stays.
     pub(crate) fn few(&mut self, alloc: Global) -> Result<Few<T>, NoMemory>
         ensures enough { IfOk result (λ few. 7 ≤ few.spare) }
         ensures grown { IfOk result (λ few. self.old.spare ≤ few.spare) }
@@ -86,7 +86,7 @@ impl<T: Drop> Single<T> {
         Ok(few)
     }
 
-    /// Moves the element, if there is one, to an empty list over nodes, and stands there as here.
+    /// Moves the element, if there is one, to an empty list over nodes, whose place is then the same.
     fn move_to(&mut self, linked: &mut NodeList<T>)
         requires node { 0 < linked.old.spare }
         requires empty { linked.old ≡ pieces [] 0 linked.old.spare }

@@ -53,7 +53,7 @@ from_ends made between (Ok fields) datagram is = go (is_fragment fields.body) is
     go true here = subst (λ (o : Option Datagram). IfSome o (IsBetween fields.ip)) here (between fields)
     go false here = absurd cc
 
--- and of one version, as the fragment is
+-- a datagram is of one version, as its fragment is
 one_version : (said : Result Fields Skip) (datagram : Datagram) → IfOk said (λ fields. IsOfOneVersion fields.ip) → IsOkAnd said (λ fields. IsBetween fields.ip datagram) → IsOfOneVersion datagram.ip
 one_version (Err reason) datagram one same = absurd same
 one_version (Ok fields) datagram one same = ap version_of same.0 ∙ one ∙ sym (ap version_of same.1)

@@ -50,7 +50,7 @@ end_of-push before r = let start : Moment = record { nanos = 0 } in fold_push (�
 
 -- ---- fragments
 
--- behind one fragment more, if there is one
+-- what waits after one fragment more, if there is one
 state_after-option : (most : ℕ) (fragments : List Fragment) (o : Option Fragment) → state_after most (fragments ++ option_to_list o) ≡ option_map_or (after (state_after most fragments)) o (state_after most fragments)
 state_after-option most fragments None = ap (state_after most) (append-nil fragments)
 state_after-option most fragments (Some f) = state_after-push most fragments f
@@ -63,7 +63,7 @@ fragments-push way config before r =
     filter_map-append (fragment_in way config) before (r ∷ [])
     ∙ ap (λ rest. fragments way config before ++ rest) (cons_option-list (fragment_in way config) r)
 
--- what waits behind one record more, for what it says
+-- what waits after one record more, for what it says
 state_after-said : (way : Way) (config : FragConfig) (state : Frag3State) (moment : Moment) (said : Option Fields) → option_map_or (after state) (option_map (fragment_of way config moment) said) state ≡ option_map_or (λ fields. after state (fragment_of way config moment fields)) said state
 state_after-said way config state moment None = refl
 state_after-said way config state moment (Some fields) = refl
@@ -84,7 +84,7 @@ frag3_step way before r (Some config) (Some fields) e =
     ∙ state_after-option config.max_frags (fragments way config before) (fragment_in way config r)
     ∙ ap (λ (o : Option Fields). option_map_or (after (state_after config.max_frags (fragments way config before))) (option_map (fragment_of way config r.captured.moment) o) (state_after config.max_frags (fragments way config before))) e)
 
--- the fragments that wait behind one record more
+-- the fragments that wait after one record more
 pub frag3_behind-push : (way : Way) (before : List LinkedRecord) (r : LinkedRecord) → frag3_behind way (before ++ r ∷ []) ≡ waiting_after way (frag3_behind way before) r
 unfolding frag3_behind waiting_after waiting_after_fragment
 frag3_behind-push way before r = frag3_step way before r way.frag (fragment_fields (said_by way r)) refl
@@ -95,7 +95,7 @@ pub job_count-push : (way : Way) (before : List LinkedRecord) (r : LinkedRecord)
 unfolding job_count
 job_count-push way before r = ap length (trail-push (works way) before r) ∙ length-append (trail (works way) before) (works way before r)
 
--- jobs numbered one list behind another
+-- jobs numbered one list after another
 pub numbered-append : (number : ℕ) (moment : Moment) (xs ys : List Work) → numbered number moment (xs ++ ys) ≡ numbered number moment xs ++ numbered (number + length xs) moment ys
 numbered-append number moment [] ys = ap (λ n. numbered n moment ys) (omega arith)
 numbered-append number moment (x ∷ xs) ys =

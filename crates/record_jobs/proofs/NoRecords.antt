@@ -13,7 +13,7 @@ unfolding finishes touches
 finishes-none way =
     ap (λ (flows : List ℕ). numbered (job_count way []) (end_of []) (map (λ flow. work.Finish flow) flows)) (live_flows-none (most_flows way.stream))
 
--- and nothing was counted
+-- before any record, nothing was counted
 pub counts-none : (way : Way) → counts way [] ≡ none_counted
 unfolding counts touches
 counts-none way = refl

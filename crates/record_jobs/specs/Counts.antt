@@ -31,7 +31,7 @@ datagrams way records = trail (λ before r. option_to_list (datagram_in way befo
 abbrev pub fragments_read : Way → List LinkedRecord → List Fields
 fragments_read way records = filter_map (λ r. fragment_fields (said_by way r)) records
 
--- each reason
+-- each reason for which a record is skipped
 abbrev pub is_short : Skip → Bool
 is_short skip.Short = true
 is_short reason = false

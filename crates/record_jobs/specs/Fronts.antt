@@ -38,7 +38,7 @@ pub record StandsFor (way : Way) (front : FrontState) (before : List LinkedRecor
   -- no packet has more data than a datagram
   pub short : All HasShortData (trail (jobs way) before)
 
--- a record was taken behind these records: its jobs were added, and the front stands for one record more
+-- a record was taken after these records: its jobs were added, and the front stands for one record more
 pub record HasTaken (way : Way) (before : List LinkedRecord) (r : LinkedRecord) (new : FrontState)
     (jobs_old jobs_new : List Job) : Type 0 where
   pub added : jobs_new ≡ jobs_old ++ jobs way before r
@@ -49,7 +49,7 @@ abbrev pub TakesRecord : Way → FrontState → LinkedRecord → FrontState → 
 TakesRecord way old r new jobs_old jobs_new =
     (before : List LinkedRecord) → StandsFor way old before → HasTaken way before r new jobs_old jobs_new
 
--- whatever records the front stands for, the jobs behind them are those behind the old list
+-- whatever records the front stands for, the jobs after them were added to the old list
 abbrev pub GivesFinishes : FrontState → List Job → List Job → Type 0
 GivesFinishes front jobs_old jobs_new =
     (way : Way) (before : List LinkedRecord) → StandsFor way front before → jobs_new ≡ jobs_old ++ finishes way before

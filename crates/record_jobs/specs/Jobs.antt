@@ -6,7 +6,7 @@
 -- lives ends, in the order of their numbers, at the moment of the last record. Every job has the next
 -- number, from 0 on. The order is this project's own.
 -- To try it on: with at most one TCP flow, the SYNs from port 1000 and from port 1001 to port 80 give the
--- jobs 0, a packet of flow 0; 1, the end of flow 0; and 2, a packet of flow 1. Behind them, 3 is the end of
+-- jobs 0, a packet of flow 0; 1, the end of flow 0; and 2, a packet of flow 1. After them, 3 is the end of
 -- flow 1.
 use Rattle.std.specs.Prelude.{ℕ, ◌+◌, Bool, List, [], ◌∷◌, ◌++◌, map, fold, length, Option, Some, None, option_and_then, unwrap_or}
 use Rattle.std.specs.Option.{option_map, option_to_list}
@@ -70,7 +70,7 @@ works_by way time touch fragment packet =
     option_to_list (option_map (λ flow. work.Finish flow) (evicted_by touch))
     ++ (option_to_list (option_map alone fragment) ++ option_to_list (option_map (packet_work way time touch) packet))
 
--- what is done for a record behind these records, in order
+-- what is done for a record after these records, in order
 unfoldable pub works : Way → List LinkedRecord → LinkedRecord → List Work
 works way before r = works_by way (time_of before r) (touch_in way before r) (fragment_item way r) (packet_in way before r)
 
@@ -86,11 +86,11 @@ numbered number moment (todo ∷ later) = record { number = number; moment = mom
 unfoldable pub job_count : Way → List LinkedRecord → ℕ
 job_count way records = length (trail (works way) records)
 
--- the jobs of a record behind these records
+-- the jobs of a record after these records
 unfoldable pub jobs : Way → List LinkedRecord → LinkedRecord → List Job
 jobs way before r = numbered (job_count way before) r.captured.moment (works way before r)
 
--- the jobs behind all records: each flow that lives ends
+-- the jobs after all records: each flow that lives ends
 unfoldable pub finishes : Way → List LinkedRecord → List Job
 finishes way records =
     numbered (job_count way records) (end_of records) (map (λ flow. work.Finish flow)

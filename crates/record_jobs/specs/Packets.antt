@@ -46,7 +46,7 @@ item_of kind moment fields = record {
 unfoldable pub said_by : Way → LinkedRecord → Result Fields Skip
 said_by way r = record_decoded r.link r.captured.bytes way.checks
 
--- it is a fragment
+-- a packet is a fragment
 abbrev pub is_fragment : Body → Bool
 is_fragment body.Fragment = true
 is_fragment carried = false
@@ -74,7 +74,7 @@ fragment_in way config r = option_map (fragment_of way config r.captured.moment)
 abbrev pub fragments : Way → FragConfig → List LinkedRecord → List Fragment
 fragments way config records = filter_map (fragment_in way config) records
 
--- the fragments that wait for their datagrams behind these records; none are kept where no line gives an engine
+-- the fragments that wait for their datagrams after these records; none are kept where no line gives an engine
 unfoldable pub frag3_behind : Way → List LinkedRecord → Option Frag3State
 frag3_behind way records =
     option_map (λ (config : FragConfig). state_after config.max_frags (fragments way config records)) way.frag

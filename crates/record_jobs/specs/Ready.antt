@@ -1,6 +1,6 @@
--- Jobs that lanes may run: each is sound behind the earlier jobs of its flow, and their numbers ascend.
+-- Jobs that lanes may run: each is sound after the earlier jobs of its flow, and their numbers ascend.
 --
--- To try it on: the jobs of a capture's records, and those of its end behind them, have the numbers 0, 1, 2
+-- To try it on: the jobs of a capture's records, and those of its end after them, have the numbers 0, 1, 2
 -- and so on, and each packet of a flow is between the ends of the flow's first packet.
 use Rattle.std.specs.Prelude.{◌≡◌, ℕ, ◌^◌, ◌≤◌, ⊤, List, ◌∷◌, ◌++◌, Some, None, All, filter, fold, length, map}
 use Rattle.std.specs.List.{range_with_len}
@@ -22,11 +22,11 @@ HasShortWork other = ⊤
 abbrev pub HasShortData : Job → Type 0
 HasShortData job = HasShortWork job.work
 
--- all jobs of these records, and those behind them
+-- all jobs of these records, and those after them
 abbrev pub all_jobs : Way → List LinkedRecord → List Job
 all_jobs way records = trail (jobs way) records ++ finishes way records
 
--- each of these jobs is sound behind the earlier ones, where there are so many engines
+-- each of these jobs is sound after the earlier ones, where there are this many engines
 abbrev pub AreSound : ℕ → List Job → Type 0
 AreSound engines xs =
     (front : List Job) (job : Job) (rest : List Job) → xs ≡ front ++ job ∷ rest

@@ -55,7 +55,7 @@ abbrev pub HasRoom : Way → List LinkedRecord → Type 0
 HasRoom way records =
     (tcp : Bool) → distinct_count (filter (is_of tcp) (touches way records)) ≤ max_for (most_flows way.stream) tcp
 
--- and for all their fragments, where fragments are put together
+-- there is room for all fragments of these records, where fragments are put together
 abbrev pub HasRoomToJoin : Way → List LinkedRecord → Type 0
 HasRoomToJoin way records = IfSome way.frag (λ (config : FragConfig). length (fragments_read way records) ≤ config.max_frags)
 
@@ -66,7 +66,7 @@ pub record IsSplit (way : Way) (part : Part) (records : List LinkedRecord) : Typ
   pub join : HasRoomToJoin way records
   pub start : begin_of (of_part part records) ≡ begin_of records
 
--- the items of a record behind these records, each with all rules that match it
+-- the items of a record after these records, each with all rules that match it
 abbrev pub items_of_job : Detection → List Job → Job → List Hits
 items_of_job d before job = (answer d before job).items
 
@@ -79,7 +79,7 @@ record_items d way = chained (items_of_job d) (jobs way)
 abbrev pub Pairs : Type 0
 Pairs = Addr → Addr → Bool
 
--- both directions of a pair are, or neither is; and the part's packets are those between its pairs
+-- both directions of a pair are of a part, or neither is; and the part's packets are those between its pairs
 pub record IsOfPairs (way : Way) (pairs : Pairs) (part : Part) : Type 0 where
   pub either : (a b : Addr) → pairs a b ≡ pairs b a
   pub read : (r : LinkedRecord) (fields : Fields) → said_by way r ≡ Ok fields → part r ≡ pairs fields.ip.src fields.ip.dst
@@ -90,7 +90,7 @@ pub record IsSplitWhole (way : Way) (pairs : Pairs) (part : Part) (records : Lis
   pub of_pairs : IsOfPairs way pairs part
   pub end : end_of (of_part part records) ≡ end_of records
 
--- the items of the flows that live behind these records, and end there
+-- the items of the flows that live after these records, and end there
 abbrev pub last_items : Detection → Way → List LinkedRecord → List Hits
 last_items d way records = trail_from (items_of_job d) (trail (jobs way) records) (finishes way records)
 

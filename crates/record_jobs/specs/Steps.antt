@@ -62,28 +62,28 @@ content_from way waiting moment said = let datagram : Option Datagram = datagram
 unfoldable pub record_content : Way → Option Frag3State → LinkedRecord → RecordContent
 record_content way waiting r = content_from way waiting r.captured.moment (said_by way r)
 
--- the fragments that wait behind a fragment
+-- the fragments that wait after a fragment
 unfoldable pub waiting_after_fragment : Way → Option Frag3State → Moment → Fields → Option Frag3State
 waiting_after_fragment way waiting moment fields =
     option_map (λ (frag3 : Frag3State). option_map_or (λ (config : FragConfig). after frag3
     (fragment_of way config moment fields)) way.frag frag3) waiting
 
--- the fragments that wait behind what was read
+-- the fragments that wait after what was read
 abbrev pub waiting_from : Way → Option Frag3State → Moment → Result Fields Skip → Option Frag3State
 waiting_from way waiting moment said = option_map_or (waiting_after_fragment way waiting moment) (fragment_fields said) waiting
 
 unfoldable pub waiting_after : Way → Option Frag3State → LinkedRecord → Option Frag3State
 waiting_after way waiting r = waiting_from way waiting r.captured.moment (said_by way r)
 
--- no more bytes than a datagram may have
+-- a datagram has no more bytes than one may have
 abbrev pub IsShortDatagram : Datagram → Type 0
 IsShortDatagram datagram = length datagram.bytes ≤ 65535
 
--- what is inspected has no more data either
+-- an item that is inspected has no more data than a datagram may have
 abbrev pub IsShortItem : Item → Type 0
 IsShortItem item = length item.payload ≤ 65535
 
--- nor has a record's packet, if there is one
+-- a record's packet, if there is one, has no more data than that
 abbrev pub HasShortPacket : RecordContent → Type 0
 HasShortPacket content = IfSome content.packet IsShortItem
 
@@ -147,7 +147,7 @@ AreFew counts = AreUpTo counts.records counts.records counts
 
 -- ---- jobs
 
--- what is done was added behind the old list, numbered from this number on
+-- what is done was added after the old list, numbered from this number on
 pub record Adds (number : ℕ) (moment : Moment) (todo : List Work) (jobs_old : List Job) (next : ℕ)
     (jobs_new : List Job) : Type 0 where
   pub number_is : next ≡ number + length todo

@@ -85,7 +85,7 @@ stream_preference_at way addr =
     stream_preference (unwrap_or (stream_policy_at way.hosts addr)
     (stream_engine_at way.stream.engines (stream_place way.stream.engines addr)).policy)
 
--- so many seconds have gone by since the capture's first record, where a handshake is asked for after them
+-- this many seconds have gone by since the capture's first record, where a handshake is asked for after them
 abbrev pub is_due : Time → Option ℕ → Bool
 is_due time None = false
 is_due time (Some seconds) = nat_le (time.first.nanos + seconds * 1000000000) time.now.nanos

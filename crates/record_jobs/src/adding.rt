@@ -1,4 +1,4 @@
-//! What is done for a record, as jobs behind a list.
+//! What is done for a record, as jobs that are added to a list.
 ghost use Rattle.std.specs.Prelude.{◌≡◌, ◌+◌, ◌≤◌, ◌<◌, ◌^◌, [], ◌∷◌, ◌++◌, Some, None, length, map, take, IfOk, OnOk, OnErr};
 ghost use Rattle.std.specs.Option.{option_map, option_to_list};
 ghost use Rattle.flow_lanes.specs.Sessions.{is_tcp};

@@ -20,13 +20,13 @@ use std::alloc::Global;
 /// What a record brings.
 #[derive(Debug, Drop)]
 pub(crate) struct RecordContent<'a> {
-    /// Its fragment, where it is one.
+    /// The record's fragment, where it is one.
     pub fragment: Option<Item<'a>>,
-    /// Its packet, or the datagram that its fragment completed.
+    /// The record's packet, or the datagram that its fragment completed.
     pub packet: Option<Item<'a>>,
     /// Why the record, or that datagram, is skipped.
     pub skip: Option<Skip>,
-    /// Its fragment completed a datagram.
+    /// Whether the record's fragment completed a datagram.
     pub rebuilt: bool,
 }
 

@@ -13,11 +13,11 @@ pub struct RecordCounts {
     pub records: u64,
     /// Records and rebuilt datagrams that are skipped: bytes are missing.
     pub short: u64,
-    /// The same: they carry another protocol than either version of IP.
+    /// Records and rebuilt datagrams that are skipped: they carry another protocol than either version of IP.
     pub other: u64,
-    /// The same: a checksum is wrong.
+    /// Records and rebuilt datagrams that are skipped: a checksum is wrong.
     pub checksum: u64,
-    /// The same: a header contradicts itself.
+    /// Records and rebuilt datagrams that are skipped: a header contradicts itself.
     pub malformed: u64,
     /// Fragments.
     pub fragments: u64,

@@ -103,7 +103,7 @@ fn stream_place(engines: &[StreamEngine], addr: Addr) -> usize
         .unwrap_or(engines.len())
 }
 
-/// Whether so many seconds have gone by since the capture's first record.
+/// Whether this many seconds have gone by since the capture's first record.
 fn is_due(time: Time, handshake: Option<u32>) -> bool
     ensures { result ≡ is_due time handshake }
 {

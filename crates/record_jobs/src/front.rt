@@ -98,7 +98,7 @@ impl Front {
         }
     }
 
-    /// Adds the jobs behind all records to `out`: each flow that lives ends. Without memory `out` stays.
+    /// Adds the jobs after all records to `out`: each flow that lives ends. Without memory `out` stays.
     pub fn finish(self, alloc: Global, out: &mut Vec<Job<'_>>) -> Result<(), NoMemory>
         ensures ok { OnOk result (GivesFinishes self out.old.items out.new.items) }
         ensures err { OnErr result (out.new.items ≡ out.old.items) }
@@ -115,7 +115,7 @@ impl Front {
         }
     }
 
-    /// Takes the next record. Without memory, jobs may stand behind `out`.
+    /// Takes the next record. Without memory, jobs may be left at the end of `out`.
     ///
     /// A packet of version 4 that is no fragment is read in place, and goes from there into its job.
     fn step<'a>(

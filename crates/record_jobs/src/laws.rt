@@ -21,12 +21,12 @@ ghost use Rattle.record_jobs.specs.Touches.{most_flows, touches};
 ghost use Rattle.record_jobs.specs.Way.{LinkedRecord, Way};
 
 /// All jobs of a capture's records are numbered by their places, and where their data are short, as a front
-/// says, each is sound behind the earlier jobs of its flow.
+/// says, each is sound after the earlier jobs of its flow.
 pub fn jobs_are_in_order()
     ensures { (way : Way) (records : List LinkedRecord) → AreInOrder way records }
 {}
 
-/// Behind no records no flow ends, and nothing was counted.
+/// After no records no flow ends, and nothing was counted.
 pub fn no_records_no_jobs()
     ensures finishes { (way : Way) → finishes way [] ≡ [] }
     ensures counts { (way : Way) → counts way [] ≡ none_counted }
@@ -55,7 +55,7 @@ pub fn datagrams_keep_addresses()
     ensures { (way : Way) (before : List LinkedRecord) (r : LinkedRecord) → KeepEnds way before r }
 {}
 
-/// A flow that is open behind the jobs of a capture's records lives. So no more flows are open, and kept by lanes, than
+/// A flow that is open after the jobs of a capture's records lives. So no more flows are open, and kept by lanes, than
 /// may live: `max_tcp` and `max_udp` together.
 pub fn open_flows_live()
     ensures { (way : Way) (records : List LinkedRecord) (flow : ℕ) → 0 < way.stream.max_tcp → 0 < way.stream.max_udp

@@ -4,7 +4,7 @@
 //! finds the flow of each packet and which flow ends for it, and says by which engine and which policy either
 //! end goes. What it gives is `jobs` and `finishes` of specs/Jobs, which are defined over the list of all
 //! records, without a cache; what the records are counted as is `counts` of specs/Counts. The lanes of
-//! flow_lanes run the jobs; what makes a whole run stands on both.
+//! flow_lanes run the jobs; what makes a whole run rests on both.
 #![tactic(auto)]
 
 mod adding;

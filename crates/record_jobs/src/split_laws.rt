@@ -6,8 +6,8 @@ ghost use Rattle.record_jobs.specs.Splitting.{IsSplit, IsSplitWhole, Pairs, Part
 ghost use Rattle.record_jobs.specs.Splitting.{of_part, record_items};
 ghost use Rattle.record_jobs.specs.Way.{LinkedRecord, Way};
 
-/// A record of a part of a capture, by pairs of addresses, has the items behind the part's earlier records that it has
-/// behind all earlier records, each with the same rules that match it: where there is room for all flows and fragments,
+/// A record of a part of a capture, by pairs of addresses, has the items after the part's earlier records that it has
+/// after all earlier records, each with the same rules that match it: where there is room for all flows and fragments,
 /// and the part begins when the capture does (`each`). Where it also ends when the capture does, all items of the part,
 /// those of the flows that live at its end included, are in order the items of the whole that go between its pairs
 /// (`closed`).

@@ -1,4 +1,5 @@
--- A pattern may move to another thread, and threads may share it: a compiled expression does, level by level from its syntax tree up. Each level's proof stands apart, since
+-- A pattern may move to another thread, and threads may share it: a compiled expression does, level by level
+-- from its syntax tree up. Each level's proof is apart, since
 -- a single search through all of them finds no end.
 use denote.Param.Send.{IsSend, IsSync, sendable}
 use Rattle.std.proofs.Crossing as heap

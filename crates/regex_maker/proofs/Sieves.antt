@@ -18,7 +18,7 @@ use Rattle.regex_meta.specs.Plans.{IsAdmitted}
 use Rattle.regex_meta.specs.Programs.{pattern_of, leftmost}
 use Rattle.regex_meta.specs.declared.program.Program.{Program}
 
--- no match where no literal of every match stands
+-- no match where there is no literal of every match
 pub none_lacking : (re : Re) (bytes : List ℕ) (needles : List (List ℕ)) → All (λ byte. byte < 256) bytes
     → ∥ ContainsNeedle re needles ∥₁ → Nowhere (AnyOccursAt bytes needles) 0 (length bytes + 1) → find re bytes 0 ≡ None
 none_lacking re bytes needles small contains nowhere = find_none re bytes 0 (λ i t low high is. refuted contains (λ has.

@@ -13,11 +13,11 @@ use Rattle.edge_io.specs.declared.pattern.Span.{Span}
 use Rattle.regex.specs.Patterns.{Re, Match, Config, find, span, default_config}
 use Rattle.regex_syntax.specs.Grammar.{read}
 
--- the text of the expression: behind `(?-u)` a character is a byte
+-- the text of the expression: after `(?-u)` a character is a byte
 abbrev pub pattern_text : List ℕ → List ℕ
 pattern_text text = codes "(?-u)" ++ text
 
--- how it is read
+-- how the expression is read
 abbrev pub options_of : PatternFlags → Config
 options_of flags = record default_config {
   flags = record default_config.flags {

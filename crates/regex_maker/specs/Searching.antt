@@ -16,7 +16,7 @@ use Rattle.regex_maker.specs.declared.sieve.Sieve.{Sieve}
 abbrev pub IsMemoryFor : Memory → Dfa → Type 0
 IsMemoryFor memory dfa = IsForwardFor memory.forward dfa × IsReverseFor memory.reverse dfa
 
--- each memory on the shelf is one for this automaton
+-- each slot of the shelf is for memories of this automaton
 abbrev pub IsShelfFor : Shelf → Dfa → Type 0
 IsShelfFor shelf dfa = All (λ kept. kept ≡ dfa) shelf.slots.items
 

@@ -1,4 +1,4 @@
-//! Patterns by the library `regex`: the maker behind the option `pcre`.
+//! Patterns by the library `regex`: the maker that the option `pcre` uses.
 //!
 //! A maker builds the bytes form of a regular expression, with `(?-u)` in front of its text, so that
 //! characters are bytes. `specs/Meaning` says what it finds: what that crate's grammar reads in the

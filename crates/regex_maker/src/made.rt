@@ -62,7 +62,7 @@ impl RegexPattern {
     }
 
     /// The ends of the leftmost match, by the library's own choice of engines. Its working memory is
-    /// made for this search and dropped behind it.
+    /// made for this search and dropped after it.
     #[inline(never)]
     fn find_slowly(&self, bytes: &[u8]) -> Result<Option<(usize, usize)>, NoMemory>
         ensures { IfOk result (λ ends. ends ≡ option_map span (leftmost self.now.program.value bytes.now 0)) }

@@ -29,7 +29,7 @@ pub struct RegexMaker {
     refused: Vec<Refusal>,
     /// How many bytes of working memory its patterns keep at most.
     most: u64,
-    /// What they keep. There is none before the first pattern.
+    /// The memory that its patterns keep, counted. There is none before the first pattern.
     pub(crate) tally: Option<Arc<Tally>>,
 }
 
@@ -42,7 +42,7 @@ impl Model for RegexMaker {
     ghost view = { λ maker. maker.refused.items };
 }
 
-/// The text of the expression: behind `(?-u)` a character is a byte.
+/// The text of the expression: after `(?-u)` a character is a byte.
 fn pattern_text(alloc: Global, text: &str) -> Result<String, NoMemory>
     ensures { IfOk result (λ source. string_bytes source ≡ pattern_text text.now) }
 {

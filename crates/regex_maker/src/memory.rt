@@ -35,7 +35,7 @@ fn states_size(work: Work) -> u64 {
 pub(crate) struct Memory {
     forward: Forward,
     reverse: Reverse,
-    /// What it counts for among the memories of the maker's patterns.
+    /// What this memory counts for among the memories of the maker's patterns.
     part: Part,
 }
 

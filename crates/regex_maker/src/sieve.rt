@@ -43,7 +43,7 @@ fn prefilter(alloc: Global, needles: Option<Needles>) -> Result<Option<Prefilter
     }
 }
 
-/// Whether none of the literals stands in the bytes.
+/// Whether none of the literals is in the bytes.
 fn lacks(needles: &Option<Prefilter>, bytes: &[u8]) -> bool
     ensures { (re : Re) → ∥ ForSome needles.now (ContainsNeedle re) ∥₁ → IsTrue result → find re bytes.now 0 ≡ None }
 {

@@ -25,7 +25,7 @@ impl Tally {
         self.counted.load(SeqCst)
     }
 
-    /// Counts so many bytes more, unless all would be too many then.
+    /// Counts `bytes` bytes more, unless all would be too many then.
     fn add(&self, bytes: u64) -> bool {
         let before = self.counted.fetch_add(bytes, SeqCst);
         if before.saturating_add(bytes) <= self.most {

@@ -41,7 +41,7 @@ find-stored (e ∷ es) name = go (is_eq (slice_cmp nat_cmp name (string_bytes e.
     go true h = refl
     go false h = h
 
--- what stands at a name is what the code finds there
+-- what is at a name is what the code finds there
 pub get-stored : (m : BTreeMap (String Global) (Vec ℕ Global)) (name : List ℕ) → fin.get (files_in m.entries) name ≡ bytes_in (get_by_text m name)
 get-stored m name = fin.get-from_entries nat_list_cmp_total (map stored m.entries) name ∙ find-stored m.entries name
 
@@ -72,7 +72,7 @@ files-updated m n name bytes after =
     ∙ ap (cond (is_eq (slice_cmp nat_cmp q name)) (Some bytes.items)) (sym (get-stored m q))
     ∙ sym (fin.get-insert nat_list_cmp_total (files_in m.entries) name bytes.items q))
 
--- what stands there already, put once more, changes nothing
+-- what is there already, put once more, changes nothing
 same_again : (files : Files) (name bytes : List ℕ) (q : List ℕ) → fin.get files name ≡ Some bytes → (o : Ordering) → slice_cmp nat_cmp q name ≡ o → cond (is_eq o) (Some bytes) (fin.get files q) ≡ fin.get files q
 same_again files name bytes q held Less tie = refl
 same_again files name bytes q held Equal tie = sym held ∙ fin.get_tied nat_list_cmp_total files q name tie
@@ -88,19 +88,19 @@ pub files-grown : (m n : BTreeMap (String Global) (Vec ℕ Global)) (name : List
 files-grown m n name old new more after found grown =
     files-updated m n name new after ∙ ap (fin.insert (files_in m.entries) name) (grown ∙ ap (λ bytes. bytes ++ more) (bytes-found m name old found))
 
--- and where it kept its bytes
+-- the files after a name that the code found kept its bytes
 pub files-kept : (m n : BTreeMap (String Global) (Vec ℕ Global)) (name : List ℕ) (old new : Vec ℕ Global) → UpdatesBy string_cmp (λ k. slice_cmp nat_cmp name (string_bytes k)) m n (Some new) → Some old ≡ get_by_text m name → new.items ≡ old.items → files_in n.entries ≡ files_in m.entries
 files-kept m n name old new after found same =
     files-updated m n name new after
     ∙ ap (fin.insert (files_in m.entries) name) same
     ∙ put_again (files_in m.entries) name old.items (get-stored m name ∙ ap bytes_in (sym found))
 
--- and where a name was put that it did not find
+-- the files after a name was put that the code did not find
 pub files-made : (m n : BTreeMap (String Global) (Vec ℕ Global)) (name : List ℕ) (new : Vec ℕ Global) → UpdatesBy string_cmp (λ k. slice_cmp nat_cmp name (string_bytes k)) m n (Some new) → None ≡ get_by_text m name → files_in n.entries ≡ files_with (files_in m.entries) name new.items
 files-made m n name new after lacking =
     files-updated m n name new after ∙ ap (λ bytes. fin.insert (files_in m.entries) name (bytes ++ new.items)) (bytes-lacking m name lacking)
 
--- what holds of all keys behind a front holds of the first of them
+-- what holds of all keys after a front holds of the first of them
 at_seam : (P : String Global → Type 0) (front : List Entry) (e : Entry) (rest : List Entry) → AllByRecursion P (keys_of (front ++ e ∷ rest)) → P e.0
 at_seam P [] e rest all = all.0
 at_seam P (f ∷ front) e rest all = at_seam P front e rest all.1

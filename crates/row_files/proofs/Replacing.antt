@@ -8,7 +8,7 @@ use Rattle.std.specs.Str.Pattern.{LacksTextAt, FindsText}
 use Rattle.std.specs.Str.Replace.{ReplacesMatches}
 use Rattle.row_files.specs.Numbered.{byte_with}
 
--- no `#` stands in these first bytes
+-- no `#` is in these first bytes
 front_stays : (to s : List ℕ) (a : ℕ) → ((i : ℕ) → i < a → LacksTextAt (35 ∷ []) s i)
     → flat_map (byte_with to) s ≡ take a s ++ flat_map (byte_with to) (drop a s)
 front_stays to s zero lacks = refl
@@ -41,7 +41,7 @@ module _ {P : Type 0} (text : P → List ℕ) (to : List ℕ) where
       ⊎_elim (λ further. replaces_each n q (drop b s) rest (kept ∙ is) further.1) (λ same. absurd (omega (arith, ends, same.0))) on in
       made ∙ ap (λ t. take a s ++ (to ++ t)) behind ∙ ap (λ t. take a s ++ t) (sym here) ∙ sym front
 
-  -- the same of what could be made
+  -- each `#` is replaced in what could be made
   pub makes_each : {T E : Type 0} (bytes_of : T → List ℕ) (p : P) (s : List ℕ) (made : Result T E) → text p ≡ 35 ∷ []
       → IfOk made (λ t. (n : ℕ) × Hashes n p s (bytes_of t)) → IfOk made (λ t. bytes_of t ≡ flat_map (byte_with to) s)
   makes_each bytes_of p s (Ok t) is by = replaces_each by.0 p s (bytes_of t) is by.1

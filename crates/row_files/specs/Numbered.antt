@@ -8,6 +8,6 @@ use Rattle.std.specs.List.{flat_map}
 abbrev pub byte_with : List ℕ → ℕ → List ℕ
 byte_with number byte = if byte == 35 then number else byte ∷ []
 
--- the text in which a number stands for each `#`
+-- the text in which a number takes the place of each `#`
 abbrev pub numbered : ℕ → List ℕ → List ℕ
 numbered number text = flat_map (byte_with (decimal number)) text

@@ -4,7 +4,7 @@ ghost use Rattle.std.specs.Process.{exit_status};
 
 use std::process::ExitCode;
 
-/// How many calls or runs gave what they must, and how many did not. A count stands still at its end.
+/// How many calls or runs gave what they must, and how many did not. A count stops at its end.
 #[derive(Clone, Copy, Debug)]
 pub struct Count {
     pub passed: u32,

@@ -1,7 +1,7 @@
 //! What programs of rows share: the files of rows that their words name, the lines of such a file and their parts, the
 //! files in memory that a row gives to what it calls, and the count of the rows that passed.
 //!
-//! A line `repeat 3 host 5` stands three times, `numbered 2 8 host #` is `host 8` and then `host 9`.
+//! A line `repeat 3 host 5` is read three times, `numbered 2 8 host #` is `host 8` and then `host 9`.
 #![tactic(auto)]
 
 mod count;

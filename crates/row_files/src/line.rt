@@ -4,19 +4,19 @@ ghost use Rattle.row_files.specs.Numbered.{numbered};
 
 use std::alloc::{AllocError, Global};
 
-/// A line of a file of rows, as often as it stands there.
+/// A line of a file of rows, as often as it is read.
 #[derive(Clone, Copy, Debug)]
 pub struct RowLine<'a> {
-    /// How often it stands.
+    /// How often it is read.
     pub times: u32,
-    /// What stands for `#` at the first time, and is one more at each later one; none where a `#` stays.
+    /// What takes the place of `#` at the first time, and is one more at each later one; none where a `#` stays.
     pub first: Option<u32>,
     pub text: &'a str,
 }
 
 impl<'a> RowLine<'a> {
-    /// What a line says. `repeat N LINE` and `numbered N FIRST LINE` stand N times, an empty line and one that begins
-    /// with `#` never, and any other once.
+    /// What a line says. `repeat N LINE` and `numbered N FIRST LINE` are read N times, an empty line and one that
+    /// begins with `#` never, and any other once.
     pub fn read(line: &'a str) -> RowLine<'a> {
         if line.is_empty() || line.starts_with('#') {
             return RowLine::plain(0, line);

@@ -1,4 +1,4 @@
-/// The parts of a text, read one behind another: words and numbers between blanks, say. A number that isn't one is 0, and
+/// The parts of a text, read one after another: words and numbers between blanks, say. A number that isn't one is 0, and
 /// that is noted, so that what reads them goes on in a straight line and asks once.
 #[derive(Clone, Copy)]
 pub struct Parts<'a> {
@@ -81,7 +81,7 @@ impl<'a> Parts<'a> {
     }
 }
 
-/// What stands in front of the first of these characters, and what behind it; without one all stands in front.
+/// What comes before the first of these characters, and what after it; without one all comes before.
 pub fn cut(text: &str, between: char) -> (&str, &str) {
     text.split_once(between).unwrap_or((text, ""))
 }

@@ -11,7 +11,7 @@ pub struct Words {
     pub only: String,
 }
 
-/// What the program's words say: the names of files, and behind `--only` a text.
+/// What the program's words say: the names of files, and after `--only` a text.
 pub fn words_of(rt: &(impl Env + AllocGlobal)) -> io::Result<Words> {
     let alloc = rt.alloc();
     let mut files = Vec::new(alloc);

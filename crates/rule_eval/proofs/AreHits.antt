@@ -30,7 +30,7 @@ places_from-are means test tells item place (rule ∷ rules) bits =
     by_case true is matched missed = inl ((tells rule item (bits_seen bits)).0 is, (places_from test item (place + 1) rules (bits_after bits rule), refl, matched))
     by_case false is matched missed = inr ((λ matches. false≢true (sym is ∙ (tells rule item (bits_seen bits)).1 matches)), missed)
 
--- so the list that is told with an item is that of all rules that match it, and no other is
+-- the list that is told with an item is that of all rules that match it, and no other is
 pub matching-hits : (means : Means) (trying : Trying) → Tells means trying.matches → (item : Item) (bits : Option Bits) (places : List ℕ)
     → (AreHits means trying.rules item bits places ↔ (places ≡ matching trying item bits))
 unfolding matching

@@ -58,7 +58,7 @@ fits-from rule head h =
     header_fits-from rule.proto rule.sports rule.dports rule.both head.body h.0
     (⊎_elim (λ way. inl (way.0.1, way.1.1)) (λ back. inr (back.0, (back.1.0.1, back.1.1.1))) h.1)
 
--- a content that isn't negated stands in the payload, where a way leads through the options
+-- a content that isn't negated occurs in the payload, where a way leads through the options
 content_occurs : (means : Means) (payload : List ℕ) (content : Content) (before after : Standing) → content.negated ≡ false → Leads means payload (opt.Content content) before after
     → (nocase : Bool) × (start : ℕ) × OccursAt (folded nocase payload) (folded nocase content.bytes) start
 unfolding Leads

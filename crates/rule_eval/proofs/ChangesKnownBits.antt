@@ -30,6 +30,6 @@ all_known-prop : (rules : List Rule) → IsProp (All ChangesKnownBits rules)
 all_known-prop rules =
     Π_prop λ place. Π_prop λ rule. Π_prop λ _. Π_prop λ at. Π_prop λ option. Π_prop λ _. known_change-prop (get_or (get_or rules place rule).opts at option)
 
--- nor does one of which no more is told than that it is sound
+-- where no more is told of rules than that they are sound, the bits that they change are known, too
 pub known_where_triable : (rules : List Rule) → ∥ All IsTriable rules ∥₁ → All ChangesKnownBits rules
 known_where_triable rules triable = ∥∥₁_elim triable (all_known-prop rules) (all_known rules)

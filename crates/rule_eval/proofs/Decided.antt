@@ -64,7 +64,7 @@ pub decided_if_some : {A : Type 0} (o : Option A) (P : A → Type 0) → ((x : A
 decided_if_some None P each = decided_yes tt
 decided_if_some (Some x) P each = each x
 
--- of a list, and of the numbers below another
+-- it is decided whether something holds of all of a list, and of all numbers below another
 pub decided_all : {X : Type 0} (P : X → Type 0) → ((x : X) → Decided (P x)) → (xs : List X) → Decided (All P xs)
 decided_all P each [] = decided_yes (All-nil P)
 decided_all P each (x ∷ xs) =
@@ -99,11 +99,11 @@ decided_each_below P each n =
     by_value : {Q : Type 0} → Decided Q → ((¬ Q) → Q) → Q
     by_value d other = elim d.0 as (λ b. Decides b _ → _) [ true ↦ λ h. h.0 refl | false ↦ λ h. other (λ q. false≢true (h.1 q)) ] d.1
 
--- there is a number, where none can be as great as another
+-- it is decided whether some number is of a kind, where those of the kind are below a bound
 pub decided_some : (P : ℕ → Type 0) → ((k : ℕ) → Decided (P k)) → (n : ℕ) → ((k : ℕ) → P k → k < n) → Decided ((k : ℕ) × P k)
 decided_some P each n bound = decided_like (λ h. (h.0, h.2)) (λ h. (h.0, bound h.0 h.1, h.1)) (decided_below P each n)
 
--- of some element of a list
+-- it is decided whether something holds of some element of a list
 pub decided_any : {X : Type 0} (P : X → Type 0) → ((x : X) → Decided (P x)) → (xs : List X) → Decided (Any P xs)
 decided_any {X = X} P each [] = decided_no (λ h. let below = h.2 in omega arith)
 decided_any {X = X} P each (x ∷ xs) = decided_like there back (decided_either (each x) (decided_any P each xs))

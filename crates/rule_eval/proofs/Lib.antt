@@ -2,7 +2,7 @@
 pub mod Decided
 -- whether some way leads through a rule's options is decided
 pub mod PayloadMatches
--- so some test tells which rules match
+-- some test tells which rules match
 pub mod Tells
 -- an item has one list of the rules that match
 pub mod AreHits

@@ -18,7 +18,7 @@ decided_none : (found : Option Span) → Decided (found ≡ None)
 decided_none None = decided_yes refl
 decided_none (Some span) = decided_no (λ is. cc)
 
--- bytes stand at a place
+-- it is decided whether bytes are at a place
 decided_occurs : (hay needle : List ℕ) (k : ℕ) → Decided (OccursAt hay needle k)
 decided_occurs hay needle k =
     decided_like (λ h. record { fits = h.0; reads = h.1 }) (λ h. (h.fits, h.reads))
@@ -56,7 +56,7 @@ decided_unless negated P p = decided_if negated (¬ P) P (decided_not p) p
 same_standing : (s : Standing) (place : ℕ) (values : List ℕ) → s.place ≡ place → s.values ≡ values → s ≡ record { place = place; values = values }
 same_standing s place values place_is values_is = λ i. record { place = place_is i; values = values_is i }
 
--- Where options lead: a fact about some standing behind an option is decided, if it is so of each standing.
+-- Where options lead: a fact about some standing after an option is decided, if it is so of each standing.
 module _ (Q : Standing → Type 0) (each : (s : Standing) → Decided (Q s)) where
   -- an option that leads to one standing, where a fact holds
   to_one : (C : Type 0) (behind : Standing) → Decided C → Decided ((after : Standing) × (C × (after ≡ behind)) × Q after)

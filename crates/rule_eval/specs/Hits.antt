@@ -40,19 +40,19 @@ pub record RuleMatches (means : Means) (rule : Rule) (item : Item) (bits : Bits)
   pub flowbits_hold : All (λ option. IsTrue (flowbit_holds bits option)) rule.opts
   pub payload : PayloadMatches means rule item.payload
 
--- the bits behind an option of a rule that matches
+-- the bits after an option of a rule that matches
 abbrev pub bits_behind : Bits → Opt → Bits
 bits_behind bits (opt.BitDo change bit) = changed change bit bits
 bits_behind bits option = bits
 
--- the bits behind a rule that matches; without a session there are none to change
+-- the bits after a rule that matches; without a session there are none to change
 abbrev pub bits_after : Option Bits → Rule → Option Bits
 bits_after bits rule = option_map (λ b. fold bits_behind b rule.opts) bits
 
 -- All rules that match, as a relation.
 
 -- these are the places, from this one on, of all rules that match, in ascending order: where a rule
--- matches, its place stands first, and the rules behind it see the bits that it leaves
+-- matches, its place comes first, and the rules after it see the bits that it leaves
 abbrev pub AreMatches : Means → Item → ℕ → List Rule → Option Bits → List ℕ → Type 0
 AreMatches means item place [] bits places = places ≡ []
 AreMatches means item place (rule ∷ rules) bits places =

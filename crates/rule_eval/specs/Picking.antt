@@ -14,15 +14,15 @@ abbrev pub matches_at : Test → List Rule → Item → Option Bits → ℕ → 
 matches_at test rules item bits place =
     option_map_or (λ (rule : Rule). test rule item (bits_seen bits)) (slice_get rules place) false
 
--- the bits behind the rule at a place, which matches
+-- the bits after the rule at a place, which matches
 abbrev pub bits_behind_at : List Rule → Option Bits → ℕ → Option Bits
 bits_behind_at rules bits place = option_map_or (λ (rule : Rule). bits_after bits rule) (slice_get rules place) bits
 
--- the bits behind the rules at these places, which match
+-- the bits after the rules at these places, which match
 abbrev pub bits_after_all : List Rule → Option Bits → List ℕ → Option Bits
 bits_after_all rules bits places = fold (bits_behind_at rules) bits places
 
--- those of these places at which the rule matches
+-- of these places those at which the rule matches
 unfoldable pub picked : Test → List Rule → Item → Option Bits → List ℕ → List ℕ
 picked test rules item bits [] = []
 picked test rules item bits (place ∷ places) =

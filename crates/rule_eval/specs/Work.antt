@@ -8,10 +8,10 @@ use Rattle.std.specs.Option.{option_map_or}
 use Rattle.rule_types.specs.declared.rule.Rule.{Rule}
 use Rattle.option_eval.specs.Values.{most_visits}
 
--- of the rule at a place, on a payload of so many bytes
+-- the visits that the rule at a place takes at most, on a payload of `size` bytes
 abbrev pub visits_at : List Rule → ℕ → ℕ → ℕ
 visits_at rules size place = option_map_or (λ (rule : Rule). most_visits rule.opts size) (slice_get rules place) 0
 
--- of the rules at these places, one after another
+-- the visits that the rules at these places take at most together, one after another
 abbrev pub visits_among : List Rule → ℕ → List ℕ → ℕ
 visits_among rules size places = sum_by (visits_at rules size) places

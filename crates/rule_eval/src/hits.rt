@@ -128,7 +128,7 @@ fn pick_all<P: Pattern, L: Ledger>(
     Ok(found)
 }
 
-/// All rules of the set that match an item, and the bits of its session behind them: each rule sees the
+/// All rules of the set that match an item, and the bits of its session after them: each rule sees the
 /// bits that the rules before it left (specs/Hits). `places` are the item's candidates, so that no other
 /// rule is tried. An item without a session has no bits, None. The visits that all of them take are counted, and are
 /// at most the sum of those of each (specs/Work), also where memory is lacking.

@@ -2,8 +2,7 @@
 //!
 //! A rule is tried on an item by `rule_matches`, which answers exactly what specs/Hits says: header,
 //! fields, bits of the session and payload. `matching_among` finds all rules that match an item, each with
-//! the bits that those before it left, among the candidates of fast_pattern. The lanes of flows stand on this
-//! crate.
+//! the bits that those before it left, among the candidates of fast_pattern. The lanes of flows rest on this crate.
 #![tactic(auto)]
 
 mod hits;

@@ -46,7 +46,7 @@ frag_letters-nil : (letters : Letters) → frag_letters letters [] ≡ if_any le
 unfolding frag_letters
 frag_letters-nil letters = refl
 
--- the step at a place behind which so many bytes are left
+-- the step at a place after which `left` bytes are left
 step_left : (letters : Letters) (text : List ℕ) (i left : ℕ) → left + (i + 1) ≡ length text
     → frag_step (length (drop (i + 1) text) == 0) letters (get_or text i 0) ≡ frag_step (left == 0) letters (get_or text i 0)
 step_left letters text i left e =

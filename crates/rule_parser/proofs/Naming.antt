@@ -19,7 +19,7 @@ begins_same names = take_all (length names) names (omega arith)
 
 pub ruleset naming = (gives_with, begins_same)
 
--- the names before stand in front of those behind two steps
+-- the names before are in front of those after two steps
 pub begins_begins : (first second third : List (List ℕ)) → Begins first second → Begins second third → Begins first third
 begins_begins first second third a b =
     let within : length first ≤ length second = omega (arith, ap length a, length-take (length first) second) in

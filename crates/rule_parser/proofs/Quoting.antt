@@ -10,7 +10,7 @@ use Rattle.rule_parser.specs.declared.quoted.Place.TheVariants.{Plain}
 use Rattle.rule_parser.specs.declared.quoted.Step.{Step}
 use Rattle.rule_parser.specs.Quotes.{closing_len, step_at, bytes_of, end_bytes, meaning}
 
--- these bytes in front
+-- bytes with these in front, if there are any
 abbrev pub in_front : List ℕ → Option (List ℕ) → Option (List ℕ)
 in_front front behind = option_map (λ rest. front ++ rest) behind
 
@@ -35,7 +35,7 @@ meaning-nil : (style : Style) (place : Place) (out : List ℕ) → in_front out 
 unfolding meaning
 meaning-nil style place out = refl
 
--- what was given and the meaning behind it, one byte on
+-- what was given and the meaning after it, one byte on
 pub meaning-step : (style : Style) (place : Place) (text out : List ℕ) (i : ℕ) (step : Step) → i < length text → step_at style place (get_or text i 0) ≡ Some step
     → in_front out (meaning style place (drop i text)) ≡ in_front (out ++ bytes_of step.slash step.byte) (meaning style step.place (drop (i + 1) text))
 meaning-step style place text out i step h some =
@@ -46,7 +46,7 @@ pub meaning-stop : (style : Style) (place : Place) (text out : List ℕ) (i : �
 meaning-stop style place text out i h none =
     at_drop_more (λ rest. in_front out (meaning style place rest)) text i 0 h ∙ meaning-none style place (get_or text i 0) (drop (i + 1) text) out none
 
--- behind the last byte, what the end gives
+-- after the last byte, what the end gives
 pub meaning-end : (style : Style) (place : Place) (text out : List ℕ) (i : ℕ) → length text ≤ i → in_front out (meaning style place (drop i text)) ≡ in_front out (end_bytes style place)
 meaning-end style place text out i h = at_drop_all (λ rest. in_front out (meaning style place rest)) text i h ∙ meaning-nil style place out
 
@@ -59,7 +59,7 @@ meaning-whole style place text out new i found step so_far h ends is pushed =
     ap (or_kind OptionValue) (so_far ∙ meaning-end style place text out i h ∙ ap (in_front out) (sym ends)
     ∙ ap (λ (f : Option Step). in_front out (option_map (λ (s : Step). bytes_of s.slash s.byte) f)) is) ∙ ap Ok (sym pushed)
 
--- and of one that is looked at one byte further
+-- the meaning of a text that is looked at one byte further
 pub meaning-next : (style : Style) (place : Place) (text out new : List ℕ) (i : ℕ) (step : Step)
     → meaning style Plain text ≡ in_front out (meaning style place (drop i text)) → i < length text
     → step_at style place (get_or text i 0) ≡ Some step → new ≡ out ++ bytes_of step.slash step.byte
@@ -67,7 +67,7 @@ pub meaning-next : (style : Style) (place : Place) (text out new : List ℕ) (i 
 meaning-next style place text out new i step so_far h some pushed =
     so_far ∙ meaning-step style place text out i step h some ∙ ap (λ (o : List ℕ). in_front o (meaning style step.place (drop (i + 1) text))) (sym pushed)
 
--- a place so many bytes later
+-- a place `count` bytes later
 abbrev pub shifted : ℕ → Option ℕ → Option ℕ
 shifted count place = option_map (λ len. count + len) place
 

@@ -1,4 +1,4 @@
--- The flowbit names behind a step that may add some, beside what the step gives.
+-- The flowbit names after a step that may add some, beside what the step gives.
 --
 -- The names before stay in front, also where a step is refused, so that they are found again.
 -- To try it on: an `Ok` of a draft beside these names gives what is meant if that is the pair of both.
@@ -13,19 +13,19 @@ GivesWith (Ok x) names meant = meant ≡ Ok (x, names)
 GivesWith (Err NoMemory) names meant = ⊤
 GivesWith (Err (Wrong why)) names meant = meant ≡ Err why
 
--- the same where what is meant is a relation
+-- an answer beside these names is one that is meant, by a relation; want of memory is for any
 abbrev pub IsGivenWith : {X : Type 0} → Result X (Stop Fault) → List (List ℕ) → (Result (X × List (List ℕ)) Fault → Type 0)
     → Type 0
 IsGivenWith (Ok x) names IsMeant = IsMeant (Ok (x, names))
 IsGivenWith (Err NoMemory) names IsMeant = ⊤
 IsGivenWith (Err (Wrong why)) names IsMeant = IsMeant (Err why)
 
--- the same of a number behind the names
+-- a number after these names is what is meant; want of memory is for any
 abbrev pub GivesNumber : Result ℕ (Stop Fault) → List (List ℕ) → Result (List (List ℕ) × ℕ) Fault → Type 0
 GivesNumber (Ok number) names meant = meant ≡ Ok (names, number)
 GivesNumber (Err NoMemory) names meant = ⊤
 GivesNumber (Err (Wrong why)) names meant = meant ≡ Err why
 
--- the names before stand in front
+-- the names before are in front
 abbrev pub Begins : List (List ℕ) → List (List ℕ) → Type 0
 Begins old new = take (length old) new ≡ old

@@ -1,6 +1,6 @@
 -- Numbers in the payload: byte_test, byte_jump, byte_extract and isdataat (Snort Users Manual 2.9, section 3.5).
 --
--- Parts stand between commas; the blanks around a part are dropped. The first parts have their places, then
+-- Parts are between commas; the blanks around a part are dropped. The first parts have their places, then
 -- words follow in any order, each at most once. A number of 1 to 4 bytes is read, or of 1 to 10 with the
 -- word `string`; `dec`, `hex` and `oct` want `string`, at most one of them. Of `big` and `little` together
 -- `little` holds (own). The word `dce` and the operator `^` are outside the profile. What needs a later part
@@ -37,8 +37,8 @@ use Rattle.rule_parser.specs.Drafts.{kept}
 use Rattle.net_lists.specs.Variables.{is_name}
 use Rattle.rule_parser.specs.Names.{place_among, signed_or_named, number_or_named}
 
--- A part of a value, with the number of the line's bytes that are left where it begins, and what stands
--- behind its comma, if a comma (44) stands there.
+-- A part of a value, with the number of the line's bytes that are left where it begins, and what comes
+-- after its comma, if there is a comma (44).
 pub record Part : Type 0 where
   pub text : List ℕ
   pub left : ℕ
@@ -66,7 +66,7 @@ part_to left text (Some place) = record {
 unfoldable pub first_part : ℕ → List ℕ → Part
 first_part left text = part_to left text (comma text)
 
--- the part behind one, where one stands there
+-- the part after one, where there is one
 unfoldable pub next_part : Part → Result Part Fault
 next_part part = do
   text ← or_kind OptionValue part.behind
@@ -86,11 +86,11 @@ no_words = record {
   post = None;
 }
 
--- a word that stands once
+-- a word that may be given once
 abbrev pub once_only : Bool → Words → Result Words Fault
 once_only stands next = if stands then Err OptionValue else Ok next
 
--- the numbers behind the words `multiplier`, `post_offset` and `align`
+-- the numbers after the words `multiplier`, `post_offset` and `align`
 unfoldable pub with_times : Words → List ℕ → Result Words Fault
 with_times words number = do
   times ← or_kind OptionValue (number_in 0 65535 number)
@@ -141,7 +141,7 @@ word_of Test = shared_word
 word_of Jump = jump_word
 word_of Extract = extract_word
 
--- all words behind the parts that have their places
+-- all words after the parts that have their places
 unfoldable pub words_of : Which → Option (List ℕ) → Result Words Fault
 words_of which None = Ok no_words
 words_of which (Some text) = draft_behind (word_of which) no_words (comma_parts text)
@@ -168,7 +168,7 @@ jump_of fetch words =
 abbrev pub extract_of : Fetch → ℕ → Words → Opt
 extract_of fetch name words = opt.ByteExtract fetch name (unwrap_or words.times 1) (unwrap_or words.align 0)
 
--- an operator of byte_test behind its `!`, if one stands there
+-- an operator of byte_test after its `!`, if there is one
 unfoldable pub operator_of : Bool → List ℕ → Result Cmp Fault
 operator_of negated text =
     if bytes_eq text (codes "<") then Ok cmp.Lt
@@ -185,7 +185,7 @@ operator_of negated text =
 abbrev pub offset_of : List (List ℕ) → Part → Result Num Fault
 offset_of names part = signed_or_named (negsuc 65534) (pos 65535) names part.left part.text
 
--- what byte_test compares with, and how: the parts behind the first one, with the last of them
+-- what byte_test compares with, and how: the parts after the first one, with the last of them
 pub record Comparison : Type 0 where
   pub negated : Bool
   pub cmp : Cmp
@@ -201,7 +201,7 @@ seen_comparison comparison = record {
   part = seen comparison.part;
 }
 
--- the comparison behind the first part
+-- the comparison after the first part
 unfoldable pub comparison_of : List (List ℕ) → Part → Result Comparison Fault
 comparison_of names count = do
   operator ← next_part count
@@ -210,7 +210,7 @@ comparison_of names count = do
   number ← number_or_named 0 4294967295 names against.left against.text
   Ok (record { negated = (negation operator.text).0; cmp = cmp; value = number; part = against })
 
--- what the value of `byte_test:n,[!]op,value,offset[,..]` says, behind these names
+-- what the value of `byte_test:n,[!]op,value,offset[,..]` says, after these names
 unfoldable pub byte_test : List (List ℕ) → ℕ → List ℕ → Result Opt Fault
 byte_test names left value = do
   let count = first_part left value
@@ -225,7 +225,7 @@ byte_test names left value = do
 unfoldable pub byte_test_option : Draft → ℕ → List ℕ → Result Draft Fault
 byte_test_option draft left value = byte_test draft.names left value >>= kept draft
 
--- what the value of `byte_jump:n,offset[,..]` says, behind these names
+-- what the value of `byte_jump:n,offset[,..]` says, after these names
 unfoldable pub byte_jump : List (List ℕ) → ℕ → List ℕ → Result Opt Fault
 byte_jump names left value = do
   let count = first_part left value
@@ -254,7 +254,7 @@ pub record Extraction : Type 0 where
 abbrev pub seen_extraction : LentExtraction → Extraction
 seen_extraction found = record { fetch = found.fetch; words = found.words; name = found.name.now }
 
--- what the value of `byte_extract:n,offset,name[,..]` says, behind these names
+-- what the value of `byte_extract:n,offset,name[,..]` says, after these names
 unfoldable pub byte_extract : List (List ℕ) → ℕ → List ℕ → Result Extraction Fault
 byte_extract names left value = do
   let count = first_part left value
@@ -266,7 +266,7 @@ byte_extract names left value = do
   fetch ← fetch_of bytes offset words
   Ok (record { fetch = fetch; words = words; name = name.text })
 
--- with a byte_extract, and its name among the others
+-- the draft with a byte_extract, and its name among the others
 unfoldable pub with_extraction : Draft → Extraction → Result Draft Fault
 with_extraction draft found = do
   names ← with_name draft.names found.name (place_among found.name draft.names)
@@ -275,7 +275,7 @@ with_extraction draft found = do
 unfoldable pub byte_extract_option : Draft → ℕ → List ℕ → Result Draft Fault
 byte_extract_option draft left value = byte_extract draft.names left value >>= with_extraction draft
 
--- one word behind the number of isdataat: whether it is `relative`
+-- one word after the number of isdataat: whether it is `relative`
 abbrev pub data_word : List ℕ → Result Bool Fault
 data_word word =
     if bytes_eq word (codes "relative") then Ok true else if bytes_eq word (codes "rawbytes") then Ok false else Err OptionValue
@@ -293,7 +293,7 @@ abbrev pub parts_behind : Option (List ℕ) → List (List ℕ)
 parts_behind None = []
 parts_behind (Some text) = comma_parts text
 
--- what the value of `isdataat:[!]n[,relative][,rawbytes]` says, behind these names
+-- what the value of `isdataat:[!]n[,relative][,rawbytes]` says, after these names
 unfoldable pub isdataat : List (List ℕ) → ℕ → List ℕ → Result Opt Fault
 isdataat names left value = do
   let place = first_part left value

@@ -3,11 +3,11 @@
 -- `content:[!]"text"` has 1 to 2048 bytes. A modifier speaks of the last content before it. It is misplaced
 -- where there is none, where the content has it already, where it would mix `offset` or `depth` with
 -- `distance` or `within`, and where it is a second `fast_pattern` of the rule; that comes before any fault
--- of its value. A `fast_pattern` on a negated content, or `fast_pattern:only`, does not stand with a place
+-- of its value. A `fast_pattern` on a negated content, or `fast_pattern:only`, does not go with a place
 -- or a room; of the two the later one has the wrong value (own). A name in a modifier must be extracted
 -- before its content (own).
 -- To try it on: `content:"ab"; depth:2; offset:1;` is bytes 1 to 3; `depth:1` is a wrong value there, and
--- `distance:1` behind `depth:2` is misplaced.
+-- `distance:1` after `depth:2` is misplaced.
 use Rattle.std.specs.Prelude.{ℕ, ◌+◌, ◌==◌, ◌&&◌, ◌||◌, Bool, true, false, not, pos, negsuc, Option, Some, None, Result, Ok, Err, List, [], ◌∷◌, length, take, bytes_eq, codes, nat_le, is_some, if◌then◌else◌}
 use Rattle.edge_io.specs.OnResult.{◌>>=◌}
 use Rattle.net_lists.specs.Cutting.{comma_parts}
@@ -29,7 +29,7 @@ use Rattle.rule_parser.specs.Names.{signed_or_named, named}
 use Rattle.rule_parser.specs.Quotes.{meaning}
 use Rattle.rule_parser.specs.Texts.{quoted_whole}
 
--- whether a `!` (33) stands in front, and what stands behind it
+-- whether a `!` (33) is in front, and what comes after it
 abbrev pub negation : List ℕ → Bool × List ℕ
 negation [] = (false, [])
 negation (first ∷ rest) = if first == 33 then (true, rest) else (false, first ∷ rest)
@@ -74,7 +74,7 @@ content_option draft value = do
   bytes ← or_kind OptionValue (meaning Bytes Plain inside)
   with_bytes draft (negation value).0 bytes
 
--- the last content, where one stands, and the draft without it
+-- the last content, where there is one, and the draft without it
 unfoldable pub apart : Draft → Result (Held × Draft) Fault
 apart draft = or_kind Misplaced draft.held >>= λ held. Ok (held, record draft { held = None })
 
@@ -108,15 +108,15 @@ rawbytes_option draft value = do
 abbrev pub is_placed : Content → Bool
 is_placed content = (is_some content.from || is_some content.room) && not content.relative
 
--- whether `offset`, or `distance`, may not stand any more
+-- whether `offset`, or `distance`, may not be given any more
 abbrev pub bars_from : Bool → Content → Bool
 bars_from relative content = is_some content.from || (if relative then is_placed content else content.relative)
 
--- whether `depth`, or `within`, may not stand any more
+-- whether `depth`, or `within`, may not be given any more
 abbrev pub bars_room : Bool → Content → Bool
 bars_room relative content = is_some content.room || (if relative then is_placed content else content.relative)
 
--- the value of a modifier that tells a place or a room, where it may stand
+-- the value of a modifier that tells a place or a room, where it may be given
 abbrev pub place_text : Bool → Bool → Option (List ℕ) → Result (List ℕ) Fault
 place_text bars placeless value = if bars then Err Misplaced else if placeless then Err OptionValue else or_kind OptionValue value
 
@@ -124,7 +124,7 @@ place_text bars placeless value = if bars then Err Misplaced else if placeless t
 abbrev pub known_before : List (List ℕ) → Held → List (List ℕ)
 known_before names held = take held.known names
 
--- what `offset` makes of the last content, or `distance` where `relative` holds; so many bytes of the line are
+-- what `offset` makes of the last content, or `distance` where `relative` holds; `left` bytes of the line are
 -- left where the value begins
 unfoldable pub with_from : Bool → Held → List (List ℕ) → ℕ → Option (List ℕ) → Result Held Fault
 with_from relative held names left value = do
@@ -138,7 +138,7 @@ from_option relative draft left value = do
   held ← with_from relative parts.0 parts.1.names left value
   Ok (with_last parts.1 held)
 
--- how far a content of so many bytes may go: as far as it is long at least, or as far as a name says
+-- how far a content of `size` bytes may go: as far as it is long at least, or as far as a name says
 abbrev pub room_of : ℕ → List (List ℕ) → ℕ → List ℕ → Option ℕ → Result Num Fault
 room_of size known left text None = named known left text
 room_of size known left text (Some number) = if nat_le size number then Ok (num.Value (pos number)) else Err OptionValue
@@ -156,7 +156,7 @@ room_option relative draft left value = do
   held ← with_room relative parts.0 parts.1.names left value
   Ok (with_last parts.1 held)
 
--- a part of a content of so many bytes, from a place on
+-- a part of a content of `size` bytes, from a place on
 unfoldable pub fast_part : ℕ → List (List ℕ) → Result FastMode Fault
 fast_part size (first ∷ second ∷ []) = do
   from ← or_kind OptionValue (number_in 0 2048 first)
@@ -166,19 +166,19 @@ fast_part size [] = Err OptionValue
 fast_part size (only ∷ []) = Err OptionValue
 fast_part size (first ∷ second ∷ third ∷ more) = Err OptionValue
 
--- what the value of a `fast_pattern` says, for a content of so many bytes
+-- what the value of a `fast_pattern` says, for a content of `size` bytes
 unfoldable pub fast_mode : ℕ → Option (List ℕ) → Result FastMode Fault
 fast_mode size None = Ok fast.Yes
 fast_mode size (Some value) = if bytes_eq value (codes "only") then Ok fast.Only else fast_part size (comma_parts value)
 
--- it is `only`
+-- the fast pattern is `only`
 abbrev pub is_only : FastMode → Bool
 is_only fast.Only = true
 is_only fast.No = false
 is_only fast.Yes = false
 is_only (fast.Part from len) = false
 
--- what stands on the content: on a negated one a `fast_pattern` changes nothing
+-- the fast pattern that the content has: on a negated one a `fast_pattern` changes nothing
 abbrev pub fast_on : Bool → FastMode → FastMode
 fast_on negated mode = if negated then fast.No else mode
 
@@ -186,7 +186,7 @@ fast_on negated mode = if negated then fast.No else mode
 abbrev pub has_room : Content → Bool
 has_room content = is_some content.from || is_some content.room
 
--- a `fast_pattern` of this form may not stand on the content
+-- a `fast_pattern` of this form may not be given for the content
 abbrev pub bars_fast : FastMode → Content → Bool
 bars_fast mode content = (is_only mode && content.negated) || ((is_only mode || content.negated) && has_room content)
 

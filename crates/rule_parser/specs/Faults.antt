@@ -1,6 +1,6 @@
 -- The fault of a line as its reader gives it: its kind, and the place of what an unknown variable shows.
 --
--- To try it on: in a line of 20 bytes a name of 1 byte that begins 10 bytes before the end stands from 10 to 11.
+-- To try it on: in a line of 20 bytes a name of 1 byte that begins 10 bytes before the end goes from 10 to 11.
 use Rattle.std.specs.Prelude.{ℕ, ◌-◌}
 use Rattle.net_lists.specs.declared.stop.Stop.{Stop}
 use Rattle.net_lists.specs.declared.stop.Stop.TheVariants.{NoMemory, Wrong}
@@ -10,11 +10,11 @@ use Rattle.rule_parser.specs.declared.fault.RuleFault.{RuleFault}
 use Rattle.rule_parser.specs.declared.fault.RuleKind.{RuleKind}
 use Rattle.rule_parser.specs.declared.fault.RuleKind.TheVariants as kind
 
--- of this kind, at no place
+-- the fault of this kind, at no place
 abbrev pub plain : RuleKind → RuleFault
 plain kind = record { kind = kind; from = 0; to = 0 }
 
--- the fault in a line of so many bytes
+-- the fault in a line of `len` bytes
 unfoldable pub rule_fault : ℕ → Fault → RuleFault
 rule_fault len fault.Action = plain kind.Action
 rule_fault len fault.Protocol = plain kind.Protocol
@@ -31,7 +31,7 @@ rule_fault len (fault.Unknown left size) = record { kind = kind.UnknownVariable;
 rule_fault len fault.Limit = plain kind.Limit
 rule_fault len fault.OutsideProfile = plain kind.OutsideProfile
 
--- the fault of what stopped a reader, in a line of so many bytes
+-- the fault of what stopped a reader, in a line of `len` bytes
 abbrev pub stop_fault : ℕ → Stop Fault → RuleFault
 stop_fault len NoMemory = plain kind.NoMemory
 stop_fault len (Wrong why) = rule_fault len why

@@ -23,7 +23,7 @@ use Rattle.rule_types.specs.declared.option.Opt.TheVariants as opt
 use Rattle.rule_parser.specs.Drafts.{kept}
 use Rattle.rule_types.specs.Sound.{most_of}
 
--- the sign in front of a number, `<` (60), `=` (61), `>` (62), `!` (33), and what stands behind it
+-- the sign in front of a number, `<` (60), `=` (61), `>` (62), `!` (33), and what comes after it
 abbrev pub below_sign : List ℕ → Sign × List ℕ
 below_sign [] = (Below, [])
 below_sign (second ∷ rest) = if second == 61 then (UpTo, rest) else (Below, second ∷ rest)
@@ -116,12 +116,12 @@ abbrev pub ttl_to : List ℕ → Option ℕ → Result Opt Fault
 ttl_to text None = signed_compare field.Ttl text
 ttl_to text (Some place) = ttl_range (take place text) (drop (place + 1) text)
 
--- what stands behind a `>` in front, if one does
+-- what comes after a `>` in front, if there is one
 abbrev pub behind_above : List ℕ → Option (List ℕ)
 behind_above [] = None
 behind_above (first ∷ rest) = if first == 62 then Some rest else None
 
--- what a `dsize` says, by what stands behind a `<>`
+-- what a `dsize` says, by what comes after a `<>`
 abbrev pub dsize_to : List ℕ → List ℕ → Option (List ℕ) → Result Opt Fault
 dsize_to text low None = signed_compare field.Dsize text
 dsize_to text low (Some high) = dsize_range low high
@@ -164,7 +164,7 @@ compare_of field.IcmpSeq text = signed_compare field.IcmpSeq text
 unfoldable pub field_option : Field → Draft → List ℕ → Result Draft Fault
 field_option field draft value = compare_of field value >>= kept draft
 
--- `dsize`, which stands at most once
+-- `dsize`, which is given at most once
 unfoldable pub dsize_option : Draft → List ℕ → Result Draft Fault
 dsize_option draft value = do
   option ← compare_of field.Dsize value

@@ -3,8 +3,8 @@
 --
 -- `flow` has words between commas, at most one of each of four groups. `flags:[!*+]letters[,mask]`: the
 -- letters F S R P A U E C are the bits 1 to 128, `1` is C, `2` is E, and `0` is no bit; one of the signs `!`
--- (none of them), `*` (some), `+` (all, others too) may stand anywhere in the first part. `fragbits`: the
--- letters M D R are the bits 1, 2 and 4, with a sign before or behind them.
+-- (none of them), `*` (some), `+` (all, others too) may come anywhere in the first part. `fragbits`: the
+-- letters M D R are the bits 1, 2 and 4, with a sign before or after them.
 -- To try it on: `flags:S+A,12` is S and A among other flags, C and E aside; `flow:established,stateless`,
 -- `flags:+` and `fragbits:M+D` are wrong values.
 use Rattle.std.specs.Prelude.{ℕ, ◌==◌, ◌||◌, Bool, true, false, Option, Some, None, Result, Ok, Err, List, [], ◌∷◌, length, bytes_eq, codes, bit_or, is_some, unwrap_or, if◌then◌else◌}
@@ -23,7 +23,7 @@ use Rattle.rule_types.specs.declared.option.Opt.{Opt}
 use Rattle.rule_types.specs.declared.option.Opt.TheVariants as opt
 use Rattle.rule_parser.specs.Drafts.{kept}
 
--- nothing is asked
+-- a `flow` that asks nothing
 abbrev pub no_flow : FlowOpt
 no_flow = record { established = None; stateless = false; from_client = None; stream = None; frag = None }
 
@@ -60,13 +60,13 @@ flow_word flow word =
     then first_of_group (is_some flow.from_client) (record flow { from_client = Some false })
     else item_word flow word
 
--- `flow:w,..`, which stands at most once
+-- `flow:w,..`, which is given at most once
 unfoldable pub flow_option : Draft → List ℕ → Result Draft Fault
 flow_option draft value = do
   flow ← draft_behind flow_word no_flow (comma_parts value)
   if draft.flow then Err OptionValue else kept (record draft { flow = true }) (opt.Flow flow)
 
--- before the first letter
+-- the letters before the first one
 abbrev pub no_letters : Letters
 no_letters = record { mode = None; bits = 0; any = false }
 
@@ -86,21 +86,21 @@ flag_bit byte =
 abbrev pub frag_bit : ℕ → Option ℕ
 frag_bit byte = if byte == 77 then Some 1 else if byte == 68 then Some 2 else if byte == 82 then Some 4 else None
 
--- one bit more, if the byte is a letter
+-- the letters with one bit more, if the byte is a letter
 abbrev pub with_bit : Letters → Option ℕ → Option Letters
 with_bit letters None = None
 with_bit letters (Some bit) = Some (record letters { bits = bit_or letters.bits bit; any = true })
 
--- a sign, if the byte is one and none stands yet, or else a letter
+-- the letters with a sign, if the byte is one and there is none yet, or else a letter
 abbrev pub with_mode : Letters → Option Letters → Option Mode → Option Letters
 with_mode letters else_ None = else_
 with_mode letters else_ (Some sign) = if is_some letters.mode then None else Some (record letters { mode = Some sign })
 
--- the letters, where one stands
+-- the letters, where there is one
 abbrev pub if_any : Letters → Option Letters
 if_any letters = if letters.any then Some letters else None
 
--- with a letter of TCP flags, or with a sign where signs may stand
+-- the letters with a letter of TCP flags, or with a sign where signs may come
 unfoldable pub flag_step : Bool → Letters → ℕ → Option Letters
 flag_step signs letters byte = with_mode letters (with_bit letters (flag_bit byte)) (if signs then mode_of byte else None)
 
@@ -134,11 +134,11 @@ flags_of value = flags_parts (comma_parts value)
 unfoldable pub flags_option : Draft → List ℕ → Result Draft Fault
 flags_option draft value = flags_of value >>= kept draft
 
--- with a letter of fragment bits, or with a sign where the byte is the last one
+-- the letters with a letter of fragment bits, or with a sign where the byte is the last one
 unfoldable pub frag_step : Bool → Letters → ℕ → Option Letters
 frag_step last letters byte = with_mode letters (with_bit letters (frag_bit byte)) (if last then mode_of byte else None)
 
--- the letters of fragment bits, of which a sign may be the last byte where none stands yet
+-- the letters of fragment bits, of which a sign may be the last byte where there is none yet
 unfoldable pub frag_letters : Letters → List ℕ → Option Letters
 frag_letters letters [] = if_any letters
 frag_letters letters (byte ∷ rest) =
@@ -147,7 +147,7 @@ frag_letters letters (byte ∷ rest) =
       | Some next ↦ frag_letters next rest
     ]
 
--- the same behind a sign in front, if one stands there
+-- the letters of fragment bits after a sign in front, if there is one
 abbrev pub frag_signed : List ℕ → Option Letters
 frag_signed [] = None
 frag_signed (byte ∷ rest) = elim (mode_of byte) [

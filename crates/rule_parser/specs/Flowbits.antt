@@ -2,9 +2,9 @@
 -- `flowbits:noalert`.
 --
 -- A name has letters, digits, `.`, `_` and `-`. Names are numbered in the order in which rules first have
--- them, from 0 on, equal names alike, at most 1024. A name with `&` or `|`, a group behind the name, `setx`
+-- them, from 0 on, equal names alike, at most 1024. A name with `&` or `|`, a group after the name, `setx`
 -- and `reset` are outside the profile.
--- To try it on: the first rule's `flowbits:set,a` sets bit 0, and `flowbits:isset,b` behind it asks bit 1.
+-- To try it on: the first rule's `flowbits:set,a` sets bit 0, and `flowbits:isset,b` after it asks bit 1.
 use Rattle.std.specs.Prelude.{ℕ, ◌==◌, ◌&&◌, ◌||◌, Bool, true, false, not, Option, Some, None, Result, Ok, Err, List, [], ◌∷◌, ◌++◌, length, bytes_eq, codes, nat_le, is_some, if◌then◌else◌}
 use Rattle.std.specs.Char.{is_ascii_alphanumeric}
 use Rattle.std.specs.List.{list_all, list_any}
@@ -63,7 +63,7 @@ numbered names name None = if nat_le 1024 (length names) then Err Limit else Ok 
 abbrev pub with_names : List (List ℕ) → Result Draft Fault → Result (Draft × List (List ℕ)) Fault
 with_names names result = result >>= λ draft. Ok (draft, names)
 
--- a bit's name behind which nothing stands
+-- a bit's name, after which nothing comes
 unfoldable pub last_name : Part → Result (List ℕ) Fault
 last_name part = do
   name ← bit_name part.text
@@ -77,11 +77,11 @@ bit_parts names draft first bit = do
   numbering ← numbered names name (place_among name names)
   with_names numbering.0 (kept draft (bit_option bit numbering.1))
 
--- `noalert` behind which nothing stands
+-- `noalert`, after which nothing comes
 abbrev pub noalert : Draft → Part → Result Draft Fault
 noalert draft first = if is_some first.behind then Err OptionValue else Ok (record draft { noalert = true })
 
--- by the first part of the value
+-- what a `flowbits` makes of a draft, by the first part of its value
 unfoldable pub flowbits_parts : List (List ℕ) → Draft → Part → Result (Draft × List (List ℕ)) Fault
 flowbits_parts names draft first =
     if bytes_eq first.text (codes "noalert") then with_names names (noalert draft first)

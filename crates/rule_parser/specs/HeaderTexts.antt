@@ -1,4 +1,4 @@
--- A line as it is cut into the words of its header: from each word on, and behind the last.
+-- A line as it is cut into the words of its header: from each word on, and after the last.
 --
 -- To try it on: of `alert udp any any -> any 53 (sid:1;)` the text of the ports of the destination begins with
 -- `53`, and the text of the options with `(`.
@@ -18,7 +18,7 @@ pub record AreTexts (texts : HeaderTexts) (line : List ℕ) : Type 0 where
   pub dports : texts.dports.now ≡ from_word 6 line
   pub options : texts.options.now ≡ behind_header line
 
--- no blank stands in this text outside brackets, and it closes each bracket that it opens
+-- there is no blank in this text outside brackets, and it closes each bracket that it opens
 abbrev pub IsUncut : ℕ → List ℕ → Type 0
 IsUncut depth [] = depth ≡ 0
 IsUncut depth (byte ∷ rest) = ((depth == 0 && is_blank byte) ≡ false) × IsUncut (depth_behind depth byte) rest
@@ -28,12 +28,12 @@ abbrev pub BeginsFilled : List ℕ → Type 0
 BeginsFilled [] = ⊥
 BeginsFilled (byte ∷ rest) = is_blank byte ≡ false
 
--- each of these is a word
+-- each of these texts is a word
 abbrev pub AreWords : List (List ℕ) → Type 0
 AreWords [] = ⊤
 AreWords (word ∷ more) = IsUncut 0 word × BeginsFilled word × AreWords more
 
--- words as they are written, each with a blank behind it, and then this text
+-- words as they are written, each with a blank after it, and then this text
 unfoldable pub words_text : List (List ℕ) → List ℕ → List ℕ
 words_text [] rest = rest
 words_text (word ∷ more) rest = word ++ 32 ∷ words_text more rest
@@ -43,7 +43,7 @@ abbrev pub word_texts : HeaderTexts → List (List ℕ)
 word_texts texts = texts.action.now ∷ texts.proto.now ∷ texts.src.now ∷ texts.sports.now ∷ texts.direction.now ∷ texts.dst.now
     ∷ texts.dports.now ∷ []
 
--- a line that is written of seven words and what stands behind them is cut into these
+-- a line that is written of seven words and what comes after them is cut into these
 pub record AreCutInto (texts : HeaderTexts) (words : List (List ℕ)) (rest : List ℕ) : Type 0 where
   pub cut : map first_word (word_texts texts) ≡ words
   pub behind : texts.options.now ≡ rest

@@ -1,6 +1,6 @@
 -- The header of a rule (Snort Users Manual 2.9, section 3.2): `action proto src sport dir dst dport`.
 --
--- Words stand between blanks outside brackets; a word that lacks is read as an empty text. The words are
+-- Words are between blanks outside brackets; a word that lacks is read as an empty text. The words are
 -- looked at from left to right. An address word or a port word has its variables expanded whole before it is
 -- read as a list; a list of more than 1024 parts, and an expansion that is too long, are over the limit.
 -- To try it on: `alert udp $X any -> any any` is refused at X where X is not defined, before its direction
@@ -64,7 +64,7 @@ IsReadAs reads none text (Ok parts) = IsList reads text parts × (length parts �
 IsReadAs {B} reads none text (Err why) =
     ((why ≡ none) × ((parts : List (Part B)) → ¬ IsList reads text parts)) ⊎ ((why ≡ fault.Limit) × IsTooLong reads text)
 
--- an expansion, as a step of the line; so many bytes of the line are left where its word begins
+-- an expansion, as a step of the line; `left` bytes of the line are left where its word begins
 abbrev pub expanded_to : ℕ → Result (List ℕ) ExpandFault → Result (List ℕ) Fault
 expanded_to left (Ok text) = Ok text
 expanded_to left (Err (expand.Unknown from to)) = Err (fault.Unknown (left - from) (to - from))
@@ -111,7 +111,7 @@ IsHeader variables line =
       both = both;
     }))))))))
 
--- what stands behind the header
+-- what comes after the header
 abbrev pub behind_header : List ℕ → List ℕ
 behind_header line = from_word 7 line
 

@@ -17,7 +17,7 @@ use Rattle.rule_types.specs.declared.option.Num.TheVariants.{Value, Name}
 unfoldable pub place_among : List ℕ → List (List ℕ) → Option ℕ
 place_among text known = position (λ one. bytes_eq one text) known
 
--- a name with its place, if it is there; so many bytes of the line are left where it begins
+-- a name with its place, if it is there; `left` bytes of the line are left where it begins
 abbrev pub name_at : ℕ → List ℕ → Option ℕ → Result Num Fault
 name_at left text None = Err (Unknown left (length text))
 name_at left text (Some place) = Ok (Name place)

@@ -95,7 +95,7 @@ has_outside_front name =
     || starts_with nat_eq name (codes "dnp3_")
     || starts_with nat_eq name (codes "cip_")
 
--- the names outside the profile: buffers and decoders,
+-- names outside the profile: buffers and decoders
 unfoldable pub is_outside_payload : List ℕ → Bool
 is_outside_payload name =
     bytes_eq name (codes "uricontent")
@@ -111,7 +111,7 @@ is_outside_payload name =
     || bytes_eq name (codes "ipopts")
     || bytes_eq name (codes "byte_math")
 
--- what follows an alert,
+-- names outside the profile: what follows an alert
 unfoldable pub is_outside_action : List ℕ → Bool
 is_outside_action name =
     bytes_eq name (codes "logto")
@@ -125,7 +125,7 @@ is_outside_action name =
     || bytes_eq name (codes "count")
     || bytes_eq name (codes "threshold")
 
--- and others
+-- names outside the profile: all others
 unfoldable pub is_outside_other : List ℕ → Bool
 is_outside_other name =
     bytes_eq name (codes "protected_content")

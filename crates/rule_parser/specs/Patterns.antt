@@ -1,10 +1,10 @@
 -- Regular expressions (Snort Users Manual 2.9, section 3.5): `pcre:[!]"/re/flags"`.
 --
--- The expression stands between the first byte of the quoted text, a `/`, and the last `/` in it; a lone
+-- The expression is between the first byte of the quoted text, a `/`, and the last `/` in it; a lone
 -- backslash in front of the last `/` stays (own). The flags
 -- are i, s, m, x and R (the search begins where the option before ended), each at most once; any other
 -- capital letter is a flag of Snort's that this detector has not. The expression is looked at first, then the
--- flags, then what stands behind the closing quote (own). An expression is ASCII and has at most 4096 bytes (own).
+-- flags, then what comes after the closing quote (own). An expression is ASCII and has at most 4096 bytes (own).
 -- To try it on: `"/a\/b/Ri"` is the expression `a/b`, in either case, from where the option before ended;
 -- `"/a\/i"` is the expression `a\`, in either case.
 use Rattle.std.specs.Prelude.{ℕ, ◌-◌, ◌==◌, ◌&&◌, Bool, true, false, not, Option, Some, None, Result, Ok, Err, List, [], ◌∷◌, length, take, drop, nat_le, nat_lt, if◌then◌else◌}
@@ -64,8 +64,8 @@ is_ascii byte = nat_lt byte 128
 abbrev pub is_no_slash : ℕ → Bool
 is_no_slash byte = not (byte == 47)
 
--- what stands between a `/` in front and the last `/`, and what stands behind that; the rest of the text, cut
--- behind its last `/`
+-- what is between a `/` in front and the last `/`, and what comes after that; the rest of the text, cut
+-- after its last `/`
 abbrev pub slashed_at : List ℕ → ℕ → Option (List ℕ × List ℕ)
 slashed_at rest end = if end == 0 then None else Some (take (end - 1) rest, drop end rest)
 

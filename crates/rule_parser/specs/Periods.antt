@@ -12,7 +12,7 @@ use Rattle.rule_parser.specs.declared.fault.Fault.{Fault}
 use Rattle.rule_parser.specs.declared.fault.Fault.TheVariants.{OptionValue}
 use Rattle.rule_types.specs.declared.rule.Period.{Period}
 
--- what stands behind this word in a part
+-- what comes after this word in a part
 unfoldable pub behind_key : List ℕ → List ℕ → Result (List ℕ) Fault
 behind_key key part = if bytes_eq (first_word part) key then Ok (behind_word part) else Err OptionValue
 
@@ -21,7 +21,7 @@ unfoldable pub tracked : List ℕ → Result Bool Fault
 tracked side =
     if bytes_eq side (codes "by_src") then Ok true else if bytes_eq side (codes "by_dst") then Ok false else Err OptionValue
 
--- a number behind its word, at least 1
+-- a number after its word, at least 1
 unfoldable pub counted : List ℕ → List ℕ → Result ℕ Fault
 counted key part = do
   number ← behind_key key part
@@ -40,7 +40,7 @@ period_parts (first ∷ []) = Err OptionValue
 period_parts (first ∷ second ∷ []) = Err OptionValue
 period_parts (first ∷ second ∷ third ∷ fourth ∷ more) = Err OptionValue
 
--- `detection_filter`, which stands at most once
+-- `detection_filter`, which is given at most once
 unfoldable pub detection_filter_option : Draft → List ℕ → Result Draft Fault
 detection_filter_option draft value = do
   period ← period_parts (comma_parts value)

@@ -1,10 +1,10 @@
 -- Texts in double quotes.
 --
 -- A quoted text begins with `"` and ends at the next `"` that no backslash takes along; a backslash takes
--- the byte behind it along. What a backslash and its byte stand for depends on the option: in a message the
--- byte itself; in a content the byte itself, and between bars stand pairs of hex digits, with blanks between
+-- the byte after it along. What a backslash and its byte stand for depends on the option: in a message the
+-- byte itself; in a content the byte itself, and between bars are pairs of hex digits, with blanks between
 -- the pairs (Snort Users Manual 2.9, section 3.5.1); in a pattern `\"`, `\;`, `\:` and `\/` stand for their
--- second byte, and any other pair for itself, as does a backslash with no byte behind it (own).
+-- second byte, and any other pair for itself, as does a backslash with no byte after it (own).
 -- To try it on: `"a\"|62 63|"` is the content `a"bc` and the message `a"|62 63|`.
 use Rattle.std.specs.Prelude.{ℕ, ◌+◌, ◌-◌, ◌*◌, ◌==◌, ◌&&◌, ◌||◌, Bool, true, false, not, Option, Some, None, List, [], ◌∷◌, ◌++◌, take, drop, nat_le, is_some, if◌then◌else◌}
 use Rattle.std.specs.Option.{option_map}
@@ -16,17 +16,17 @@ use Rattle.rule_parser.specs.declared.quoted.Place.{Place}
 use Rattle.rule_parser.specs.declared.quoted.Place.TheVariants.{Plain, Escaped, Bars, Half}
 use Rattle.rule_parser.specs.declared.quoted.Step.{Step}
 
--- how many bytes stand before the first `"` (34) that no backslash (92) takes along
+-- how many bytes come before the first `"` (34) that no backslash (92) takes along
 unfoldable pub closing_len : Bool → List ℕ → Option ℕ
 closing_len escaped [] = None
 closing_len escaped (byte ∷ rest) =
     if not escaped && byte == 34 then Some 0 else option_map (λ len. len + 1) (closing_len (not escaped && byte == 92) rest)
 
--- a text and what stands behind it
+-- a text and what comes after it
 abbrev pub cut_at : List ℕ → ℕ → List ℕ × List ℕ
 cut_at text len = (take len text, drop (len + 1) text)
 
--- what stands between the quotes, as it is written, and what stands behind them
+-- what is between the quotes, as it is written, and what comes after them
 unfoldable pub quoted : List ℕ → Option (List ℕ × List ℕ)
 quoted [] = None
 quoted (first ∷ rest) = if first == 34 then option_map (cut_at rest) (closing_len false rest) else None
@@ -39,7 +39,7 @@ hex_value byte =
     else if nat_le 97 byte && nat_le byte 102 then Some (byte - 87)
     else None
 
--- goes on at this place, without a byte, with one, or with a backslash and one
+-- the step that goes on at this place, without a byte, with one, or with a backslash and one
 abbrev pub silent : Place → Step
 silent place = record { place = place; slash = false; byte = None }
 
@@ -59,35 +59,35 @@ has_bars Bytes = true
 has_bars Message = false
 has_bars Pattern = false
 
--- the byte behind a backslash stands without it
+-- the byte after a backslash is given without it
 abbrev pub frees : Style → ℕ → Bool
 frees Bytes byte = true
 frees Message byte = true
 frees Pattern byte = is_freed byte
 
--- What a byte gives: outside bars,
+-- What a byte gives outside bars.
 unfoldable pub plain_step : Style → ℕ → Step
 plain_step style byte =
     if byte == 92 then silent Escaped else if byte == 124 && has_bars style then silent Bars else giving Plain byte
 
--- behind a backslash,
+-- What a byte gives after a backslash.
 unfoldable pub escaped_step : Style → ℕ → Step
 escaped_step style byte = if frees style byte then giving Plain byte else giving_pair Plain byte
 
--- between bars,
+-- What a byte gives between bars.
 unfoldable pub bars_step : ℕ → Option Step
 bars_step byte =
     if byte == 124 then Some (silent Plain) else if is_blank byte then Some (silent Bars)
     else if is_some (hex_value byte) then Some (silent (Half byte)) else None
 
--- behind the first digit of a pair,
+-- What a byte gives after the first digit of a pair.
 unfoldable pub half_step : ℕ → ℕ → Option Step
 half_step first byte = do
   high ← hex_value first
   low ← hex_value byte
   Some (giving Bars (high * 16 + low))
 
--- and wherever it stands
+-- What a byte gives at its place.
 abbrev pub step_at : Style → Place → ℕ → Option Step
 step_at style Plain byte = Some (plain_step style byte)
 step_at style Escaped byte = Some (escaped_step style byte)
@@ -100,7 +100,7 @@ bytes_of slash None = []
 bytes_of true (Some byte) = 92 ∷ byte ∷ []
 bytes_of false (Some byte) = byte ∷ []
 
--- a backslash with no byte behind it is no pair: in a pattern it stands for itself
+-- a backslash with no byte after it is no pair: in a pattern it stands for itself
 abbrev pub lone_backslash : Style → Option (List ℕ)
 lone_backslash Bytes = None
 lone_backslash Message = None

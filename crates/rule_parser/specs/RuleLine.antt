@@ -1,8 +1,8 @@
--- What one rule line says: a rule and the flowbit names behind it, or the leftmost fault.
+-- What one rule line says: a rule and the flowbit names after it, or the leftmost fault.
 --
 -- A rule is `header (options)` (Snort Users Manual 2.9, sections 3.1 to 3.3). The header is looked at first,
--- then the parentheses: `(` stands behind the header and `)` is the last byte of the line. Then the options are taken
--- one after another, a fold of `rule_option`. Behind the last one a rule without `sid` is refused, and then
+-- then the parentheses: `(` comes after the header and `)` is the last byte of the line. Then the options are taken
+-- one after another, a fold of `rule_option`. After the last one a rule without `sid` is refused, and then
 -- one whose class there is not.
 -- To try it on: `alert udp any any -> any any (msg:"t"; content:"abc"; sid:1;)` is a rule with one content;
 -- without its `sid` it lacks that, and without its last byte it has a fault of syntax.
@@ -29,14 +29,14 @@ use Rattle.rule_parser.specs.Headers.{After, IsHeader, behind_header}
 use Rattle.rule_parser.specs.RuleOption.{rule_option}
 use Rattle.rule_parser.specs.Written.{outside, option_texts}
 
--- What stands between a `(` (40) in front and the last byte, a `)` (41), of what is left of the line.
+-- What is between a `(` (40) in front and the last byte, a `)` (41), of what is left of the line.
 unfoldable pub in_parentheses : List ℕ → Option (List ℕ)
 in_parentheses text =
     if (nat_le 2 (length text) && slice_index text 0 == 40) && slice_index text (length text - 1) == 41
     then Some (take (length text - 2) (drop 1 text)) else None
 
--- The draft and the flowbit names behind all options, of which these texts are left; so many bytes of the
--- line are left where the first of them begins. Behind the last `;` only blanks may stand.
+-- The draft and the flowbit names after all options, of which these texts are left; `left` bytes of the
+-- line are left where the first of them begins. After the last `;` only blanks may come.
 unfoldable pub rule_options : List Class → List (List ℕ) → Draft → ℕ → List (List ℕ) → Result (Draft × List (List ℕ)) Fault
 rule_options classes names draft left [] = Ok (draft, names)
 rule_options classes names draft left (text ∷ []) = if list_all is_blank text then Ok (draft, names) else Err OptionSyntax
@@ -44,7 +44,7 @@ rule_options classes names draft left (text ∷ next ∷ more) =
     rule_option classes names draft left text >>= λ behind.
     rule_options classes behind.1 behind.0 (left - (length text + 1)) (next ∷ more)
 
--- the draft and the names behind these texts of options, which are those of what stands between the parentheses
+-- the draft and the names after these texts of options, which are those of what is between the parentheses
 abbrev pub options_of : List Class → List (List ℕ) → List ℕ → List (List ℕ) → Result (Draft × List (List ℕ)) Fault
 options_of classes names inside texts = rule_options classes names empty_draft (length inside + 1) texts
 
@@ -54,7 +54,7 @@ class_of None = Ok None
 class_of (Some (class.Known place)) = Ok (Some place)
 class_of (Some class.Unknown) = Err UnknownClass
 
--- the class is one of so many, where it is one of the configuration's
+-- the class is one of `count`, where it is one of the configuration's
 abbrev pub IsClassOf : ℕ → Option ClassName → Type 0
 IsClassOf count None = ⊤
 IsClassOf count (Some (class.Known place)) = place < count
@@ -96,7 +96,7 @@ finished classes header draft = do
     period = draft.period;
   })
 
--- what stands behind a header: a rule, and all flowbit names behind it
+-- what comes after a header: a rule, and all flowbit names after it
 unfoldable pub rule_body : List Class → List (List ℕ) → Header → List ℕ → Result (Rule × List (List ℕ)) Fault
 rule_body classes names header text = do
   inside ← or_kind OptionSyntax (in_parentheses text)
@@ -104,12 +104,12 @@ rule_body classes names header text = do
   rule ← finished classes header behind.0
   Ok (rule, behind.1)
 
--- The meaning of a line, with the flowbit names before it: the rule and the names behind it, or a fault.
+-- The meaning of a line, with the flowbit names before it: the rule and the names after it, or a fault.
 unfoldable pub IsRuleLine : Variables → List Class → List (List ℕ) → List ℕ → Result (Rule × List (List ℕ)) Fault → Type 0
 IsRuleLine variables classes names line =
     After (IsHeader variables line) (λ header answer. answer ≡ rule_body classes names header (behind_header line))
 
--- What a reader of a line answers, in a line of so many bytes: the rule, with the names that stand then, or the
+-- What a reader of a line answers, in a line of `len` bytes: the rule, with the names that there are then, or the
 -- fault; or want of memory, for any line.
 abbrev pub IsAnswered : ℕ → Result Rule RuleFault → List (List ℕ) → (Result (Rule × List (List ℕ)) Fault → Type 0) → Type 0
 IsAnswered len (Ok rule) names IsLine = IsLine (Ok (rule, names))
@@ -122,7 +122,7 @@ AnswersAs len (Ok rule) names meant = meant ≡ Ok (rule, names)
 AnswersAs len (Err fault) names meant =
     (fault ≡ plain NoMemory) ⊎ ((why : Fault) × (meant ≡ Err why) × (fault ≡ rule_fault len why))
 
--- a line has a meaning: it is a rule, with the flowbit names behind it, or it is refused for a fault other than want of
+-- a line has a meaning: it is a rule, with the flowbit names after it, or it is refused for a fault other than want of
 -- memory
 abbrev pub HasMeaning : Variables → List Class → List (List ℕ) → List ℕ → Type 0
 HasMeaning variables classes names line =

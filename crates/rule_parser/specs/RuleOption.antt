@@ -1,9 +1,9 @@
--- One option of a rule: what it makes of what stands before it, or the kind of its fault.
+-- One option of a rule: what it makes of what comes before it, or the kind of its fault.
 --
--- An option is refused by what stands before it and by its own text alone. A name that is empty is a fault of
+-- An option is refused by what comes before it and by its own text alone. A name that is empty is a fault of
 -- syntax; a name that is none is outside the profile where the list of such names has it, and unknown else.
 -- An option that wants a value and has none has a wrong value.
--- To try it on: `sid:7` behind `sid:6`, `sid` and `nocase:` behind a content are wrong values; `nocase`
+-- To try it on: `sid:7` after `sid:6`, `sid` and `nocase:` after a content are wrong values; `nocase`
 -- before any content is misplaced, and `http_uri` is outside the profile.
 use Rattle.std.specs.Prelude.{ℕ, ◌==◌, true, false, Option, Some, None, Result, Ok, List, length, bytes_eq, codes, if◌then◌else◌}
 use Rattle.edge_io.specs.OnResult.{◌>>=◌}
@@ -111,7 +111,7 @@ named_option classes names draft left value (name.Session n) = with_names names 
 named_option classes names draft left value (name.Field n) = with_names names (with_value value (field_option n draft))
 named_option classes names draft left value name.Flowbits = with_value value (flowbits_option names draft)
 
--- An option of a rule: the draft and the flowbit names behind it. So many bytes of the line are left where
+-- An option of a rule: the draft and the flowbit names after it. `left` bytes of the line are left where
 -- its text begins; `names` are the flowbit names of this rule so far and of the rules before.
 unfoldable pub rule_option : List Class → List (List ℕ) → Draft → ℕ → List ℕ → Result (Draft × List (List ℕ)) Fault
 rule_option classes names draft left text = do

@@ -62,18 +62,18 @@ size_parts (first ∷ second ∷ third ∷ fourth ∷ more) = Err OptionValue
 unfoldable pub stream_size_option : Draft → List ℕ → Result Draft Fault
 stream_size_option draft value = size_parts (comma_parts value) >>= kept draft
 
--- on or off
+-- whether a word says on or off
 unfoldable pub switched : List ℕ → Result Bool Fault
 switched text =
     if bytes_eq text (codes "enable") then Ok true else if bytes_eq text (codes "disable") then Ok false
     else if bytes_eq text (codes "fastpath") then Err OutsideProfile else Err OptionValue
 
--- no part stands behind the last
+-- no part comes after the last
 unfoldable pub quiet_end : List (List ℕ) → Result Bool Fault
 quiet_end [] = Ok true
 quiet_end (next ∷ more) = if bytes_eq next (codes "fastpath") then Err OutsideProfile else Err OptionValue
 
--- whether `noalert` stands behind the side, as the last part
+-- whether `noalert` comes after the side, as the last part
 unfoldable pub quiet : List (List ℕ) → Result Bool Fault
 quiet [] = Ok false
 quiet (first ∷ rest) =

@@ -1,9 +1,9 @@
 -- Options that name a rule: its message, its numbers, its class and its priority.
 --
 -- (Snort Users Manual 2.9, section 3.4.) `gid`, `sid`, `rev` and `priority` are whole numbers, `gid` and
--- `sid` at least 1; each of the six stands at most once. `reference` and `metadata` say nothing that this
+-- `sid` at least 1; each of the six is given at most once. `reference` and `metadata` say nothing that this
 -- detector uses: their values are not looked at. A message has at most 1024 bytes, a limit of our own. The
--- class is looked up at once; that there is none is a fault only behind the last option, an empty name is a
+-- class is looked up at once; that there is none is a fault only after the last option, an empty name is a
 -- wrong value at once.
 -- To try it on: `sid:0`, a second `sid` and `sid` without a value are wrong values.
 use Rattle.std.specs.Prelude.{ℕ, ◌||◌, ◌==◌, Bool, Option, Some, None, Result, Ok, Err, List, length, nat_le, is_some, if◌then◌else◌}
@@ -19,7 +19,7 @@ use Rattle.rule_parser.specs.declared.quoted.Style.TheVariants.{Message}
 use Rattle.rule_parser.specs.declared.quoted.Place.TheVariants.{Plain}
 use Rattle.rule_parser.specs.Quotes.{quoted, meaning}
 
--- a number that may stand once
+-- a number that may be given once
 unfoldable pub once : Option ℕ → ℕ → List ℕ → Result ℕ Fault
 once before least value = do
   number ← or_kind OptionValue (number_in least 4294967295 value)
@@ -49,13 +49,13 @@ priority_option draft value = do
   priority ← once draft.priority 0 value
   Ok (record draft { priority = Some priority })
 
--- what stands between quotes behind which nothing stands
+-- what is between quotes, after which nothing comes
 unfoldable pub quoted_whole : List ℕ → Result (List ℕ) Fault
 quoted_whole value = do
   parts ← or_kind OptionValue (quoted value)
   if length parts.1 == 0 then Ok parts.0 else Err OptionValue
 
--- the message of `msg:"text"`, which stands once
+-- the message of `msg:"text"`, which may be given once
 unfoldable pub message : Bool → List ℕ → Result (List ℕ) Fault
 message stands value = do
   inside ← quoted_whole value

@@ -1,8 +1,8 @@
 -- Cutting the options of a rule (Snort Users Manual 2.9, section 3.3).
 --
 -- An option ends at a `;` outside double quotes; a backslash takes the next byte along, inside quotes and
--- outside. An option is a name, or a name, a `:` and a value; the blanks around both are dropped. Behind the
--- last `;` only blanks may stand.
+-- outside. An option is a name, or a name, a `:` and a value; the blanks around both are dropped. After the
+-- last `;` only blanks may come.
 -- To try it on: `msg:"a;b\"";sid:1; ` is cut into `msg:"a;b\""`, `sid:1` and a blank rest.
 use Rattle.std.specs.Prelude.{◌≡◌, ℕ, ⊤, ◌+◌, ◌-◌, ◌==◌, ◌&&◌, Bool, true, false, not, Option, Some, None, List, [], ◌∷◌, ◌++◌, length, take, drop, position, option_copied, if◌then◌else◌}
 use Rattle.std.specs.List.{onto_first, prefix_len}
@@ -11,11 +11,11 @@ use Rattle.edge_io.specs.Bytes.{is_blank, trimmed}
 use Rattle.rule_parser.specs.declared.written.LentOption.{LentOption}
 use Rattle.rule_parser.specs.declared.written.Quoting.{Quoting}
 
--- outside quotes
+-- the place of a byte outside quotes
 abbrev pub outside : Quoting
 outside = record { quoted = false; escaped = false }
 
--- behind a byte: a backslash (92) takes the next one along, and another `"` (34) opens or closes
+-- how a byte is quoted after another: a backslash (92) takes the next one along, and another `"` (34) opens or closes
 unfoldable pub behind_byte : Quoting → ℕ → Quoting
 behind_byte at byte =
     if at.escaped then record { quoted = at.quoted; escaped = false }
@@ -27,19 +27,19 @@ behind_byte at byte =
 unfoldable pub ends_option : Quoting → ℕ → Bool
 ends_option at byte = (not at.quoted && not at.escaped) && byte == 59
 
--- how many bytes stand before the `;` that ends the first option
+-- how many bytes come before the `;` that ends the first option
 unfoldable pub option_len : Quoting → List ℕ → Option ℕ
 option_len at [] = None
 option_len at (byte ∷ rest) =
     if ends_option at byte then Some 0 else option_map (λ len. len + 1) (option_len (behind_byte at byte) rest)
 
--- the texts of the options, and behind them what stands behind the last `;`
+-- the texts of the options, and after them what comes after the last `;`
 unfoldable pub option_texts : Quoting → List ℕ → List (List ℕ)
 option_texts at [] = [] ∷ []
 option_texts at (byte ∷ rest) =
     if ends_option at byte then [] ∷ option_texts outside rest else onto_first byte (option_texts (behind_byte at byte) rest)
 
--- these bytes are the first option of a text, and what stands behind its `;`
+-- these bytes are the first option of a text, and what comes after its `;`
 pub record IsFirstOption (text option behind : List ℕ) : Type 0 where
   pub texts : option_texts outside text ≡ option ∷ option_texts outside behind
   pub lengths : length option + 1 + length behind ≡ length text
@@ -53,12 +53,12 @@ IsClosed at (byte ∷ rest) = (ends_option at byte ≡ false) × IsClosed (behin
 abbrev pub IsOptionText : List ℕ → Type 0
 IsOptionText text = IsClosed outside text
 
--- each of these is the text of one option
+-- each of these texts is that of one option
 abbrev pub AreOptionTexts : List (List ℕ) → Type 0
 AreOptionTexts [] = ⊤
 AreOptionTexts (option ∷ more) = IsOptionText option × AreOptionTexts more
 
--- options as they are written, each with a `;` behind it, and then this text
+-- options as they are written, each with a `;` after it, and then this text
 unfoldable pub options_text : List (List ℕ) → List ℕ → List ℕ
 options_text [] rest = rest
 options_text (option ∷ more) rest = option ++ 59 ∷ options_text more rest
@@ -82,6 +82,6 @@ written_at left text (Some place) = record {
   left = left - (place + 1) - prefix_len is_blank (drop (place + 1) text);
 }
 
--- what an option's text says; so many bytes of the line are left where it begins
+-- what an option's text says; `left` bytes of the line are left where it begins
 unfoldable pub written : ℕ → List ℕ → Written
 written left text = written_at left text (position (λ byte. byte == 58) text)

@@ -43,7 +43,7 @@ impl BitNames {
         &self.names
     }
 
-    /// Adds a name behind the last.
+    /// Adds a name after the last.
     pub(crate) fn push(&mut self, name: Text) -> Result<(), NoMemory>
         requires { length self.old < 1024 }
         ensures pushed { OnOk result (self.new ≡ self.old ++ name ∷ []) }
@@ -53,7 +53,7 @@ impl BitNames {
         Ok(())
     }
 
-    /// Takes the names behind the first so many away.
+    /// Takes the names after the first `count` away.
     pub(crate) fn truncate(&mut self, count: usize)
         ensures { self.new ≡ take count self.old }
     {

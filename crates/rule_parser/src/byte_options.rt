@@ -28,7 +28,7 @@ pub(crate) struct LentPart<'a> {
     pub text: &'a [u8],
     /// How many bytes of the line are left where it begins.
     pub left: usize,
-    /// What stands behind its comma, if a comma stands there.
+    /// What comes after its comma, if there is a comma.
     pub behind: Option<&'a [u8]>,
     /// How many bytes of the line are left where that begins.
     pub left_behind: usize,
@@ -41,7 +41,7 @@ fn is_blank(byte: u8) -> bool
     byte == b' ' || byte == b'\t'
 }
 
-/// How many blanks stand in front.
+/// How many blanks are in front.
 #[tactic(auto, using(net_lists::proofs::Fronts::fronts))]
 pub(crate) fn blanks_len(text: &[u8]) -> usize
     ensures { result ≡ prefix_len is_blank text.now }
@@ -51,7 +51,7 @@ pub(crate) fn blanks_len(text: &[u8]) -> usize
         .unwrap_or(text.len())
 }
 
-/// The first part of a text that begins where so many bytes of the line are left.
+/// The first part of a text that begins where `left` bytes of the line are left.
 #[tactic(auto, unfolding(crate::specs::ByteOptions::first_part))]
 pub(crate) fn first_part(left: usize, text: &[u8]) -> LentPart<'_>
     ensures { seen result ≡ first_part left text.now }
@@ -73,7 +73,7 @@ pub(crate) fn first_part(left: usize, text: &[u8]) -> LentPart<'_>
     }
 }
 
-/// The part behind one, where one stands there.
+/// The part after one, where there is one.
 #[tactic(auto, unfolding(crate::specs::ByteOptions::next_part))]
 pub(crate) fn next_part<'a>(part: &LentPart<'a>) -> Result<LentPart<'a>, Fault>
     ensures { MatchResult result (λ next. next_part (seen part.now) ≡ Ok (seen next)) (λ why. next_part (seen part.now)
@@ -85,7 +85,7 @@ pub(crate) fn next_part<'a>(part: &LentPart<'a>) -> Result<LentPart<'a>, Fault>
     Ok(first_part(part.left_behind, text))
 }
 
-/// All words behind the parts that have their places.
+/// All words after the parts that have their places.
 #[tactic(auto, unfolding(crate::specs::ByteOptions::words_of))]
 fn words_of(which: Which, behind: Option<&[u8]>) -> Result<Words, Fault>
     ensures { result ≡ words_of which (option_copied behind.entry) }
@@ -110,7 +110,7 @@ fn jump_words(behind: Option<&[u8]>) -> Result<Words, Fault>
     words_of(Which::Jump, behind)
 }
 
-/// An operator of byte_test behind its `!`, if one stands there.
+/// An operator of byte_test after its `!`, if there is one.
 #[tactic(auto, unfolding(crate::specs::ByteOptions::operator_of))]
 fn operator_of(negated: bool, text: &[u8]) -> Result<Cmp, Fault>
     ensures { result ≡ operator_of negated text.now }
@@ -143,7 +143,7 @@ fn offset_of(names: &Extracted, part: &LentPart) -> Result<Num, Fault>
     signed_or_named(-65535, 65535, names.as_slice(), part.left, part.text)
 }
 
-/// What the value of a byte_jump says, behind these names.
+/// What the value of a byte_jump says, after these names.
 #[tactic(auto, unfolding(crate::specs::ByteOptions::byte_jump))]
 fn byte_jump(names: &Extracted, left: usize, value: &[u8]) -> Result<Opt, Fault>
     ensures { result ≡ byte_jump names.now left value.now }
@@ -181,7 +181,7 @@ pub(crate) struct LentComparison<'a> {
     pub part: LentPart<'a>,
 }
 
-/// The comparison behind the first part.
+/// The comparison after the first part.
 #[tactic(auto, unfolding(crate::specs::ByteOptions::comparison_of))]
 fn comparison_of<'a>(names: &Extracted, count: &LentPart<'a>) -> Result<LentComparison<'a>, Fault>
     ensures { MatchResult result (λ found. comparison_of names.now (seen count.now) ≡ Ok (seen_comparison found))
@@ -200,7 +200,7 @@ fn comparison_of<'a>(names: &Extracted, count: &LentPart<'a>) -> Result<LentComp
     })
 }
 
-/// What the value of a byte_test says, behind these names.
+/// What the value of a byte_test says, after these names.
 #[tactic(auto, unfolding(crate::specs::ByteOptions::byte_test))]
 fn byte_test(names: &Extracted, left: usize, value: &[u8]) -> Result<Opt, Fault>
     ensures { result ≡ byte_test names.now left value.now }
@@ -247,7 +247,7 @@ fn data_word(word: &[u8]) -> Result<bool, Fault>
     }
 }
 
-/// Whether `relative` stands among what may follow the number of isdataat.
+/// Whether `relative` is among what may follow the number of isdataat.
 #[tactic(auto, unfolding(crate::specs::ByteOptions::data_words))]
 fn data_words(behind: Option<&[u8]>) -> Result<bool, Fault>
     ensures { result ≡ data_words (parts_behind (option_copied behind.entry)) }
@@ -271,7 +271,7 @@ fn data_words(behind: Option<&[u8]>) -> Result<bool, Fault>
     Err(Fault::OptionValue)
 }
 
-/// What the value of an isdataat says, behind these names.
+/// What the value of an isdataat says, after these names.
 #[tactic(auto, unfolding(crate::specs::ByteOptions::isdataat))]
 fn isdataat(names: &Extracted, left: usize, value: &[u8]) -> Result<Opt, Fault>
     ensures { result ≡ isdataat names.now left value.now }
@@ -300,7 +300,7 @@ pub(crate) fn isdataat_option(
     draft.keep(option)
 }
 
-/// The place of a name among the others; one that is not there yet goes behind them.
+/// The place of a name among the others; one that is not there yet goes after them.
 fn placed(alloc: Global, names: &mut Extracted, name: &[u8]) -> Result<u8, Stop<Fault>>
     ensures { GivesNumber result names.new (with_name names.old name.now (place_among name.now names.old)) }
 {
@@ -331,7 +331,7 @@ struct LentExtraction<'a> {
     name: &'a [u8],
 }
 
-/// What the value of a byte_extract says, behind these names.
+/// What the value of a byte_extract says, after these names.
 #[tactic(auto, unfolding(crate::specs::ByteOptions::byte_extract))]
 fn byte_extract<'a>(
     names: &Extracted,

@@ -1,4 +1,4 @@
-//! The words behind the parts of byte_test, byte_jump and byte_extract that have their places.
+//! The words after the parts of byte_test, byte_jump and byte_extract that have their places.
 ghost use Rattle.std.specs.Prelude.{◌≡◌};
 ghost use Rattle.rule_parser.specs.ByteOptions.{no_words, once_only, with_times, with_post, with_multiple, shared_word, jump_word, extract_word, word_of, base_of, lacks_string, fetch_of, jump_of, extract_of};
 
@@ -15,7 +15,7 @@ pub(crate) enum Which {
     Extract,
 }
 
-/// The words that stand.
+/// The words that were given.
 #[derive(Clone, Copy)]
 pub(crate) struct Words {
     pub relative: bool,
@@ -50,7 +50,7 @@ impl Words {
         }
     }
 
-    /// These words, where the last one does not stand yet.
+    /// These words, where the last one was not given before.
     fn unless(self, stands: bool) -> Result<Words, Fault>
         ensures { result ≡ once_only stands self }
     {
@@ -110,7 +110,7 @@ impl Words {
         }
     }
 
-    /// With a word that each of the three options has.
+    /// The words with one that each of the three options has.
     #[tactic(auto, unfolding(crate::specs::ByteOptions::shared_word))]
     fn shared(self, part: &[u8]) -> Result<Words, Fault>
         ensures { result ≡ shared_word self part.now }
@@ -160,7 +160,7 @@ impl Words {
         }
     }
 
-    /// With a word of byte_jump.
+    /// The words with one of byte_jump.
     #[tactic(auto, unfolding(crate::specs::ByteOptions::jump_word))]
     fn jump(self, part: &[u8]) -> Result<Words, Fault>
         ensures { result ≡ jump_word self part.now }
@@ -187,7 +187,7 @@ impl Words {
         }
     }
 
-    /// With a word of byte_extract.
+    /// The words with one of byte_extract.
     #[tactic(auto, unfolding(crate::specs::ByteOptions::extract_word))]
     fn extract(self, part: &[u8]) -> Result<Words, Fault>
         ensures { result ≡ extract_word self part.now }

@@ -21,7 +21,7 @@ use std::alloc::Global;
 /// Bytes that a content may have.
 const MOST_BYTES: usize = 2048;
 
-/// Whether a `!` stands in front, and what stands behind it.
+/// Whether a `!` is in front, and what comes after it.
 pub(crate) fn negation(text: &[u8]) -> (bool, &[u8])
     ensures negated { result.0 ≡ (negation text.now).0 }
     ensures rest { result.1.now ≡ (negation text.now).1 }
@@ -54,7 +54,7 @@ fn is_placed(content: &Content) -> bool
     (content.from.is_some() || content.room.is_some()) && !content.relative
 }
 
-/// Whether `offset`, or `distance`, may not stand any more.
+/// Whether `offset`, or `distance`, may not be given any more.
 fn bars_from(relative: bool, content: &Content) -> bool
     ensures { result ≡ bars_from relative content.now }
 {
@@ -66,7 +66,7 @@ fn bars_from(relative: bool, content: &Content) -> bool
         }
 }
 
-/// Whether `depth`, or `within`, may not stand any more.
+/// Whether `depth`, or `within`, may not be given any more.
 fn bars_room(relative: bool, content: &Content) -> bool
     ensures { result ≡ bars_room relative content.now }
 {
@@ -177,7 +177,7 @@ pub(crate) fn rawbytes_option(draft: &mut Draft, value: Option<&[u8]>) -> Result
     rawbytes(held, value)
 }
 
-/// The value of a modifier that tells a place or a room, where it may stand.
+/// The value of a modifier that tells a place or a room, where it may be given.
 fn place_text(bars: bool, placeless: bool, value: Option<&[u8]>) -> Result<&[u8], Fault>
     ensures { MatchResult result (λ text. place_text bars placeless (option_copied value.entry) ≡ Ok text.now)
         (λ why. place_text bars placeless (option_copied value.entry) ≡ Err why) }
@@ -237,7 +237,7 @@ pub(crate) fn from_option(
     with_from(relative, held, &draft.names, left, value)
 }
 
-/// How far a content of so many bytes may go.
+/// How far a content of `size` bytes may go.
 fn room_of(size: usize, known: &[Text], left: usize, text: &[u8]) -> Result<Num, Fault>
     requires { length known.now < 256 }
     ensures { result ≡ room_of size known.now left text.now (number_in 0 65535 text.now) }
@@ -287,7 +287,7 @@ pub(crate) fn room_option(
     with_room(relative, held, &draft.names, left, value)
 }
 
-/// A part of a content of so many bytes.
+/// A part of a content of `size` bytes.
 #[tactic(auto, unfolding(crate::specs::Contents::fast_part))]
 fn fast_part(size: usize, value: &[u8]) -> Result<FastMode, Fault>
     ensures { result ≡ fast_part size (comma_parts value.now) }
@@ -331,14 +331,14 @@ fn is_only(mode: FastMode) -> bool
     }
 }
 
-/// What stands on a content.
+/// The fast pattern that a content has.
 fn fast_on(negated: bool, mode: FastMode) -> FastMode
     ensures { result ≡ fast_on negated mode }
 {
     if negated { FastMode::No } else { mode }
 }
 
-/// The last content, where no `fast_pattern` stands yet.
+/// The last content, where there is no `fast_pattern` yet.
 fn held_for_fast(stands: bool, held: Option<Held>) -> Result<Held, Fault>
     ensures { result ≡ (if stands then Err Fault.Misplaced else or_kind Fault.Misplaced held) }
 {
@@ -348,7 +348,7 @@ fn held_for_fast(stands: bool, held: Option<Held>) -> Result<Held, Fault>
     held.ok_or(Fault::Misplaced)
 }
 
-/// Whether no place or room may be told behind a `fast_pattern` of this form.
+/// Whether no place or room may be told after a `fast_pattern` of this form.
 fn bars_places(mode: FastMode, negated: bool) -> bool
     ensures { result ≡ (is_only mode || negated) }
 {
@@ -366,7 +366,7 @@ fn put_fast(held: &mut Held, mode: FastMode)
     held.content.fast = fast_on(held.content.negated, mode);
 }
 
-/// Whether a `fast_pattern` of this form may not stand on the content.
+/// Whether a `fast_pattern` of this form may not be given for the content.
 fn bars_fast(mode: FastMode, content: &Content) -> bool
     ensures { result ≡ bars_fast mode content.now }
 {

@@ -1,4 +1,4 @@
-//! What stands of a rule while its options are read from left to right.
+//! What is known of a rule while its options are read from left to right.
 ghost use Rattle.std.specs.Prelude.{◌≡◌, nat_le, OnOk, IfOk, None};
 ghost use Rattle.net_lists.specs.Stops.{Gives};
 ghost use Rattle.rule_parser.specs.Drafts.{empty_draft, kept_count, kept, settled, with_held, with_new};
@@ -22,13 +22,13 @@ pub(crate) enum ClassName {
 #[derive(Drop)]
 pub(crate) struct Held {
     pub content: Content,
-    /// Its place among the options that are kept.
+    /// The content's place among the options that are kept.
     pub place: usize,
     /// The names that were extracted before it.
     pub known: usize,
-    /// `rawbytes` stands.
+    /// `rawbytes` was given.
     pub raw: bool,
-    /// A `fast_pattern` stands that excludes a place.
+    /// A `fast_pattern` was given that excludes a place.
     pub placeless: bool,
 }
 
@@ -48,11 +48,11 @@ pub(crate) struct Draft {
     pub priority: Option<u32>,
     pub noalert: bool,
     pub period: Option<Period>,
-    /// A `flow` stands.
+    /// A `flow` was given.
     pub flow: bool,
-    /// A `dsize` stands.
+    /// A `dsize` was given.
     pub dsize: bool,
-    /// A `fast_pattern` stands.
+    /// A `fast_pattern` was given.
     pub fast: bool,
 }
 
@@ -90,7 +90,7 @@ impl Draft {
         self.opts.as_slice().len() + held >= MOST_OPTIONS
     }
 
-    /// Keeps one more option, behind those that stand.
+    /// Keeps one more option, after those that there are.
     #[tactic(auto, unfolding(crate::specs::Drafts::kept))]
     pub(crate) fn keep(&mut self, opt: Opt) -> Result<(), Stop<Fault>>
         ensures { Gives (with_new result self.new) (kept self.old opt) }

@@ -39,7 +39,7 @@ impl Extracted {
         self.names.as_slice()
     }
 
-    /// Adds a name behind the last, where there is room.
+    /// Adds a name after the last, where there is room.
     pub(crate) fn push(&mut self, name: Text) -> Result<(), Fault>
         ensures more { OnOk result (self.new ≡ self.old ++ name ∷ []) }
         ensures room { IsOk result ↔ (length self.old < 2) }

@@ -39,11 +39,11 @@ pub struct RuleFault {
     /// Where the line has what the message of an `UnknownVariable` shows, the name or its text; 0 for
     /// any other kind.
     pub from: usize,
-    /// The place behind that; 0 for any other kind.
+    /// The place after that; 0 for any other kind.
     pub to: usize,
 }
 
-/// The same while a line is read, its places counted from the line's end.
+/// Why a line is no rule, while it is read: the places are counted from the line's end.
 #[derive(Clone, Copy)]
 pub(crate) enum Fault {
     Action,
@@ -57,7 +57,7 @@ pub(crate) enum Fault {
     Misplaced,
     MissingSid,
     UnknownClass,
-    /// So many bytes are left of the line where the name begins, and the name has so many.
+    /// `left` bytes are left of the line where the name begins, and the name has `len`.
     Unknown { left: usize, len: usize },
     Limit,
     OutsideProfile,
@@ -84,7 +84,7 @@ fn plain(kind: RuleKind) -> RuleFault
     }
 }
 
-/// The fault in a line of so many bytes.
+/// The fault in a line of `len` bytes.
 #[tactic(auto, unfolding(crate::specs::Faults::rule_fault))]
 fn rule_fault(len: usize, fault: Fault) -> RuleFault
     ensures { result ≡ rule_fault len fault }
@@ -111,7 +111,7 @@ fn rule_fault(len: usize, fault: Fault) -> RuleFault
     }
 }
 
-/// The fault of what stopped a reader, in a line of so many bytes.
+/// The fault of what stopped a reader, in a line of `len` bytes.
 pub(crate) fn stop_fault(len: usize, stop: Stop<Fault>) -> RuleFault
     ensures { result ≡ stop_fault len stop }
 {

@@ -11,7 +11,7 @@ use crate::word::is;
 use crate::{Cmp, Field, Opt};
 use net_lists::{Stop, number_in};
 
-/// What stands before a number.
+/// What comes before a number.
 #[derive(Clone, Copy, PartialEq, Eq)]
 pub(crate) enum Sign {
     Plain,
@@ -23,7 +23,7 @@ pub(crate) enum Sign {
     From,
 }
 
-/// The sign in front of a number, and what stands behind it.
+/// The sign in front of a number, and what comes after it.
 #[tactic(auto, unfolding(crate::specs::Fields::sign_of))]
 fn sign_of(text: &[u8]) -> (Sign, &[u8])
     ensures sign { result.0 ≡ (sign_of text.now).0 }

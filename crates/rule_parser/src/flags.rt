@@ -12,7 +12,7 @@ use crate::word::is;
 use crate::{FlowOpt, Mode, Opt};
 use net_lists::{PartStep, Parts, Stop};
 
-/// Nothing is asked.
+/// A `flow` that asks nothing.
 fn no_flow() -> FlowOpt
     ensures { result ≡ no_flow }
 {
@@ -25,7 +25,7 @@ fn no_flow() -> FlowOpt
     }
 }
 
-/// This, where its group has no word yet.
+/// This `flow`, where the group of its last word has no word yet.
 fn first_of_group(stands: bool, flow: FlowOpt) -> Result<FlowOpt, Fault>
     ensures { result ≡ first_of_group stands flow }
 {
@@ -36,7 +36,7 @@ fn first_of_group(stands: bool, flow: FlowOpt) -> Result<FlowOpt, Fault>
     }
 }
 
-/// With a word on the session.
+/// The `flow` with a word on the session.
 #[tactic(auto, unfolding(crate::specs::Flags::session_word))]
 fn session_word(flow: FlowOpt, word: &[u8]) -> Result<FlowOpt, Fault>
     ensures { result ≡ session_word flow word.now }
@@ -71,7 +71,7 @@ fn session_word(flow: FlowOpt, word: &[u8]) -> Result<FlowOpt, Fault>
     }
 }
 
-/// With a word on how the item came to be, or on the session.
+/// The `flow` with a word on how the item came to be, or on the session.
 #[tactic(auto, unfolding(crate::specs::Flags::item_word))]
 fn item_word(flow: FlowOpt, word: &[u8]) -> Result<FlowOpt, Fault>
     ensures { result ≡ item_word flow word.now }
@@ -113,7 +113,7 @@ fn item_word(flow: FlowOpt, word: &[u8]) -> Result<FlowOpt, Fault>
     }
 }
 
-/// With one word more.
+/// The `flow` with one word more.
 #[tactic(auto, unfolding(crate::specs::Flags::flow_word))]
 fn flow_word(flow: FlowOpt, word: &[u8]) -> Result<FlowOpt, Fault>
     ensures { result ≡ flow_word flow word.now }
@@ -172,10 +172,10 @@ pub(crate) fn flow_option(draft: &mut Draft, value: &[u8]) -> Result<(), Stop<Fa
 /// The letters of `flags` or `fragbits` so far.
 #[derive(Clone, Copy)]
 pub(crate) struct Letters {
-    /// The sign that stands.
+    /// The sign that was given.
     pub mode: Option<Mode>,
     pub bits: u8,
-    /// A letter stands.
+    /// A letter was given.
     pub any: bool,
 }
 
@@ -232,7 +232,7 @@ impl Letters {
         }
     }
 
-    /// With one bit more, if there is one.
+    /// The letters with one bit more, if there is one.
     fn with_bit(self, bit: Option<u8>) -> Option<Letters>
         ensures { result ≡ with_bit self bit }
     {
@@ -244,7 +244,7 @@ impl Letters {
         })
     }
 
-    /// With a sign, if the byte is one, or else with its bit.
+    /// The letters with a sign, if the byte is one, or else with its bit.
     fn with_mode(self, bit: Option<u8>, mode: Option<Mode>) -> Option<Letters>
         ensures { result ≡ with_mode self (with_bit self bit) mode }
     {
@@ -259,14 +259,14 @@ impl Letters {
         }
     }
 
-    /// These, where a letter stands.
+    /// These letters, where there is one.
     fn unless_none(self) -> Option<Letters>
         ensures { result ≡ if_any self }
     {
         if self.any { Some(self) } else { None }
     }
 
-    /// With a letter of TCP flags, or a sign where signs may stand.
+    /// The letters with a letter of TCP flags, or a sign where signs may come.
     #[tactic(auto, unfolding(crate::specs::Flags::flag_step))]
     fn with_flag(self, signs: bool, byte: u8) -> Option<Letters>
         ensures { result ≡ flag_step signs self byte }
@@ -275,7 +275,7 @@ impl Letters {
         self.with_mode(flag_bit(byte), mode)
     }
 
-    /// With a letter of fragment bits, or a sign where it is the last byte.
+    /// The letters with a letter of fragment bits, or a sign where it is the last byte.
     #[tactic(auto, unfolding(crate::specs::Flags::frag_step))]
     fn with_frag(self, last: bool, byte: u8) -> Option<Letters>
         ensures { result ≡ frag_step last self byte }
@@ -285,7 +285,7 @@ impl Letters {
     }
 }
 
-/// The letters of TCP flags, a sign anywhere among them where signs may stand.
+/// The letters of TCP flags, a sign anywhere among them where signs may come.
 #[tactic(auto, using(crate::proofs::Lettering::flag_steps))]
 fn flag_letters(signs: bool, text: &[u8]) -> Option<Letters>
     ensures { result ≡ flag_letters signs no_letters text.now }
@@ -297,7 +297,7 @@ fn flag_letters(signs: bool, text: &[u8]) -> Option<Letters>
     letters.unless_none()
 }
 
-/// The letters of fragment bits behind this, of which a sign may be the last byte.
+/// The letters of fragment bits after a sign of this mode, if there is one; a sign may be the last byte.
 #[tactic(auto, using(crate::proofs::Lettering::frag_steps))]
 fn frag_letters(mode: Option<Mode>, text: &[u8]) -> Option<Letters>
     ensures { result ≡ frag_letters (record no_letters { mode = mode }) text.now }
@@ -314,7 +314,7 @@ fn frag_letters(mode: Option<Mode>, text: &[u8]) -> Option<Letters>
     letters.unless_none()
 }
 
-/// The letters of fragment bits with a sign in front or behind.
+/// The letters of fragment bits with a sign before or after them.
 fn frag_signed(text: &[u8]) -> Option<Letters>
     ensures { result ≡ frag_signed text.now }
 {

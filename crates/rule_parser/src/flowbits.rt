@@ -111,7 +111,7 @@ impl BitWord {
     }
 }
 
-/// The number of a name; one that is not there yet goes behind the others.
+/// The number of a name; one that is not there yet goes after the others.
 fn numbered(alloc: Global, bits: &mut BitNames, name: &[u8]) -> Result<u32, Stop<Fault>>
     ensures gives { GivesNumber result bits.new (numbered bits.old name.now (place_among name.now bits.old)) }
     ensures begins { Begins bits.old bits.new }
@@ -128,7 +128,7 @@ fn numbered(alloc: Global, bits: &mut BitNames, name: &[u8]) -> Result<u32, Stop
     Ok(count as u32)
 }
 
-/// The name in a part behind which nothing stands.
+/// The name in a part, after which nothing comes.
 #[tactic(auto, unfolding(crate::specs::Flowbits::last_name))]
 fn last_name<'a>(part: &LentPart<'a>) -> Result<&'a [u8], Fault>
     ensures { MatchResult result (λ name. last_name (seen part.now) ≡ Ok name.now) (λ why. last_name (seen part.now) ≡ Err why) }
@@ -158,7 +158,7 @@ fn bit_parts(
     draft.keep(word.option(bit))
 }
 
-/// `noalert` behind which nothing stands.
+/// `noalert`, after which nothing comes.
 fn noalert(draft: &mut Draft, first: &LentPart) -> Result<(), Fault>
     ensures { with_new result draft.new ≡ noalert draft.old (seen first.now) }
 {

@@ -93,7 +93,7 @@ pub(crate) struct HeaderTexts<'a> {
     pub direction: &'a [u8],
     pub dst: &'a [u8],
     pub dports: &'a [u8],
-    /// What stands behind the header.
+    /// What comes after the header.
     pub options: &'a [u8],
 }
 
@@ -104,7 +104,7 @@ fn word_of(text: &[u8]) -> &[u8]
     first_word(text).0
 }
 
-/// What stands behind the first word.
+/// What comes after the first word.
 fn behind_word(text: &[u8]) -> &[u8]
     ensures { result.now ≡ behind_word text.now }
 {
@@ -112,7 +112,7 @@ fn behind_word(text: &[u8]) -> &[u8]
 }
 
 impl<'a> HeaderTexts<'a> {
-    /// Cuts a line into the words of its header and what stands behind them. A line that is written of seven
+    /// Cuts a line into the words of its header and what comes after them. A line that is written of seven
     /// words is cut into these.
     pub(crate) fn cut(line: &'a [u8]) -> HeaderTexts<'a>
         ensures texts { AreTexts result line.now }
@@ -123,7 +123,7 @@ impl<'a> HeaderTexts<'a> {
         HeaderTexts::from_words(line)
     }
 
-    /// The same by its first clause alone.
+    /// Cuts a line into the words of its header and what comes after them, by the first clause of `cut` alone.
     #[tactic(auto, unfolding(crate::specs::Headers::from_word))]
     fn from_words(line: &'a [u8]) -> HeaderTexts<'a>
         ensures { AreTexts result line.now }

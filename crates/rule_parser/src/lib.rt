@@ -2,7 +2,7 @@
 //!
 //! A rule is a header, seven words that say which packets it speaks of, and options, tests of an
 //! item's header and payload (Snort Users Manual 2.9, chapter 3). `read_rule` reads one line. What a
-//! rule may say stands below, in `rule_types`.
+//! rule may say is below, in `rule_types`.
 #![tactic(auto)]
 
 mod bits;

@@ -21,7 +21,7 @@ use edge_io::Text;
 use net_lists::{Stop, Vars};
 use std::alloc::Global;
 
-/// What stands between the parentheses that hold the options.
+/// What is between the parentheses that hold the options.
 #[tactic(auto, unfolding(crate::specs::RuleLine::in_parentheses))]
 fn in_parentheses(text: &[u8]) -> Option<&[u8]>
     ensures { option_copied result ≡ in_parentheses text.now }
@@ -63,7 +63,7 @@ fn read_options(
     Ok(draft)
 }
 
-/// The options of a rule. Options that are written one behind another are read one behind another.
+/// The options of a rule. Options that are written one after another are read one after another.
 fn rule_options(
     alloc: Global,
     classes: &Classes,
@@ -149,7 +149,7 @@ fn finished(
     })
 }
 
-/// The rule of a header with what stands behind it.
+/// The rule of a header with what comes after it.
 #[tactic(auto, unfolding(crate::specs::RuleLine::rule_body))]
 fn rule_body(
     alloc: Global,
@@ -169,7 +169,7 @@ fn rule_body(
     finished(alloc, classes, header, draft)
 }
 
-/// The rule of a line. Where the line is none, names may stand behind those that stood before.
+/// The rule of a line. Where the line is none, names may come after those that there were before.
 fn rule_of(
     alloc: Global,
     line: &[u8],
@@ -186,12 +186,12 @@ fn rule_of(
     rule_body(alloc, classes, bits, header, texts.options)
 }
 
-/// The rule that a line of a rule file says, with the variables, the classes and the flowbit names that stand
+/// The rule that a line of a rule file says, with the variables, the classes and the flowbit names that there are
 /// (Snort Users Manual 2.9, chapter 3).
 ///
 /// The leftmost fault in the line decides: the words of the header, its parentheses, the options one after
-/// another, then a missing `sid` and a class that there is not. Behind a rule the names of its flowbits stand
-/// behind those before; behind a fault the names are as they were.
+/// another, then a missing `sid` and a class that there is not. After a rule the names of its flowbits come
+/// after those before; after a fault the names are as they were.
 pub fn read_rule(
     alloc: Global,
     line: &[u8],

@@ -26,7 +26,7 @@ pub(crate) enum TextName {
     Rev,
     Priority,
     Classtype,
-    /// It says nothing that this detector uses.
+    /// The option says nothing that this detector uses.
     Ignored,
 }
 
@@ -186,7 +186,7 @@ fn ip_field(name: &[u8]) -> Option<Field>
     }
 }
 
-/// The fields behind it.
+/// The fields of what comes after the IP header.
 #[tactic(auto, unfolding(crate::specs::OptionNames::body_field))]
 fn body_field(name: &[u8]) -> Option<Field>
     ensures { result ≡ body_field name.now }

@@ -16,7 +16,7 @@ pub(crate) fn place_among(text: &[u8], known: &[Text]) -> Option<usize>
     known.iter().position(|one| one.bytes() == text)
 }
 
-/// An extracted name; so many bytes of the line are left where it begins.
+/// An extracted name; `left` bytes of the line are left where it begins.
 #[tactic(auto, unfolding(crate::specs::Names::named))]
 pub(crate) fn named(known: &[Text], left: usize, text: &[u8]) -> Result<Num, Fault>
     requires { length known.now < 256 }

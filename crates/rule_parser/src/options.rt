@@ -179,7 +179,7 @@ fn named_option(
     }
 }
 
-/// One option of a rule, whose text begins where so many bytes of the line are left.
+/// One option of a rule, whose text begins where `left` bytes of the line are left.
 #[tactic(auto, unfolding(crate::specs::RuleOption::rule_option))]
 pub(crate) fn rule_option(
     alloc: Global,

@@ -17,7 +17,7 @@ use std::alloc::Global;
 /// Bytes that an expression may have.
 const MOST_BYTES: usize = 4096;
 
-/// The flags that stand behind an expression.
+/// The flags that come after an expression.
 #[derive(Clone, Copy)]
 pub(crate) struct Flags {
     pub nocase: bool,
@@ -52,7 +52,7 @@ impl Flags {
         }
     }
 
-    /// These flags, where the letter's does not stand yet.
+    /// These flags, where the letter's was not given before.
     fn unless(self, stands: bool) -> Result<Flags, Fault>
         ensures { result ≡ (if stands then Err Fault.OptionValue else Ok self) }
     {
@@ -63,7 +63,7 @@ impl Flags {
         }
     }
 
-    /// With the flag of a letter.
+    /// The flags with that of a letter.
     #[tactic(auto, unfolding(crate::specs::Patterns::with_flag))]
     fn with(self, letter: u8) -> Result<Flags, Fault>
         ensures { result ≡ with_flag self letter }
@@ -122,7 +122,7 @@ impl Flags {
     }
 }
 
-/// How many bytes stand up to the last `/`, that one among them.
+/// How many bytes there are up to the last `/`, that one among them.
 fn slash_end(text: &[u8]) -> usize
     ensures len { result + suffix_len is_no_slash text.now ≡ length text.now }
     ensures within { result ≤ length text.now }
@@ -137,7 +137,7 @@ fn slash_end(text: &[u8]) -> usize
     0
 }
 
-/// What stands between a `/` in front and the last `/`, and what stands behind that.
+/// What is between a `/` in front and the last `/`, and what comes after that.
 #[tactic(auto, unfolding(crate::specs::Patterns::slashed))]
 fn slashed(text: &[u8]) -> Option<(&[u8], &[u8])>
     ensures { option_map (λ parts. (parts.0.now, parts.1.now)) result ≡ slashed text.now }

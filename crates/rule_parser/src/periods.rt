@@ -10,7 +10,7 @@ use crate::fault::Fault;
 use crate::word::is;
 use net_lists::{Parts, first_word, number_in};
 
-/// What stands behind this word in a part.
+/// What comes after this word in a part.
 #[tactic(auto, unfolding(crate::specs::Periods::behind_key))]
 fn behind_key<'a>(key: &[u8], part: &'a [u8]) -> Result<&'a [u8], Fault>
     ensures { MatchResult result (λ rest. behind_key key.now part.now ≡ Ok rest.now) (λ fault. behind_key key.now part.now
@@ -38,7 +38,7 @@ fn tracked(side: &[u8]) -> Result<bool, Fault>
     }
 }
 
-/// A number behind its word.
+/// A number after its word.
 #[tactic(auto, unfolding(crate::specs::Periods::counted))]
 fn counted(key: &[u8], part: &[u8]) -> Result<u32, Fault>
     ensures { result ≡ counted key.now part.now }

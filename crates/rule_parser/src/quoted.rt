@@ -16,19 +16,19 @@ pub(crate) enum Style {
     Pattern,
 }
 
-/// Where the next byte stands.
+/// Where the next byte is.
 #[derive(Clone, Copy)]
 pub(crate) enum Place {
     Plain,
-    /// Behind a backslash.
+    /// After a backslash.
     Escaped,
     /// Between bars, before a pair of hex digits.
     Bars,
-    /// Between bars, behind this digit.
+    /// Between bars, after this digit.
     Half(u8),
 }
 
-/// Where the byte behind stands, and what was given.
+/// Where the next byte is, and what was given.
 #[derive(Clone, Copy)]
 pub(crate) struct Step {
     pub place: Place,
@@ -91,7 +91,7 @@ fn closing_len(text: &[u8]) -> Option<usize>
     None
 }
 
-/// What stands between the quotes, as it is written, and what stands behind them.
+/// What is between the quotes, as it is written, and what comes after them.
 #[tactic(auto, unfolding(crate::specs::Quotes::quoted))]
 pub(crate) fn quoted(text: &[u8]) -> Option<(&[u8], &[u8])>
     ensures { option_map (λ parts. (parts.0.now, parts.1.now)) result ≡ quoted text.now }
@@ -185,7 +185,7 @@ fn half_step(first: u8, byte: u8) -> Option<Step>
     Some(Step::giving(Place::Bars, high * 16 + low))
 }
 
-/// What a byte gives where it stands.
+/// What a byte gives where it is.
 fn step_at(style: Style, place: Place, byte: u8) -> Option<Step>
     ensures { result ≡ step_at style place byte }
 {
@@ -197,7 +197,7 @@ fn step_at(style: Style, place: Place, byte: u8) -> Option<Step>
     }
 }
 
-/// What the end of a text gives where it stands: in a pattern a lone backslash is no pair.
+/// What the end of a text gives where it is: in a pattern a lone backslash is no pair.
 fn end_step(style: Style, place: Place) -> Option<Step>
     ensures { option_map (λ step. bytes_of step.slash step.byte) result ≡ end_bytes style place }
 {

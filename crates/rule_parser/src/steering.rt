@@ -95,7 +95,7 @@ pub(crate) fn stream_size_option(draft: &mut Draft, value: &[u8]) -> Result<(), 
     draft.keep(option)
 }
 
-/// On or off.
+/// Whether a word says on or off.
 #[tactic(auto, unfolding(crate::specs::Steering::switched))]
 fn switched(text: &[u8]) -> Result<bool, Fault>
     ensures { result ≡ switched text.now }
@@ -111,7 +111,7 @@ fn switched(text: &[u8]) -> Result<bool, Fault>
     }
 }
 
-/// Whether `noalert` stands in what is left, as the last part.
+/// Whether `noalert` is in what is left, as the last part.
 #[tactic(auto, unfolding(crate::specs::Steering::quiet, crate::specs::Steering::quiet_end))]
 fn quiet(mut rest: Parts) -> Result<bool, Fault>
     ensures { result ≡ quiet rest.entry }

@@ -16,7 +16,7 @@ use std::alloc::Global;
 /// Bytes that a message may have.
 const MOST_MESSAGE: usize = 1024;
 
-/// A number from `least` on that may stand once.
+/// A number from `least` on that may be given once.
 #[tactic(auto, unfolding(crate::specs::Texts::once))]
 fn once(before: Option<u32>, least: u32, value: &[u8]) -> Result<u32, Fault>
     ensures { result ≡ once before least value.now }
@@ -66,7 +66,7 @@ pub(crate) fn priority_option(draft: &mut Draft, value: &[u8]) -> Result<(), Fau
     Ok(())
 }
 
-/// What stands between quotes behind which nothing stands.
+/// What is between quotes, after which nothing comes.
 #[tactic(auto, unfolding(crate::specs::Texts::quoted_whole))]
 pub(crate) fn quoted_whole(value: &[u8]) -> Result<&[u8], Fault>
     ensures { MatchResult result (λ inside. quoted_whole value.now ≡ Ok inside.now) (λ fault. quoted_whole value.now
@@ -81,7 +81,7 @@ pub(crate) fn quoted_whole(value: &[u8]) -> Result<&[u8], Fault>
     Ok(inside)
 }
 
-/// The message of a value, which stands once.
+/// The message of a value, which may be given once.
 #[tactic(auto, unfolding(crate::specs::Texts::message))]
 fn message(alloc: Global, stands: bool, value: &[u8]) -> Result<Text, Stop<Fault>>
     ensures { Gives result (message stands value.now) }

@@ -8,12 +8,12 @@ use crate::byte_options::blanks_len;
 use crate::fields::place_of;
 use net_lists::trimmed;
 
-/// How the next byte stands.
+/// How the next byte is quoted.
 #[derive(Clone, Copy)]
 pub(crate) struct Quoting {
     /// Between double quotes.
     pub quoted: bool,
-    /// Behind a backslash that takes it along.
+    /// After a backslash that takes it along.
     pub escaped: bool,
 }
 
@@ -27,7 +27,7 @@ impl Quoting {
         }
     }
 
-    /// How the byte behind this one stands.
+    /// How the byte after this one is quoted.
     #[tactic(auto, unfolding(crate::specs::Written::behind_byte))]
     fn behind(self, byte: u8) -> Quoting
         ensures { result ≡ behind_byte self byte }
@@ -61,7 +61,7 @@ impl Quoting {
     }
 }
 
-/// How many bytes stand before the `;` that ends the first option.
+/// How many bytes come before the `;` that ends the first option.
 #[tactic(auto, using(crate::proofs::Lines::Cutting::option_lens))]
 fn option_len(text: &[u8]) -> Option<usize>
     ensures len { result ≡ option_len outside text.now }
@@ -79,7 +79,7 @@ fn option_len(text: &[u8]) -> Option<usize>
     None
 }
 
-/// The first option of a text and what stands behind its `;`, if one ends in the text.
+/// The first option of a text and what comes after its `;`, if one ends in the text.
 #[tactic(auto, using(crate::proofs::Lines::Parting::first_options))]
 pub(crate) fn first_option(text: &[u8]) -> Option<(&[u8], &[u8])>
     ensures { MatchOption result (option_texts outside text.now ≡ text.now ∷ [])
@@ -89,7 +89,7 @@ pub(crate) fn first_option(text: &[u8]) -> Option<(&[u8], &[u8])>
     Some((&text[..len], &text[len + 1..]))
 }
 
-/// Whether only blanks stand here.
+/// Whether there are only blanks here.
 pub(crate) fn are_blank(text: &[u8]) -> bool
     ensures { result ≡ list_all is_blank text.now }
 {
@@ -105,7 +105,7 @@ pub(crate) struct LentOption<'a> {
     pub left: usize,
 }
 
-/// What an option's text says, which begins where so many bytes of the line are left.
+/// What an option's text says, which begins where `left` bytes of the line are left.
 #[tactic(auto, unfolding(crate::specs::Written::written))]
 pub(crate) fn written(left: usize, text: &[u8]) -> LentOption<'_>
     ensures { seen_option result ≡ written left text.now }

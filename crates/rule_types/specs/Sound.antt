@@ -36,7 +36,7 @@ IsNum names least most (num.Name place) = Contains names place
 abbrev pub IsOffset : List ℕ → Num → Type 0
 IsOffset names offset = IsNum names (negsuc 65534) (pos 65535) offset
 
--- a fast pattern is no negated content; a part of a content stands within it
+-- a fast pattern is no negated content; a part of a content lies within it
 abbrev pub IsFast : Content → FastMode → Type 0
 IsFast content fast.No = ⊤
 IsFast content fast.Yes = content.negated ≡ false
@@ -107,16 +107,16 @@ compares field.Ack cmp = is_equal cmp
 compares field.IcmpId cmp = is_equal cmp
 compares field.IcmpSeq cmp = is_equal cmp
 
--- one number stands at both ends, but for a range
+-- both ends are the same number, but for a range
 abbrev pub AreEnds : Cmp → ℕ → ℕ → Type 0
 AreEnds cmp low high = IsTrue (is_within cmp) ⊎ (low ≡ high)
 
--- not either side
+-- the side is named, and is not either
 abbrev pub is_named_side : Side → Bool
 is_named_side side.Either = false
 is_named_side _ = true
 
--- an option behind options that extract the names of these places
+-- an option after options that extract the names of these places
 abbrev pub IsOption : List ℕ → Opt → Type 0
 IsOption names (opt.Content content) = IsContent names content
 IsOption names (opt.Pcre text flags relative negated) = (length text ≤ 4096) × All (λ byte. byte < 128) text
@@ -138,7 +138,7 @@ IsOption names (opt.BitDo change bit) = bit < 1024
 IsOption names (opt.StreamSize side cmp value) = IsTrue (is_order cmp) × (value ≤ 4294967295)
 IsOption names (opt.Reassemble on side) = IsTrue (is_named_side side)
 
--- the names behind an option
+-- the names that are extracted after an option
 abbrev pub names_behind : List ℕ → Opt → List ℕ
 names_behind names (opt.ByteExtract fetch name times align) = name ∷ names
 names_behind names _ = names

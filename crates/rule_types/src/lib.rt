@@ -1,7 +1,7 @@
 //! What a rule says: a header, seven words that say which packets it speaks of, and options, tests of an
 //! item's header and payload (Snort Users Manual 2.9, chapter 3).
 //!
-//! The reader of rules makes these values, and the crates that try rules on items stand on this crate
+//! The reader of rules makes these values, and the crates that try rules on items build on this crate
 //! alone. `IsSound` in specs/Sound says which values a rule may have.
 #![tactic(auto)]
 

@@ -19,7 +19,7 @@ pub enum Cmp {
     Gt,
     Le,
     Ge,
-    /// They have a bit in common.
+    /// The two numbers have a bit in common.
     And,
     /// The first is between the two ends, which are inside.
     Within,
@@ -28,13 +28,13 @@ pub enum Cmp {
 /// How bits are compared with a set of bits.
 #[derive(Clone, Copy, Debug, PartialEq, Eq)]
 pub enum Mode {
-    /// They are exactly these.
+    /// The bits set are exactly these.
     Exact,
-    /// All of these are set.
+    /// All bits of the set are set.
     All,
-    /// Some of these is set.
+    /// Some bit of the set is set.
     Any,
-    /// None of these is set.
+    /// None of the set's bits is set.
     NoneSet,
 }
 
@@ -43,9 +43,9 @@ pub enum Mode {
 pub enum FastMode {
     No,
     Yes,
-    /// It is looked for anywhere in the payload, in either case, and nothing else is asked of it.
+    /// The content is looked for anywhere in the payload, in either case, and nothing else is asked of it.
     Only,
-    /// So many of its bytes from this place on are the pattern.
+    /// `len` of the content's bytes from the place `from` on are the pattern.
     Part { from: u32, len: u32 },
 }
 

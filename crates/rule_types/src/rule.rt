@@ -7,9 +7,9 @@ use net_lists::{AddrList, PortList};
 /// What a rule does with an item that it matches (Snort Users Manual 2.9, section 3.2.1).
 #[derive(Clone, Copy, Debug, PartialEq, Eq)]
 pub enum Action {
-    /// It gives an event.
+    /// The rule gives an event.
     Alert,
-    /// It takes the item's events away.
+    /// The rule takes the item's events away.
     Pass,
 }
 
@@ -41,7 +41,7 @@ pub struct Rule {
     pub gid: u32,
     /// The rule's number, at least 1.
     pub sid: u32,
-    /// Its revision.
+    /// The rule's revision.
     pub rev: u32,
     /// The place of its class among the configuration's classes.
     pub class: Option<u32>,

@@ -31,7 +31,7 @@ fn push_big(bytes: &mut Vec<u8>, numbers: &[u16]) -> Result<(), AllocError> {
     Ok(())
 }
 
-/// Appends the headers of a packet from 10.0.0.1 to 10.0.0.2 with so many bytes of UDP: IPv4 (RFC 791) and
+/// Appends the headers of a packet from 10.0.0.1 to 10.0.0.2 with `size` bytes of UDP: IPv4 (RFC 791) and
 /// UDP (RFC 768), without checksums.
 fn push_headers(bytes: &mut Vec<u8>, source: u16, size: u16) -> Result<(), AllocError> {
     let whole = size.saturating_add(20);

@@ -1,5 +1,5 @@
 //! Tests of whole runs of the detector that neither a clause nor a row of data says, by the public calls of
-//! the crates. They stand in a crate of their own, since a crate is proved once more with each test that it has.
+//! the crates. They are in a crate of their own, since a crate is proved once more with each test that it has.
 #![tactic(auto)]
 
 #[cfg(test)]

@@ -1,6 +1,6 @@
 //! Two lanes work at the same time.
 //!
-//! A batch has one packet of each of two flows, which stand in two lanes. Each lane waits at its entry until
+//! A batch has one packet of each of two flows, which are in two lanes. Each lane waits at its entry until
 //! the other lane came there too, and the search of each packet waits until the search of the other packet
 //! began. So lanes that run one after another miss one another in either order, and so do flows that
 //! one lane works on. Each wait has its limit: then the run goes on, and the test fails.
@@ -34,7 +34,7 @@ enum Who {
 struct Place {
     first: AtomicBool,
     second: AtomicBool,
-    /// One of them waited in vain.
+    /// Whether one of the two waited in vain.
     missed: AtomicBool,
 }
 
@@ -70,7 +70,7 @@ impl Place {
         }
     }
 
-    /// Both came, and neither waited in vain.
+    /// Whether both came, and neither waited in vain.
     fn have_met(&self) -> bool {
         let both = self.first.load(Ordering::SeqCst) && self.second.load(Ordering::SeqCst);
         both && !self.missed.load(Ordering::SeqCst)

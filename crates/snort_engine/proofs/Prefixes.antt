@@ -10,7 +10,7 @@ use Rattle.snort_engine.specs.Steps.Seen.{OnlyOpened}
 pub rose_since : (old middle new : ℕ) → old ≤ middle → Rose middle new → Rose old new
 rose_since old middle new later rose = grind (arith, nat_tests)
 
--- and it stays so
+-- a count that rose stays risen
 pub rose_on : (old middle new : ℕ) → Rose old middle → middle ≤ new → Rose old new
 rose_on old middle new rose later = omega (arith, rose)
 
@@ -20,7 +20,7 @@ rose_on old middle new rose later = omega (arith, rose)
 pub read_not : {H : Type 0} (g : HostOf H) (host : H) → OnlyRead g host host
 read_not g host = record { files = refl; earlier = λ seen may. may; opens = refl; later = omega arith }
 
--- it was read from, and again
+-- a host was read from, and again
 pub read_on : {H : Type 0} (g : HostOf H) (old middle new : H) → OnlyRead g old middle → OnlyRead g middle new → OnlyRead g old new
 read_on g old middle new one two = record {
   files = two.files ∙ one.files;
@@ -29,13 +29,13 @@ read_on g old middle new one two = record {
   later = let before = one.later in let after = two.later in omega (arith, before, after);
 }
 
--- its count rose behind what was read
+-- a host's count rose after it was read from
 pub read_rose : {H : Type 0} (g : HostOf H) (old middle new : H) → OnlyRead g old middle → Rose (g.faults middle) (g.faults new) → Rose (g.faults old) (g.faults new)
 read_rose g old middle new read rose = rose_since (g.faults old) (g.faults middle) (g.faults new) read.later rose
 
 -- ---- a host whose capture was opened
 
--- and then read from
+-- a host whose capture was opened was then read from
 pub opened_read : {H : Type 0} (g : HostOf H) (old middle new : H) → OnlyOpened g old middle → OnlyRead g middle new → OnlyOpened g old new
 opened_read g old middle new one two = record {
   files = two.files ∙ one.files;

@@ -75,7 +75,7 @@ capture_answer plan warnings None =
     record { alerts = []; errors = warnings ++ cannot_read_text plan.source; status = status.HostFault }
 capture_answer plan warnings (Some bytes) = recording_answer plan warnings (records_of plan bytes)
 
--- the answer for a way, behind these warnings: a capture that is made has its bytes without a file
+-- the answer for a way, after these warnings: a capture that is made has its bytes without a file
 abbrev pub way_answer : Files → List ℕ → Way → Answer
 way_answer files warnings (Stops message ended) = record { alerts = []; errors = warnings ++ message; status = ended }
 way_answer files warnings (Goes plan) = capture_answer plan warnings (get files plan.source)

@@ -45,7 +45,7 @@ no_counts = record { seen = none_counted; items = 0; hits = 0; alerts = 0; tries
 abbrev pub count_line : List ℕ → ℕ → List ℕ
 count_line name count = name ++ codes ": " ++ decimal count ++ codes "\n"
 
--- all of them
+-- all counts, each on its line
 unfoldable pub counts_text : Counts → List ℕ
 counts_text counts =
     count_line (codes "records") counts.seen.records
@@ -61,11 +61,11 @@ counts_text counts =
     ++ count_line (codes "alerts") counts.alerts
     ++ count_line (codes "tries") counts.tries
 
--- they are told, or not
+-- counts are told, or not
 abbrev pub told_counts : Bool → Counts → Option Counts
 told_counts told counts = if told then Some counts else None
 
--- a text, and the counts that are told behind it
+-- a text, and the counts that are told after it
 abbrev pub with_counts : List ℕ → Option Counts → List ℕ
 with_counts text None = text
 with_counts text (Some counts) = text ++ counts_text counts

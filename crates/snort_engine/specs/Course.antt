@@ -3,7 +3,7 @@
 -- A run reads its words, and the configuration, the rules and the host table that they name, and then
 -- either stops with a message and a status, or goes on with a plan: which capture is read, how, and by
 -- which rules. The capture is that of a file, or it is made of a seed (pcap_input specs/Generated), and
--- then no file is read for it. Warnings stand before either. What a run does with a capture is said by `Records`,
+-- then no file is read for it. Warnings come before either. What a run does with a capture is said by `Records`,
 -- `Trace` and `Lines`. A rule line's meaning is a relation, and so a course is one, too: the words,
 -- the files and the refused patterns have one course.
 -- (Snort Users Manual 2.9, section 1.6, for the options; the messages are our own.)
@@ -56,7 +56,7 @@ pub record Plan : Type 0 where
   pub counted : Bool
 
 -- a run stops with a message and a status, or goes on with a plan: for the capture in the plan's file, or
--- for the one that is made of a seed, with so many packets; or it writes the lines of a Unified2 file
+-- for the one that is made of a seed, with this many packets; or it writes the lines of a Unified2 file
 pub data Way : Type 0 where
   Stops : (message : List ℕ) (ended : Status) → Way
   Goes : (plan : Plan) → Way
@@ -92,7 +92,7 @@ checks_of mode.NoTcp = record { ip = true; tcp = false; udp = true; icmp = true 
 checks_of mode.NoUdp = record { ip = true; tcp = true; udp = false; icmp = true }
 checks_of mode.NoIcmp = record { ip = true; tcp = true; udp = true; icmp = false }
 
--- the plan for a capture of this name: `-k` stands in place of the configuration's mode
+-- the plan for a capture of this name: `-k` takes the place of the configuration's mode
 abbrev pub plan_for : Test → Run → Ready → List ℕ → Plan
 plan_for matches wanted ready source = record {
   source = source;
@@ -160,7 +160,7 @@ pub record AreListed (bytes : List ℕ) (way : Way) : Type 0 where
   pub are : AreRecordsOf bytes entries
   pub is : way ≡ Lists (entry_lines entries)
 
--- bytes that are none are bad behind the longest list of records that they begin with
+-- bytes of a Unified2 file that are no records are bad after the longest list of records that they begin with
 pub record AreBad (bytes : List ℕ) (way : Way) : Type 0 where
   pub place : ℕ
   pub bad : IsBadAt bytes place
@@ -177,7 +177,7 @@ IsFileWay name (Some bytes) way =
     ((most_file_bytes < length bytes) × (way ≡ Stops (too_large_text name) status.Refused))
     ⊎ ((length bytes ≤ most_file_bytes) × (AreListed bytes way ⊎ AreBad bytes way))
 
--- its course
+-- the course of a Unified2 file
 pub record IsFileCourse (name : List ℕ) (given : Given) (course : Course) : Type 0 where
   pub unwarned : course.warnings ≡ []
   pub way : IsFileWay name (get given.files name) course.way
@@ -209,7 +209,7 @@ HasOneCourse = (asked : Option Asked) (here : Given) (a b : Course) → IsCourse
 
 -- ---- its readings
 
--- one of the files that are read before the capture, or in place of one, and the warnings that stand before it
+-- one of the files that are read before the capture, or in place of one, and the warnings that come before it
 unfoldable pub Reads : Option Asked → Given → List ℕ → List (List ℕ) → Type 0
 Reads (Some (run wanted)) given name warnings =
     (earlier : List (List ℕ)) × IsReading (setup_words wanted) given.files given.refused name earlier
@@ -219,8 +219,8 @@ Reads asked given name warnings = ⊥
 
 -- ---- refused patterns
 
--- each of these rule lines has a pattern that the maker refused, and there are at most as many lines as
--- it refused patterns; words that read no rules have none
+-- refused patterns: each of these rule lines has a pattern that the maker refused, and there are at most as many
+-- lines as it refused patterns; words that read no rules have none
 unfoldable pub AreRefused : Option Asked → Files → List ℕ → List Refusal → Type 0
 AreRefused (Some (run wanted)) files refused grown =
     AreRefusedBy (setup_words wanted) (conf_read (setup_words wanted) (told files)) refused grown

@@ -85,7 +85,7 @@ pub record Ends (files : Files) (course : Course) (before after : Work) (ended :
 
 -- ---- before the course is known
 
--- a file that stands before the capture couldn't be read: the message tells the warnings before it and
+-- a file that is read before the capture couldn't be read: the message tells the warnings before it and
 -- its name
 pub record IsUnread (asked : Option Asked) (given : Given) (message : List ℕ) : Type 0 where
   pub name : List ℕ
@@ -105,7 +105,7 @@ IsEarly asked given before after ended message =
     ((ended ≡ status.HostFault) × Rose before.host_faults after.host_faults × IsUnread asked given message)
     ⊎ ((ended ≡ status.NoMemory) × IsLacking asked given message)
 
--- it has opened nothing and written no line
+-- a run that ends early has opened nothing and written no line
 pub record EndsEarly (asked : Option Asked) (given : Given) (before after : Work) (ended : Status) (message : List ℕ) :
     Type 0 where
   pub unopened : IsUntouched before after

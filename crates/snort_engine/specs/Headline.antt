@@ -5,7 +5,7 @@
 -- after a fault of reading or writing the alert bytes are a beginning of the answer's. Each part below
 -- speaks of the status with which a run ends, of what was seen of the outside before and of what is
 -- seen afterwards. A part about bytes claims nothing of a host that tells no files; the causes and
--- counts stand whatever is told.
+-- counts hold whatever is told.
 -- To try it on: where the alert sink fails at its second write, the alert bytes are a beginning of the
 -- answer's, and the message is `ERROR: cannot write`.
 use Rattle.std.specs.Prelude.{◌≡◌, ℕ, ◌+◌, ◌≤◌, List, Option, Some, None, ◌⊎◌, length, drop, []}
@@ -26,7 +26,7 @@ use Rattle.snort_engine.specs.Outside.{Outside, work_of, NoFault, NoCountFell}
 use Rattle.snort_engine.specs.Outside.{TellsMessage}
 use Rattle.snort_engine.specs.Ending.{EndsRun, IsUncut}
 
--- this holds of the files, where they are told
+-- something holds of the files, where they are told
 abbrev pub OfTold : Option Files → (Files → Type 0) → Type 0
 OfTold told Holds = (files : Files) → told ≡ Some files → Holds files
 
@@ -67,7 +67,7 @@ OpensBy asked given before after ended =
     ((after.opens ≤ before.opens + 1) × (HasOther asked given → MayBeCut before after ended))
     ⊎ ((after.opens ≡ one_more (one_more before.opens)) × HasOther asked given)
 
--- the same, where the files are told; whatever is told, at most twice
+-- how often a capture was opened, where the files are told; whatever is told, at most twice
 pub record IsOpenedOnce (asked : Option Asked) (given_of : Files → Given) (before after : Outside) (ended : Status) : Type 0 where
   pub at_most : after.opens ≤ before.opens + 2
   pub exactly : OfTold before.files (λ files. OpensBy asked (given_of files) before after ended)

@@ -11,7 +11,7 @@ pub mod ReadAhead
 pub mod Course
 -- the records of a capture's bytes, and how they end
 pub mod Records
--- a capture cut behind one of its records
+-- a capture cut after one of its records
 pub mod CutCaptures
 -- what is shown of records, stage by stage
 pub mod Trace

@@ -13,7 +13,7 @@ usage_text = codes "usage: snort -c CONF -r FILE [options]\n"
 unfoldable pub version_text : List ℕ
 version_text = codes "snort offline profile 2.9\n"
 
--- the configuration is accepted, with so many rules
+-- the configuration is accepted, with this many rules
 unfoldable pub accepted_text : ℕ → List ℕ
 accepted_text rules = codes "configuration accepted: " ++ decimal rules ++ codes " rules\n"
 
@@ -63,6 +63,6 @@ bad_unified2_text at = codes "ERROR: unified2 file is bad at byte " ++ decimal a
 unfoldable pub too_large_text : List ℕ → List ℕ
 too_large_text name = codes "ERROR: " ++ (name ++ codes "(0) file is too large\n")
 
--- the capture goes on behind as many records as are read, or, as blocks, behind 2^62 bytes
+-- the capture goes on after as many records as are read, or, as blocks, after 2^62 bytes
 unfoldable pub too_many_text : List ℕ
 too_many_text = codes "ERROR: capture has too many records\n"

@@ -2,7 +2,7 @@
 --
 -- A run is stated over what was seen before it and what is seen afterwards.
 -- To try it on: a run that is refused for its words leaves the host and the alert sink as they were,
--- and `ERROR: command line` behind the error bytes.
+-- and `ERROR: command line` after the error bytes.
 use Rattle.std.specs.Prelude.{◌≡◌, ℕ, ◌≤◌, ◌⊎◌, List, Option}
 use Rattle.edge_io.specs.Told.{behind, Rose}
 use Rattle.edge_io.specs.Files.{Files, left_by}
@@ -25,7 +25,7 @@ pub record Outside : Type 0 where
   pub error_faults : ℕ
   pub refusals : List Refusal
 
--- of a host, of the sinks of alerts and of errors, and of a maker that refused these
+-- what is seen of a host, of the sinks of alerts and of errors, and of a maker that refused these
 abbrev pub outside : {H A E : Type 0} → HostOf H → SinkOf A → SinkOf E → H → A → E → List Refusal → Outside
 outside h a e host alerts errors refusals = record {
   files = h.contents host;
@@ -43,14 +43,14 @@ outside h a e host alerts errors refusals = record {
 abbrev pub by : {H : Type 0} → Option Files → HostOf H → HostOf H
 by seen h = record h { contents = λ _. seen; left = λ host. left_by (h.left_of host) seen }
 
--- of the capture and the alert sink alone
+-- what is seen of the capture and the alert sink alone
 pub record Work : Type 0 where
   pub left : Option (List ℕ)
   pub opens : ℕ
   pub host_faults : ℕ
   pub alerts : Option (List ℕ)
 
--- of a host and a sink of alerts
+-- what is seen of a host and a sink of alerts
 abbrev pub work : {H A : Type 0} → HostOf H → SinkOf A → H → A → Work
 work h a host alerts = record { left = h.left host; opens = h.opens host; host_faults = h.faults host; alerts = a.written alerts }
 

@@ -7,10 +7,10 @@
 -- the capture is made, nothing is opened or read, and so no fault of reading ends the run; so it is where the
 -- lines of a Unified2 file are written, which was read before.
 -- Under a limit no more records than it lets are whole within the bytes that were taken. After a write fault in the
--- lines of a batch no record is read behind it, since its lines would be due then; and it was read whole, unless the
+-- lines of a batch no record is read after it, since its lines would be due then; and it was read whole, unless the
 -- capture was read to its end or the host failed.
 -- To try it on: where 600 records with a line each were taken, at least the lines of the first 512
--- stand in the alerts; under `-n 5` at most five of them were taken. Of 1000 records with a line each, where the
+-- are in the alerts; under `-n 5` at most five of them were taken. Of 1000 records with a line each, where the
 -- write of the 300th fails, 512 were taken: the batch whose lines were written, and the one whose lines were offered.
 -- Of 300, where the write of the 200th fails, 256 were taken, and not the 44 that were left.
 use Rattle.std.specs.Prelude.{◌≡◌, ℕ, ◌-◌, ◌*◌, ◌/◌, List, [], ◌++◌, length, take, Option, Some, None, ◌⊎◌}
@@ -35,13 +35,13 @@ batch = 256
 abbrev pub AreBatches : List LinkedRecord → Type 0
 AreBatches records = (count : ℕ) × (length records ≡ count * batch)
 
--- of a capture whose rest stands behind the bytes taken, whole batches were read; or all records; or the host failed
+-- of a capture whose rest follows the bytes taken, whole batches were read; or all records; or the host failed
 abbrev pub IsReadInBatches : Plan → List ℕ → List ℕ → Type 0 → Type 0
 IsReadInBatches plan taken rest failed =
     AreBatches (records_of plan taken).records
     ⊎ (((records_of plan (taken ++ rest)).records ≡ (records_of plan taken).records) ⊎ failed)
 
--- how many records lie before the batch that the last one of so many is in
+-- how many records lie before the batch that the last one of `count` is in
 abbrev pub before_last_batch : ℕ → ℕ
 before_last_batch count = (count - 1) / batch * batch
 
@@ -72,7 +72,7 @@ pub record IsReadAhead (plan : Plan) (held : Option (List ℕ)) (before after : 
   pub still : after.left ≡ Some rest
   pub more : List ℕ
   pub wrote : after.alerts ≡ behind before.alerts (lines_due plan taken ++ more)
-  -- under a limit no record behind it was read, the records being counted without it
+  -- under a limit no record beyond it was read, the records being counted without it
   pub within : AreWithin plan.limit (records_in None taken).records
   -- nothing was read after a write fault
   pub in_batches : ended ≡ status.WriteFault

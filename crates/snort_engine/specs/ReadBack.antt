@@ -20,18 +20,18 @@ use Rattle.snort_engine.specs.Course.{Plan}
 use Rattle.snort_engine.specs.Lines.{alert_count}
 use Rattle.snort_engine.specs.Trace.{CaptureState, trace}
 
--- the records of an alert behind so many: its event, and then the packet
+-- the records of an alert after this many others: its event, and then the packet
 abbrev pub entries_of : ℕ → Alert → List U2
 entries_of before alert =
     an_event (event_record before alert.what)
     ∷ a_packet (packet_record before alert.what.head.moment alert.source) ∷ []
 
--- the records of alerts behind so many
+-- the records of alerts after this many others
 abbrev pub entries_from : ℕ → List Alert → List U2
 entries_from before [] = []
 entries_from before (alert ∷ later) = entries_of before alert ++ entries_from (before + 1) later
 
--- the records that are written for a capture's records behind these records
+-- the records that are written for a capture's records after these records
 unfoldable pub entries : Plan → List LinkedRecord → List LinkedRecord → CaptureState → List U2
 entries plan before records state = entries_from (alert_count plan before) (trace plan before records state)
 

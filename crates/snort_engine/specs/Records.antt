@@ -1,6 +1,6 @@
 -- The records that a plan reads of a capture's bytes, and how they end.
 --
--- A capture whose first 24 bytes are there, the first four of them 0a0d0d0a, is blocks behind one another
+-- A capture whose first 24 bytes are there, the first four of them 0a0d0d0a, is blocks one after another
 -- (pcapng_input specs/Blocks); every other one is a savefile (pcap_input specs/Savefile). Each record carries
 -- the link layer that its own bytes begin with: that of the savefile, or that of the packet's interface. A
 -- record is whole within the first bytes of a capture where it, or its block, ends in them. A capture whose
@@ -36,7 +36,7 @@ Recording = Cut LinkedRecord ReadFault
 
 -- ---- a savefile
 
--- what it is refused for
+-- what a savefile is refused for
 abbrev pub of_savefile : CaptureFault → ReadFault
 of_savefile savefile_fault.NotPcap = fault.NotPcap
 of_savefile (savefile_fault.LinkType link_type) = fault.LinkType link_type
@@ -57,7 +57,7 @@ recording_in (Err why) = no_more (Refused (of_savefile why))
 
 -- ---- blocks
 
--- what they are refused for
+-- what blocks are refused for
 abbrev pub of_blocks : NgFault → ReadFault
 of_blocks blocks_fault.NotPcapng = fault.NotPcap
 of_blocks (blocks_fault.Truncated at) = fault.Truncated at

@@ -5,7 +5,7 @@
 -- of two parts together: neither a detection filter nor an event filter has a key for an item of this part that it has
 -- for one of another part. Where filters track addresses that no two parts share, this is so.
 --
--- Where the capture has ended, the alerts of flows that end with it stand beside the last record, whichever part that is
+-- Where the capture has ended, the alerts of flows that end with it are beside the last record, whichever part that is
 -- of. So of a closed capture it is said of events, which are of a part by the pairs that they go between, where the part
 -- also ends when the capture does.
 --
@@ -29,7 +29,7 @@ use Rattle.snort_engine.specs.Course.{Plan}
 use Rattle.alert_lines.specs.Events.{Alert, Event as Shown}
 use Rattle.snort_engine.specs.Trace.{detection_of, jobs_way}
 
--- the alerts of a part, by the records that they stand beside
+-- the alerts of a part, by the records that they are beside
 abbrev pub alerts_of : Part → List Alert → List Alert
 alerts_of part alerts = filter (λ (alert : Alert). part alert.source) alerts
 
@@ -43,7 +43,8 @@ IsCountedApart {S} part items key_of = (a b : Beside S Hits) (p q : ℕ) (key ot
     → Contains items a → Contains items b → part a.source ≡ true → part b.source ≡ false
     → key_of (event_of a.what.head p) ≡ Some key → key_of (event_of b.what.head q) ≡ Some other → same_key key other ≡ false
 
--- so it is of detection filters, and of the event filters of rules and of all rules
+-- no item of the part is counted together with one that isn't: not by detection filters, nor by the event filters of
+-- rules or of all rules
 pub record AreCountedApart {S : Type 0} (plan : Plan) (part : S → Bool) (items : List (Beside S Hits)) : Type 0 where
   pub matches : IsCountedApart part items (match_key plan.rules)
   pub own : IsCountedApart part items (event_key (own_place plan.config.filters) plan.config.filters plan.rules)

@@ -6,7 +6,7 @@
 -- specs/Events); each that is kept is an alert, beside the record whose decoding made the item's job. A
 -- stage depends on what came to it before, and on nothing else: not on lanes or batches. Where the capture
 -- has ended, the flows that live then end too, and the last stages go on over these jobs, whose alerts
--- stand beside the last record.
+-- are beside the last record.
 -- (Snort Users Manual 2.9, sections 2.2.1 to 2.2.3 for what is put together, 2.4 and 3 for events.)
 -- To try it on: a packet with payload `abc` and the rules for `bc`, `x` and `a` shows the alerts of
 -- the first and of the third.
@@ -47,7 +47,7 @@ detection_of plan = record {
   trying = record { rules = plan.rules; matches = plan.matches };
 }
 
--- the items of a job behind earlier jobs
+-- the items of a job after earlier jobs
 unfoldable pub job_items : Detection → List Job → Job → List Hits
 job_items d before job = (answer d before job).items
 
@@ -57,22 +57,22 @@ items_of plan records = trail (job_items (detection_of plan)) (jobs_of plan reco
 
 -- ---- all stages
 
--- the events of a record behind earlier records
+-- the events of a record after earlier records
 unfoldable pub record_events : Plan → List LinkedRecord → LinkedRecord → List Event
 record_events plan = chained (item_events plan.config plan.rules) (chained (job_items (detection_of plan)) (jobs (jobs_way plan)))
 
--- its alerts
+-- the alerts of a record after earlier records
 abbrev pub record_alerts : Plan → List LinkedRecord → LinkedRecord → List Alert
 record_alerts plan = own (record_events plan)
 
--- behind all records of a capture the flows that live then end: their items, and the alerts of these
+-- after all records of a capture the flows that live then end: their items, and the alerts of these
 unfoldable pub closing_items : Plan → List LinkedRecord → List Hits
 closing_items plan records = trail_from (job_items (detection_of plan)) (jobs_of plan records) (finishes (jobs_way plan) records)
 
 unfoldable pub closing_events : Plan → List LinkedRecord → List Event
 closing_events plan records = trail_from (item_events plan.config plan.rules) (items_of plan records) (closing_items plan records)
 
--- what stands for the last record where there is none: no flow lives then that could end
+-- what takes the place of the last record where there is none: no flow lives then that could end
 abbrev pub no_record : LinkedRecord
 no_record = record { link = Ethernet; captured = record { number = 0; moment = record { nanos = 0 }; original = 0; bytes = [] } }
 
@@ -88,7 +88,7 @@ pub data CaptureState : Type 0 where
   Open : CaptureState
   Closed : CaptureState
 
--- what is shown of records behind these records, and of the flows that end with the capture
+-- what is shown of records after these records, and of the flows that end with the capture
 unfoldable pub trace : Plan → List LinkedRecord → List LinkedRecord → CaptureState → List Alert
 trace plan before records Open = trail_from (record_alerts plan) before records
 trace plan before records Closed = trail_from (record_alerts plan) before records ++ closing_alerts plan (before ++ records)

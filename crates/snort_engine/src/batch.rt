@@ -18,10 +18,10 @@ use std::alloc::{AllocError, AllocFailed, Global};
 /// How many records are read before their lines are offered.
 const BATCH: usize = 256;
 
-/// What stands behind the records that were read.
+/// What comes after the records that were read.
 #[derive(Clone, Copy, Debug)]
 pub(crate) enum Reached {
-    /// More records may stand there.
+    /// More records may be there.
     More,
     /// The capture ends there.
     End,
@@ -29,7 +29,7 @@ pub(crate) enum Reached {
     Fault(ReadFault),
 }
 
-/// Reads one record behind those that were read. Want of memory is nothing else: what the reader refuses is answered.
+/// Reads one record after those that were read. Want of memory is nothing else: what the reader refuses is answered.
 #[tactic(auto, using(crate::proofs::Prefixes::reading))]
 fn read_one<H: Host>(
     alloc: Global,
@@ -62,7 +62,7 @@ fn read_one<H: Host>(
     }
 }
 
-/// How many records the next batch has at most, where so many may still be read.
+/// How many records the next batch has at most, where `room` may still be read.
 pub(crate) fn most_at(room: Option<u32>) -> usize
     ensures { result ≡ most_at room }
 {
@@ -72,7 +72,7 @@ pub(crate) fn most_at(room: Option<u32>) -> usize
     }
 }
 
-/// How many records may still be read behind a batch of so many.
+/// How many records may still be read after a batch of `count`.
 pub(crate) fn room_behind(room: Option<u32>, count: usize) -> Option<u32>
     requires { count ≤ most_at room }
     ensures { result ≡ room_behind room count }
@@ -84,7 +84,7 @@ pub(crate) fn room_behind(room: Option<u32>, count: usize) -> Option<u32>
 }
 
 /// Reads a batch of `most` records, or fewer where the capture ends, is refused or can't be read on
-/// behind them. These are still to be shown.
+/// after them. These are still to be shown.
 #[tactic(auto, using(crate::proofs::Prefixes::reading))]
 pub(crate) fn read_batch<H: Host>(
     alloc: Global,

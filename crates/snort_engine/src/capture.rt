@@ -23,7 +23,7 @@ use edge_io::{Gate, Host, Pattern, Sink};
 use pcap_input::make_capture;
 use std::thread::Threads;
 
-/// Makes a capture of a seed, with so many packets, and writes the lines of its records; `counts` is then
+/// Makes a capture of a seed, with this many packets, and writes the lines of its records; `counts` is then
 /// what was counted, where it was read to its end. The host isn't asked for anything.
 #[tactic(auto, using(crate::proofs::Prefixes::rising))]
 fn show_made<P: Pattern, G: Gate, A: Sink, R: Threads + Sync>(

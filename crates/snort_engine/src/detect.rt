@@ -1,4 +1,4 @@
-//! Records with what stands before them: their jobs, what these find, and the lines of it.
+//! Records with what comes before them: their jobs, what these find, and the lines of it.
 ghost use Rattle.std.specs.Prelude.{◌≡◌, ◌+◌, ◌≤◌, ◌^◌, [], length, OnOk, IfOk};
 ghost use Rattle.conf_types.specs.Sound as conf;
 ghost use Rattle.fast_pattern.specs.Grouping.{StandFor};
@@ -91,7 +91,7 @@ impl Detector {
     }
 }
 
-/// The jobs of records, one behind another, and the place of each one's record.
+/// The jobs of records, one after another, and the place of each one's record.
 pub(crate) fn make_jobs<'a>(
     alloc: Global,
     by: &FrontConfig<'_>,
@@ -164,8 +164,8 @@ fn run_jobs<P: Pattern, G: Gate, A: Sink, R: Threads + Sync>(
     inspection.writer.write_out(alerts)
 }
 
-/// Writes the lines of a batch of records, whole, and keeps its last record: what was kept before stands
-/// in its place then.
+/// Writes the lines of a batch of records, whole, and keeps its last record: what was kept before is in its
+/// place.
 #[tactic(auto, using(crate::proofs::Prefixes::rising))]
 pub(crate) fn show_records<P: Pattern, G: Gate, A: Sink, R: Threads + Sync>(
     context: &Context<'_, P, G, R>,
@@ -199,7 +199,7 @@ pub(crate) fn show_records<P: Pattern, G: Gate, A: Sink, R: Threads + Sync>(
     Ok(())
 }
 
-/// The jobs behind all records.
+/// The jobs after all records.
 fn last_jobs<'a>(alloc: Global, front: Front) -> Result<Vec<Job<'a>>, NoMemory>
     ensures { IfOk result (λ jobs. GivesFinishes front [] jobs.items) }
 {
@@ -208,7 +208,7 @@ fn last_jobs<'a>(alloc: Global, front: Front) -> Result<Vec<Job<'a>>, NoMemory>
     Ok(jobs)
 }
 
-/// Ends the flows that live behind all records, and writes the lines of what they show then, whole. It
+/// Ends the flows that live after all records, and writes the lines of what they show then, whole. It
 /// gives all that was counted.
 #[tactic(auto, using(crate::proofs::Prefixes::rising))]
 pub(crate) fn close<P: Pattern, G: Gate, A: Sink, R: Threads + Sync>(

@@ -25,7 +25,7 @@ use std::thread::Threads;
 ///
 /// The order is words, configuration, rules, host table, warnings, capture header, records; the lines of
 /// a batch of records are written before the next is read. `maker` makes the patterns of rules. The flows
-/// are dealt to so many lanes as the words say, which are spread over threads; each passes `gate` at the
+/// are dealt to as many lanes as the words say, which are spread over threads; each passes `gate` at the
 /// start of its work on a batch. Each warning, and the message with the counts, is offered to `errors`
 /// once, whole; after a fault of that sink nothing more is written to it, and the run ends as it would have.
 pub fn run<H: Host, M: PatternMaker, A: Sink, E: Sink, G: Gate, R: Threads + Sync>(

@@ -14,17 +14,17 @@ use pcapng_input::NgFault;
 /// 0: where the record or the block begins that can't be read.
 #[derive(Clone, Copy, Debug)]
 pub(crate) enum ReadFault {
-    /// It begins neither as a savefile of version 2 nor with a section header and its byte-order magic.
+    /// The capture begins neither as a savefile of version 2 nor with a section header and its byte-order magic.
     NotPcap,
     /// A link type other than 1, 101 and 113.
     LinkType(u32),
-    /// It ends inside its header, or inside the record or the block that begins at this place.
+    /// The capture ends inside its header, or inside the record or the block that begins at this place.
     Truncated { at: u64 },
     /// The block that begins at this place is not as the format has it.
     BadBlock { at: u64 },
     /// The record at this place says that more than 262144 bytes were captured.
     TooLong { at: u64, len: u32 },
-    /// It goes on behind 4294967295 records, or, as blocks, behind 2^62 bytes.
+    /// The capture goes on after 4294967295 records, or, as blocks, after 2^62 bytes.
     TooMany,
     /// The host failed, or has no such file.
     Failed,
@@ -49,7 +49,7 @@ impl ReadFault {
         }
     }
 
-    /// Its message, with a line feed at its end, where the capture has this name.
+    /// The fault's message, with a line feed at its end, where the capture has this name.
     #[tactic(auto, unfolding(crate::specs::Messages::cannot_read_text))]
     pub fn pieces<'a>(&self, source: &'a str) -> [Piece<'a>; 5]
         ensures { pieces_text result ≡ fault_text source.now self.now }

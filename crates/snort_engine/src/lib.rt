@@ -11,7 +11,7 @@
 //! lines (`specs/Lines`) and what is counted (`specs/Counts`) are a definition each. How many lanes do the
 //! work is no part of any of them. The layers below are used by their public contracts and the laws about
 //! these alone: the words, the setup, the reader, the front that makes jobs of records, the lanes, the
-//! filters of events, the lines, the host and the sinks. The program stands on this crate.
+//! filters of events, the lines, the host and the sinks. The program rests on this crate.
 #![tactic(auto)]
 
 mod batch;

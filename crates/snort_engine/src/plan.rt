@@ -14,7 +14,7 @@ use snort_setup::Setup;
 pub(crate) enum Source<'a> {
     /// The file of this name.
     File(&'a str),
-    /// It is made of a seed, with so many packets.
+    /// A capture that is made of a seed, with this many packets.
     Made { seed: u32, count: u32 },
 }
 

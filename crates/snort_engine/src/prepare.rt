@@ -1,4 +1,4 @@
-//! What stands before a capture: the words, the configuration, the rules and the host table.
+//! What comes before a capture: the words, the configuration, the rules and the host table.
 ghost use Rattle.std.specs.Prelude.{◌≡◌, [], None, Some, Ok, map, string_bytes, IfOk, IfErr, IsSome};
 ghost use Rattle.std.specs.Option.{option_map_or};
 ghost use Rattle.edge_io.specs.Files.{Files};
@@ -60,7 +60,7 @@ fn checks_of(mode: ChecksumMode) -> Checks
     }
 }
 
-/// The checksums that are verified: `-k` stands in place of the configuration's.
+/// The checksums that are verified: `-k` takes the place of the configuration's.
 fn checks_for(wanted: &Words<'_>, configured: Checks) -> Checks
     ensures { result ≡ option_map_or checks_of (run_of wanted.now).checks configured }
 {

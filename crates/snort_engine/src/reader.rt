@@ -18,9 +18,9 @@ use std::alloc::Global;
 /// A reader of the host's open capture.
 #[derive(Debug, Drop)]
 pub(crate) enum RecordReader {
-    /// Of a libpcap savefile.
+    /// A reader of a libpcap savefile.
     Savefile(CaptureReader),
-    /// Of pcapng blocks.
+    /// A reader of pcapng blocks.
     Blocks(NgReader),
 }
 
@@ -70,7 +70,7 @@ impl RecordReader {
     }
 
     /// Takes back the bytes of a record that is done with: a later record is read into their memory. The
-    /// reader stands where it stood.
+    /// reader stays where it was.
     pub fn take_back(&mut self, alloc: Global, shown: LinkedRecord)
         ensures { self.new ≡ self.old }
     {
@@ -82,7 +82,7 @@ impl RecordReader {
     }
 }
 
-/// What stands for the last record where none was captured: no flow lives then that could end. Takes no memory.
+/// What takes the place of the last record where none was captured: no flow lives then that could end. Takes no memory.
 pub(crate) fn no_record(alloc: Global) -> LinkedRecord
     ensures { result ≡ no_record }
 {

@@ -19,7 +19,7 @@ ghost use Rattle.snort_engine.specs.Records.{is_of_blocks, records_in, records_o
 ghost use Rattle.snort_engine.specs.Trace.{CaptureState, Closed};
 
 /// A plan with a limit of records is, on a capture that has as many, the plan without a limit on the capture cut
-/// behind the last of them: the records are those of the cut (`records`), with a clean ending (`clean`), and the
+/// after the last of them: the records are those of the cut (`records`), with a clean ending (`clean`), and the
 /// whole answer is its answer, the alert bytes, the warnings, the counts and the status (`answer`). There is such a
 /// cut (`cut`), and of a savefile it ends where those records do (`place`). Where a capture has fewer records, the
 /// limit says nothing (`fewer`).
@@ -41,7 +41,7 @@ pub fn limits_cut_captures()
 /// The lines of a plan that writes Unified2, whose rules' numbers have four bytes each, are the texts of the records
 /// of its alerts, each of which can be read back (`written`), and so are the alert bytes of its answer on any capture
 /// (`answer`): bytes give records that fit (`captured`). Bytes are of one list of records (`one`); so a file that
-/// holds them tells a line for each of these (`told`), and cut behind any of them it is those up to there (`first`).
+/// holds them tells a line for each of these (`told`), and cut after any of them it is those up to there (`first`).
 pub fn written_records_read_back()
     ensures written { (plan : Plan) (records : List LinkedRecord) (state : CaptureState) → plan.form ≡ Unified2
         → All FitsRule plan.rules → All FitsRecord records

@@ -26,7 +26,7 @@ use alert_lines::LinkedRecord;
 use edge_io::{Gate, Host, Pattern, Sink};
 use std::thread::Threads;
 
-/// Writes the lines of records behind which memory was lacking, as far as that goes.
+/// Writes the lines of records after which memory was lacking, as far as that goes.
 #[tactic(auto, using(crate::proofs::Prefixes::rising))]
 fn show_some<P: Pattern, G: Gate, A: Sink, R: Threads + Sync>(
     context: &Context<'_, P, G, R>,

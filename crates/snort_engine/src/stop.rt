@@ -20,13 +20,13 @@ pub(crate) enum Stop {
     Usage,
     /// The words ask which program this is.
     Version,
-    /// The configuration is accepted, with so many rules, and nothing else was asked for.
+    /// The configuration is accepted, with this many rules, and nothing else was asked for.
     Accepted { rules: u64 },
     /// The words are no command.
     CommandLine,
     /// A line of a file is refused, or a file that is too large, with this message.
     Refused { message: Text },
-    /// The host failed at this file, which stands before the capture, or lacks it.
+    /// The host failed at this file, which is read before the capture, or lacks it.
     CannotReadFile { name: Text },
     /// The capture is refused, or can't be read.
     Capture(ReadFault),
@@ -68,7 +68,7 @@ impl Stop {
         }
     }
 
-    /// Its message, with a line feed at its end, where the capture has this name.
+    /// The stop's message, with a line feed at its end, where the capture has this name.
     #[tactic(auto, unfolding(crate::specs::Steps::Stop::stop_text, crate::specs::Messages::cannot_read_text, crate::specs::Messages::accepted_text))]
     pub fn pieces<'a>(&'a self, source: &'a str) -> [Piece<'a>; 5]
         ensures { pieces_text result ≡ stop_text source.now self.now }

@@ -73,7 +73,7 @@ module _ {A : Type 0} (words : Words) (files : Files) (rose : Type 0) (vars : Va
   conf-stopped conf.NoMemory (stop.CannotRead name) stops loading ends = let never : stop.CannotRead name ≡ stop.NoMemory = stops in cc
   conf-stopped conf.NoMemory stop.NoMemory stops loading ends = tt
 
--- the same from what a loading says of a host and of the variables that were first
+-- a configuration that is stopped, from what a loading says of a host and of the variables that were first
 pub conf-stopped-from : {A : Type 0} (words : Words) (files : Files) (host : Option Files) (before : Variables) → host ≡ Some files → before ≡ first_variables words.definition → (rose : Type 0) (vars : Variables) (out : Loaded) (warnings : List (List ℕ))
     → warnings ≡ conf_warnings out.files out.warnings → (why : LoadStop) (answer : SetupStop) → StopsAs out.files why answer → IsLoading {A = A} host words.conf before (Err why) vars out
     → EndsUnlessFailed {A = A} rose (read_files (told files) words.conf before) (Err why) vars out → ConfEnds words files rose (Err answer) warnings (conf_read words (told files))

@@ -24,7 +24,7 @@ judged-few rules is_refused rule other = go (is_taken rules rule) (nat_le most_r
   go false true refused is accepted = absurd cc
   go false false refused is accepted = omega (arith, leb-false most_rules (length rules) is)
 
--- and so does the rule of a line
+-- the rule of a line, where it is accepted, finds room
 line-few : (frame : Frame) (standing : Standing) (is_refused : Bool) (text : List ℕ) (verdict : Verdict) (rule : Rule) → LineGives frame standing is_refused text verdict → verdict.rule ≡ Ok rule → length standing.rules + 1 ≤ most_rules
 unfolding LineGives
 line-few frame standing is_refused text verdict rule (inl (read, later, is, same)) accepted =
@@ -32,7 +32,7 @@ line-few frame standing is_refused text verdict rule (inl (read, later, is, same
 line-few frame standing is_refused text verdict rule (inr (fault, faulty, same)) accepted =
     let never : ◌≡◌ {A = Result Rule RuleFault} (Err fault) (Ok rule) = sym (ap (λ (v : Verdict). v.rule) same) ∙ accepted in cc
 
--- what goes on is what stands
+-- what goes on is what there is
 same-standing : (a b : Standing) → ◌≡◌ {A = Result Standing (List ℕ)} (Ok a) (Ok b) → a ≡ b
 same-standing a b same = cc
 
@@ -44,7 +44,7 @@ skipped-few frame line standing behind fault few = go (frame.skips && is_skippab
   go true same = subst (λ (s : Standing). length s.rules ≤ most_rules) (same-standing (with_warning standing (rule_warning frame line fault)) behind same) few
   go false same = absurd cc
 
--- what stands behind a line that gives this
+-- what there is after a line that gives this
 given-few : (frame : Frame) (line : Line) (standing behind : Standing) (names : List (List ℕ)) (given : Result Rule RuleFault)
     → ((rule : Rule) → given ≡ Ok rule → length standing.rules + 1 ≤ most_rules) → length standing.rules ≤ most_rules
     → behind_line frame line standing (record { rule = given; names = names }) ≡ Ok behind → length behind.rules ≤ most_rules
@@ -63,7 +63,7 @@ behind-few frame line standing behind is_refused verdict gives few same =
 
 -- ---- all lines
 
--- by one of two ways on
+-- something follows by one of two ways on
 on_either : {A B C : Type 0} (r : Result A B) (P : A → Type 0) (S : B → Type 0) → ((x : A) → r ≡ Ok x → P x → C) → ((y : B) → S y → C) → MatchResult r P S → C
 on_either (Ok x) P S ok err p = ok x refl p
 on_either (Err y) P S ok err p = err y p

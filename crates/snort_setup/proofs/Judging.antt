@@ -1,4 +1,4 @@
--- A rule behind the accepted ones, and what the maker refused meanwhile.
+-- A rule after the accepted ones, and what the maker refused meanwhile.
 use Rattle.std.proofs.Common.{◌≡◌, ℕ, Bool, true, false, Option, Some, None, List, [], ◌∷◌, ◌++◌, length, drop, refl, sym, ap, subst, ◌∙◌, arith, length-append, append-nil}
 use Rattle.std.specs.Prelude.{nat_le}
 use Rattle.std.specs.Bool.{OnTrue}

@@ -32,18 +32,18 @@ module _ (frame : Frame) (names : List (List ℕ)) (text : List ℕ) where
       let same = ok-same (b, names_b) (a, names_a) (answers-as frame.variables frame.classes names text (Ok a) names_a x (Ok (b, names_b)) y) in
       (sym (ap (λ (p : Rule × List (List ℕ)). p.0) same), sym (ap (λ (p : Rule × List (List ℕ)). p.1) same))
 
-  -- or has a fault
+  -- a line is a rule or has a fault, not both
   rule-or_fault : (a : Rule) (names_a : List (List ℕ)) (fault : RuleFault) → IsRule frame names text a names_a → IsFaulty frame names text fault → ⊥
   rule-or_fault a names_a fault x (inl memory, other) = other memory
   rule-or_fault a names_a fault x (inr (why, is, shown), other) = err-ok why (a, names_a) (answers-as frame.variables frame.classes names text (Ok a) names_a x (Err why) is)
 
-  -- and that is one
+  -- the fault of a line is one
   fault-one : (a b : RuleFault) → IsFaulty frame names text a → IsFaulty frame names text b → a ≡ b
   fault-one a b (x, not_a) (inl memory, not_b) = absurd (not_b memory)
   fault-one a b (x, not_a) (inr (why, is, shown), not_b) =
       ⊎_elim (λ memory. absurd (not_a memory)) (λ (other, same, as_well). cc) (answers-as frame.variables frame.classes names text (Err a) names x (Err why) is)
 
--- so it gives one verdict
+-- a line gives one verdict
 pub verdict-one : (frame : Frame) (standing : Standing) (is_refused : Bool) (text : List ℕ) (a b : Verdict) → LineGives frame standing is_refused text a → LineGives frame standing is_refused text b → a ≡ b
 unfolding LineGives
 verdict-one frame standing is_refused text a b (inl (rule, later, x, same)) (inl (other, behind, y, as_well)) =
@@ -77,7 +77,7 @@ ruled-one words refused (Whole read) a b (end, gives, same) (other, gives_too, a
 ruled-one words refused (RefusedAt fault output) a b x y = x ∙ sym y
 ruled-one words refused (Asks name output) a b x y = x ∙ sym y
 
--- and so does a setup
+-- words, files and refused lines have one setup
 pub setup-one : HasOneSetup
 setup-one = λ words files refused a b (given, x, same) (other, y, as_well).
     let one : given ≡ other = ruled-one words refused (conf_read words (told files)) given other x y in

@@ -1,4 +1,4 @@
--- Rule lines behind a warning more end as they do without it.
+-- Rule lines after a warning more end as they do without it.
 use Rattle.std.proofs.Common.{◌≡◌, ℕ, ◌+◌, Bool, true, false, List, [], ◌∷◌, ◌++◌, Option, Some, None, Result, Ok, Err, refl, sym, ap, subst, ◌∙◌, append_assoc, arith, inl, inr, length, ◌<◌}
 use Rattle.std.specs.Prelude.{◌&&◌, if◌then◌else◌, nat_le}
 use Rattle.std.specs.Result.{MatchResult}
@@ -13,7 +13,7 @@ use Rattle.snort_setup.specs.Rules.{Frame, IsFaulty, LineGives, RulesEnd, RulesG
 use Rattle.snort_setup.specs.SkippedLines.{AreMoved, HasOneMore, IsRefusedRule, IsSkipped, OnlyWarns}
 use Rattle.snort_setup.proofs.One.{verdict-one}
 
--- what stands, with these warnings
+-- what there is, with these warnings
 abbrev stands : List (List ℕ) → List Rule → List (List ℕ) → Standing
 stands names rules warnings = record { names = names; rules = rules; warnings = warnings }
 
@@ -42,7 +42,7 @@ end_alike rules names before warning later refusal all is = record {
   without = refl;
 }
 
--- how lines go on behind one
+-- how lines go on after one
 abbrev GoesOn : Frame → List ℕ → ℕ → Standing → List Line → RulesEnd → Result Standing (List ℕ) → Type 0
 GoesOn frame refused place standing rest all result =
     MatchResult result (λ behind. RulesGive frame refused (place + 1) behind rest all) (λ message. all ≡ end_at standing (Some message))
@@ -137,7 +137,7 @@ rule_alike frame moved place names rules before warning later line rest all rule
       more = next.more;
     }
 
--- the lines behind one, whatever stands behind it, with the warning more
+-- the lines after one, whatever there is after it, with the warning more
 abbrev GoOn : Frame → List ℕ → List ℕ → ℕ → List (List ℕ) → List ℕ → List Line → RulesEnd → Type 0
 GoOn frame refused moved place before warning rest all =
     (own : List (List ℕ)) (known : List Rule) (told : List (List ℕ))
@@ -181,7 +181,7 @@ line_alike frame refused moved place names rules before warning later line rest 
 line_alike frame refused moved place names rules before warning later line rest all on own (Err fault) gives goes =
     fault_alike frame refused moved place names rules before warning later line rest all on fault own _ refl gives goes
 
--- the lines behind a warning more
+-- the lines after a warning more
 alike : (frame : Frame) (refused moved : List ℕ) (place : ℕ) (names : List (List ℕ)) (rules : List Rule) (before : List (List ℕ)) (warning : List ℕ)
     (later : List (List ℕ)) (lines : List Line) (all : RulesEnd) → AreMoved place refused moved
     → RulesGive frame refused (place + 1) (stands names rules (before ++ warning ∷ later)) lines all
@@ -201,7 +201,7 @@ alike frame refused moved place names rules before warning later (line ∷ rest)
     (λ next known told goes. alike frame refused moved (place + 1) next known before warning told rest all (moved_on place refused moved are) goes)
     gives.0.names gives.0.rule here gives.2
 
--- a line that is skipped, and the lines behind it
+-- a line that is skipped, and the lines after it
 pub skipped : (frame : Frame) (standing : Standing) (line : Line) (fault : RuleFault) → OnlyWarns frame standing line fault
 unfolding RulesGive
 skipped frame standing line fault = λ refused moved place rest all is are gives.

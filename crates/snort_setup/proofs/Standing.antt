@@ -32,7 +32,7 @@ pub record SoFar (frame : Frame) (lines : List Line) (warnings : List (List ℕ)
       → RulesGive frame (refused ++ later) place standing rest end → RulesGive frame (refused ++ later) 0 (nothing_stands warnings) lines end
   pub are_refused : AreRefused frame lines refused grown
 
--- no line
+-- no line was read yet
 pub sofar-none : (frame : Frame) (lines : List Line) (warnings : List (List ℕ)) (standing : Standing) (grown : List Refusal) → standing ≡ nothing_stands warnings
     → SoFar frame lines warnings standing lines grown
 sofar-none frame lines warnings standing grown same = record {
@@ -46,7 +46,7 @@ sofar-none frame lines warnings standing grown same = record {
 
 -- ---- the refused places
 
--- none of these is the place
+-- a place above all refused ones is none of them
 not-below : (place : ℕ) (refused : List ℕ) → All (λ p. p < place) refused → is_among refused place ≡ false
 not-below place refused below = list_any_none (λ p. eqb p place) refused (All-weaker (λ p. p < place) (λ p. eqb p place ≡ false) (λ p h. grind (arith, nat_tests)) refused below)
 
@@ -81,7 +81,7 @@ at-place {X} (suc n) (x ∷ xs) line rest left = let (at, behind) = at-place n x
 
 -- ---- what the maker refused
 
--- more refusals serve as well
+-- lines that are refused by some refusals are refused by more
 more-refused : (frame : Frame) (lines : List Line) (refused : List ℕ) (grown more : List Refusal) → All (IsRefusedLine frame lines grown) refused → All (IsRefusedLine frame lines (grown ++ more)) refused
 more-refused frame lines refused grown more asked =
     All-weaker (IsRefusedLine frame lines grown) (IsRefusedLine frame lines (grown ++ more))
@@ -107,7 +107,7 @@ asks-in frame names text old new asks one =
     let (refusal, grew, asked) = pattern-in option old new refuses in
     (rule, later, is, (refusal, option, subst (λ xs. Contains xs refusal) (sym (grown-one old new refusal grew)) (Contains-push [] refusal), has, asked))
 
--- and so there is one more
+-- where a maker refused something, what it refused meanwhile is at least one
 asks-length : (frame : Frame) (names : List (List ℕ)) (text : List ℕ) (old new : List Refusal) → Grows old new → refused_one old new ≡ true → 1 ≤ length (grown_by old new)
 asks-length frame names text old new grew one = omega (arith, ltb-true (length old) (length new) one, ap length grew, length-append old (grown_by old new))
 
@@ -246,7 +246,7 @@ module _ (frame : Frame) (lines : List Line) (warnings : List (List ℕ)) (first
   stopped-at None is step = absurd (false≢true is)
   stopped-at (Some message) is step = stopped message step
 
--- all lines
+-- all lines were read
 pub finished : (frame : Frame) (lines : List Line) (warnings : List (List ℕ)) (standing : Standing) (grown : List Refusal) → SoFar frame lines warnings standing [] grown → RulesAnswer frame lines warnings grown (end_at standing None)
 finished frame lines warnings standing grown so = record {
   refused = so.refused;

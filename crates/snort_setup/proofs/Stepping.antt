@@ -1,4 +1,4 @@
--- A line that was read, and what stands behind it.
+-- A line that was read, and what there is after it.
 use Rattle.std.proofs.Common.{◌≡◌, ◌≢◌, ℕ, Bool, true, false, cond, ◌&&◌, Option, Some, None, Result, Ok, Err, List, [], ◌∷◌, ◌++◌, length, refl, sym, ap, subst, ◌∙◌, inl, inr}
 use Rattle.std.specs.Prelude.{All, nat_le}
 use Rattle.std.specs.Bool.{OnTrue}
@@ -39,7 +39,7 @@ asks-from frame names text rule later old new is refuses = go (refused_one old n
   go true one = (rule, later, is, one)
   go false none = tt
 
--- where it refused nothing
+-- where the maker refused nothing
 pub asks-none : (frame : Frame) (names : List (List ℕ)) (text : List ℕ) (old new : List Refusal) → new ≡ old → AsksOf frame names text old new
 asks-none frame names text old new same =
     subst (λ b. OnTrue b ((rule : Rule) × (later : List (List ℕ)) × IsRule frame names text rule later × RefusesOneOf rule.opts old new)) (sym (refused-none old new same)) tt
@@ -66,7 +66,7 @@ sound-judged classes rules behind is_refused rule fault sound all judged_so = go
   go (Ok other) same (is, none) = All-same (IsSound classes) behind (rules ++ other ∷ []) is (All-push (IsSound classes) rules other all (subst (IsSound classes) (sym (same other refl)) sound))
   go (Err why) same (is, some) = All-same (IsSound classes) behind rules is all
 
--- ---- and what stands behind it
+-- ---- and what there is after it
 
 standing-is : (standing : Standing) (names : List (List ℕ)) (rules : List Rule) (warnings : List (List ℕ)) → standing.names ≡ names → standing.rules ≡ rules → standing.warnings ≡ warnings
     → standing ≡ record { names = names; rules = rules; warnings = warnings }

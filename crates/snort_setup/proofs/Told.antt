@@ -1,4 +1,4 @@
--- Pieces that are written one behind another are the line, grouped otherwise.
+-- Pieces that are written one after another are the line, grouped otherwise.
 use Rattle.std.proofs.Common.{◌≡◌, ℕ, List, ◌++◌, append_assoc, refl}
 
 pub grouped : (a b c d e f g h : List ℕ) → ((((((a ++ b) ++ c) ++ d) ++ e) ++ f) ++ g) ++ h ≡ a ++ (b ++ (c ++ (d ++ (e ++ ((f ++ g) ++ h)))))

@@ -95,7 +95,7 @@ setup-err : (words : Words) (files : Files) (refused : List ℕ) (warnings : Lis
 unfolding with_table
 setup-err words files refused warnings halt is = (warned warnings (Err halt), is, refl)
 
--- and what is read behind it
+-- a setup whose configuration and rules are accepted, by what is read of the host table
 setup-table : (words : Words) (files : Files) (refused : List ℕ) (warnings : List (List ℕ)) (given : Ruled) (table : Result (List HostLine) Halt) → IsRuled words files refused (warned warnings (Ok given))
     → table_of words.host_table files ≡ table → IsSetup words files refused (warned warnings (table >>= λ hosts. Ok (ready given hosts)))
 unfolding with_table
@@ -163,7 +163,7 @@ table-since name files later since rose (Err (stop.CannotRead asked)) (inl lacks
 table-since name files later since rose (Err (stop.CannotRead asked)) (inr (fault, named)) = inr (rose fault, named)
 table-since name files later since rose (Err stop.NoMemory) gives = tt
 
--- and so was the cause
+-- a cause that came later is a cause since the beginning
 pub cause-since : (later since : Type 0) (host_later host : Option Files) → (later → since) → host_later ≡ host → (why : SetupStop) → HasCause later host_later why → HasCause since host why
 cause-since later since host_later host rose same (stop.Refused message) cause = tt
 cause-since later since host_later host rose same (stop.CannotRead name) (inl fault) = inl (rose fault)

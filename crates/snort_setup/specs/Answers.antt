@@ -32,7 +32,7 @@ abbrev pub HasPatternOf : List Refusal → Rule → Type 0
 HasPatternOf grown rule =
     (refusal : Refusal) × (option : Opt) × Contains grown refusal × Contains rule.opts option × IsPattern refusal option
 
--- the rule line at this place, behind some names of flowbits, is a rule with a pattern among these
+-- the rule line at this place, after some names of flowbits, is a rule with a pattern among these
 abbrev pub IsRefusedLine : Frame → List Line → List Refusal → ℕ → Type 0
 IsRefusedLine frame lines grown place =
     (line : Line) × (names : List (List ℕ)) × (rule : Rule) × (later : List (List ℕ))
@@ -44,7 +44,7 @@ pub record AreRefused (frame : Frame) (lines : List Line) (refused : List ℕ) (
   pub asked : All (IsRefusedLine frame lines grown) refused
   pub few : length refused ≤ length grown
 
--- the same of a configuration whose reading ends so: one that is refused has no refused lines
+-- refused patterns of a configuration whose reading ends so: one that is refused has no refused lines
 abbrev pub AreRefusedBy : Words → Ended → List ℕ → List Refusal → Type 0
 AreRefusedBy words (Whole read) refused grown =
     AreRefused (frame_of words.skips read.settings.vars (loaded_of read)) (loaded_of read).rules refused grown
@@ -75,7 +75,7 @@ abbrev pub HasCause : Type 0 → Option Files → SetupStop → Type 0
 HasCause rose host (stop.CannotRead name) = rose ⊎ Lacks host name
 HasCause rose host stop = ⊤
 
--- where a setup is ready or refused, this holds; want of memory may come behind a failure of the host
+-- where a setup is ready or refused, this holds; want of memory may come after a failure of the host
 abbrev pub OnReadyOrRefused : {A : Type 0} → Type 0 → Result A SetupStop → Type 0
 OnReadyOrRefused holds (Ok x) = holds
 OnReadyOrRefused holds (Err (stop.Refused message)) = holds

@@ -29,13 +29,13 @@ standing_of progress = record { names = progress.names; rules = progress.accepte
 abbrev pub end_of : {P : Type 0} → ends.RulesEnd P → RulesEnd
 end_of end = end_at (standing_of end.progress) end.refusal
 
--- before the first line
+-- what there is before the first line
 abbrev pub first_progress : {P : Type 0} → List (List ℕ) → progress.Progress P
 first_progress warnings = record { accepted = record { rules = []; patterns = [] }; names = []; warnings = warnings }
 
 -- ---- one line
 
--- a verdict, with the warnings that stood before it
+-- a verdict, with the warnings that were there before it
 abbrev pub IsBehind : Standing → Verdict → Standing → Option RuleFault → Type 0
 IsBehind before verdict behind fault =
     (behind.names ≡ verdict.names) × (behind.warnings ≡ before.warnings) × IsJudged before.rules verdict.rule behind.rules fault
@@ -51,17 +51,17 @@ AsksOf frame names text old new =
     OnTrue (refused_one old new) ((rule : Rule) × (later : List (List ℕ)) × IsRule frame names text rule later
     × RefusesOneOf rule.opts old new)
 
--- a step as stated: it goes on with what stands then, or ends with this error where what counts stands as before
+-- a step as stated: it goes on with what there is then, or ends with this error where what counts is as before
 abbrev pub IsStep : Standing → Result Standing (List ℕ) → Standing → Option (List ℕ) → Type 0
 IsStep before (Ok behind) standing refusal = (standing ≡ behind) × (refusal ≡ None)
 IsStep before (Err message) standing refusal =
     (standing.rules ≡ before.rules) × (standing.warnings ≡ before.warnings) × (refusal ≡ Some message)
 
--- what stands behind a line that is none for this fault, and the error, if it ends there
+-- what there is after a line that is none for this fault, and the error, if it ends there
 abbrev pub Skips : Frame → Line → Standing → RuleFault → Standing → Option (List ℕ) → Type 0
 Skips frame line before fault behind refusal = IsStep before (behind_fault frame line before fault) behind refusal
 
--- what stands behind a line, and the error, if it ends there
+-- what there is after a line, and the error, if it ends there
 abbrev pub StepGives : Frame → Line → Standing → Bool → Standing → Option (List ℕ) → Type 0
 StepGives frame line before is_refused behind refusal =
     (verdict : Verdict) × LineGives frame before is_refused line.text verdict

@@ -1,4 +1,4 @@
--- How the code writes the reason of a refusal: words, and behind them what the refused line has.
+-- How the code writes the reason of a refusal: words, and after them what the refused line has.
 use Rattle.std.specs.Prelude.{ℕ, List, ◌++◌}
 use Rattle.snort_setup.specs.declared.message.Reason as code
 

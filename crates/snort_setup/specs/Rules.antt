@@ -1,7 +1,7 @@
--- What the rule lines of a configuration give, one behind another.
+-- What the rule lines of a configuration give, one after another.
 --
--- Each line is read behind the names of flowbits that stand before it. A rule is then refused, in this order,
--- where an accepted rule has its generator's number and its own, where 65536 rules stand before it, and where
+-- Each line is read after the names of flowbits that come before it. A rule is then refused, in this order,
+-- where an accepted rule has its generator's number and its own, where 65536 rules come before it, and where
 -- its pattern is refused. The refusal ends the setup; but where the words say so, a rule outside the profile, or
 -- one whose pattern is refused, gives a warning and no rule: its number stays free. The names of its flowbits
 -- count where its pattern was refused, and do not where the line is outside the profile.
@@ -22,7 +22,7 @@ use Rattle.rule_parser.specs.Faults.{plain}
 use Rattle.rule_parser.specs.RuleLine.{IsRuleLine, IsAnswered}
 use Rattle.snort_setup.specs.Texts.{rule_text, shown_by, file_at, error_line, warning_line}
 
--- what all rule lines of a configuration stand in: its variables and classes, the names of its files, and
+-- what all rule lines of a configuration are read in: its variables and classes, the names of its files, and
 -- whether refused rules are skipped
 pub record Frame : Type 0 where
   pub variables : Variables
@@ -30,17 +30,17 @@ pub record Frame : Type 0 where
   pub files : List (List ℕ)
   pub skips : Bool
 
--- what stands behind some rule lines: the names of flowbits, the accepted rules, and all warnings
+-- what there is after some rule lines: the names of flowbits, the accepted rules, and all warnings
 pub record Standing : Type 0 where
   pub names : List (List ℕ)
   pub rules : List Rule
   pub warnings : List (List ℕ)
 
--- before the first rule line, behind these warnings
+-- before the first rule line, after these warnings
 abbrev pub nothing_stands : List (List ℕ) → Standing
 nothing_stands warnings = record { names = []; rules = []; warnings = warnings }
 
--- what a line gives: its rule, or why it has none, and the names of flowbits behind it
+-- what a line gives: its rule, or why it has none, and the names of flowbits after it
 pub record Verdict : Type 0 where
   pub rule : Result Rule RuleFault
   pub names : List (List ℕ)
@@ -59,7 +59,7 @@ is_taken rules rule = list_any (λ other. same_number other rule) rules
 abbrev pub most_rules : ℕ
 most_rules = 65536
 
--- a rule behind the accepted ones, where its pattern is refused or is not
+-- a rule after the accepted ones, where its pattern is refused or is not
 unfoldable pub judged : List Rule → Bool → Rule → Result Rule RuleFault
 judged rules is_refused rule =
     if is_taken rules rule then Err (plain kind.DuplicateSid)
@@ -67,7 +67,7 @@ judged rules is_refused rule =
     else if is_refused then Err (plain kind.PatternRefused)
     else Ok rule
 
--- the line is this rule, with these names of flowbits behind it
+-- the line is this rule, with these names of flowbits after it
 abbrev pub IsRule : Frame → List (List ℕ) → List ℕ → Rule → List (List ℕ) → Type 0
 IsRule frame names text rule later =
     IsAnswered (length text) (Ok rule) later (IsRuleLine frame.variables frame.classes names text)
@@ -86,7 +86,7 @@ LineGives frame standing is_refused text verdict =
     ⊎ ((fault : RuleFault) × IsFaulty frame standing.names text fault
     × (verdict ≡ record { rule = Err fault; names = standing.names }))
 
--- ---- and what then stands
+-- ---- and what there is then
 
 -- the refusals that may be skipped
 abbrev pub is_skippable : RuleKind → Bool
@@ -98,7 +98,7 @@ is_skippable _ = false
 abbrev pub fault_text : Line → RuleFault → List ℕ
 fault_text line fault = rule_text (shown_by line.text fault) fault.kind
 
--- the same as a warning, and as an error
+-- a line's refusal as a warning, and as an error
 abbrev pub rule_warning : Frame → Line → RuleFault → List ℕ
 rule_warning frame line fault = warning_line (file_at frame.files line.file) line.line (fault_text line fault)
 
@@ -109,12 +109,12 @@ rule_error frame line fault = error_line (file_at frame.files line.file) line.li
 abbrev pub with_warning : Standing → List ℕ → Standing
 with_warning standing warning = record standing { warnings = standing.warnings ++ warning ∷ [] }
 
--- what stands behind a line that is none for this fault, or the error that ends the setup
+-- what there is after a line that is none for this fault, or the error that ends the setup
 unfoldable pub behind_fault : Frame → Line → Standing → RuleFault → Result Standing (List ℕ)
 behind_fault frame line standing fault = if frame.skips && is_skippable fault.kind
     then Ok (with_warning standing (rule_warning frame line fault)) else Err (rule_error frame line fault)
 
--- what stands behind a line that gives this, or the error
+-- what there is after a line that gives this, or the error
 unfoldable pub behind_line : Frame → Line → Standing → Verdict → Result Standing (List ℕ)
 behind_line frame line standing verdict = elim verdict.rule [
   | Ok rule ↦ Ok (record { names = verdict.names; rules = standing.rules ++ rule ∷ []; warnings = standing.warnings })
@@ -127,7 +127,7 @@ behind_line frame line standing verdict = elim verdict.rule [
 abbrev pub is_among : List ℕ → ℕ → Bool
 is_among refused place = list_any (λ other. other == place) refused
 
--- how rule lines end: the accepted rules and the warnings behind them, or those before the line that is refused
+-- how rule lines end: the accepted rules and the warnings after them, or those before the line that is refused
 -- with this error
 pub record RulesEnd : Type 0 where
   pub rules : List Rule
@@ -137,7 +137,7 @@ pub record RulesEnd : Type 0 where
 abbrev pub end_at : Standing → Option (List ℕ) → RulesEnd
 end_at standing refusal = record { rules = standing.rules; warnings = standing.warnings; refusal = refusal }
 
--- How these rule lines end, of which the first has this place among all, behind what stands; the patterns of the
+-- How these rule lines end, of which the first has this place among all, after what there is; the patterns of the
 -- lines at the refused places are refused, and no others.
 unfoldable pub RulesGive : Frame → List ℕ → ℕ → Standing → List Line → RulesEnd → Type 0
 RulesGive frame refused place standing [] end = end ≡ end_at standing None

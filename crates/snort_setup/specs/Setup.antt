@@ -4,7 +4,7 @@
 -- that it includes in reading order; then its rule lines in that order; then the host table, if the words name
 -- one. The first line that is refused ends the setup with its error, and so does the first file whose name the
 -- contents lack. Warnings come first, those of the configuration before those of rules, each a line.
--- A reading is a file that is asked for in this order: it is named with the warnings that stand before it.
+-- A reading is a file that is asked for in this order: it is named with the warnings that come before it.
 -- (The configuration and its rules as in Snort Users Manual 2.9, chapters 2 and 3; the host table is our own.)
 -- To try it on: where `r` has the line `output x: y` and a rule, the setup is ready with that rule and the warning
 -- `WARNING: r(1) skipped: output x`; where `r` lacks, it asks for `r`, without a warning.
@@ -38,13 +38,13 @@ pub record Ruled : Type 0 where
   pub config : Config
   pub rules : List Rule
 
--- and with the host table
+-- what the setup of a run gives: its settings, its rules and the host table
 pub record Ready : Type 0 where
   pub config : Config
   pub rules : List Rule
   pub hosts : List HostLine
 
--- all warnings, each a line, and what they stand before
+-- all warnings, each a line, and what they come before
 pub record Warned (A : Type 0) : Type 0 where
   pub warnings : List (List ℕ)
   pub outcome : Result A Halt
@@ -62,7 +62,7 @@ conf_read words contents = read_files contents words.conf (first_variables words
 abbrev pub conf_warnings : List (List ℕ) → List Warning → List (List ℕ)
 conf_warnings files warnings = map (conf_warning files) warnings
 
--- what the rule lines of a configuration stand in, with the variables behind all its lines
+-- what the rule lines of a configuration are read in, with the variables after all its lines
 abbrev pub frame_of : Bool → Variables → Loaded → Frame
 frame_of skips variables loaded = record {
   variables = variables;
@@ -71,7 +71,7 @@ frame_of skips variables loaded = record {
   skips = skips;
 }
 
--- what the end of the rule lines gives, behind these settings
+-- what the end of the rule lines gives, with these settings
 abbrev pub ruled : Config → RulesEnd → Result Ruled Halt
 ruled config end = elim end.refusal [
   | None ↦ Ok (record { config = config; rules = end.rules })
@@ -79,7 +79,7 @@ ruled config end = elim end.refusal [
       (Refused message)
 ]
 
--- the same with all warnings
+-- what the end of the rule lines gives, with all warnings
 abbrev pub ruled_by : Loaded → RulesEnd → Warned Ruled
 ruled_by loaded end = warned end.warnings (ruled loaded.config end)
 
@@ -93,7 +93,7 @@ IsRuledBy words refused (RefusedAt fault output) given =
     given ≡ warned (conf_warnings output.files output.warnings) (Err (Refused (conf_error output.files fault)))
 IsRuledBy words refused (Asks name output) given = given ≡ warned (conf_warnings output.files output.warnings) (Err (Lacks name))
 
--- the same over files that are told
+-- what the lines of a configuration give over files that are told
 abbrev pub IsRuled : Words → Files → List ℕ → Warned Ruled → Type 0
 IsRuled words files refused given = IsRuledBy words refused (conf_read words (told files)) given
 
@@ -121,7 +121,7 @@ table_of (Some name) files = table_in name (get files name)
 
 -- ---- the setup
 
--- behind the configuration and its rules
+-- what a setup gives after the configuration and its rules
 abbrev pub ready : Ruled → List HostLine → Ready
 ready ruled hosts = record { config = ruled.config; rules = ruled.rules; hosts = hosts }
 
@@ -136,12 +136,12 @@ IsSetup words files refused setup =
 
 -- ---- its readings
 
--- a reading that ends so asks for this name, behind these warnings
+-- a reading that ends so asks for this name, after these warnings
 abbrev pub AsksFor : List ℕ → List (List ℕ) → Ended → Type 0
 AsksFor name warnings (Asks asked output) = (asked ≡ name) × (conf_warnings output.files output.warnings ≡ warnings)
 AsksFor name warnings ended = ⊥
 
--- the configuration would ask for this name, if only so many files could be read before it
+-- the configuration would ask for this name, if only this many files could be read before it
 abbrev pub IsConfReading : Words → Files → List ℕ → List (List ℕ) → Type 0
 IsConfReading words files name warnings = (count : ℕ) × AsksFor name warnings (conf_read words (first_files count (told files)))
 
@@ -150,7 +150,7 @@ abbrev pub IsTableReading : Words → Files → List ℕ → List ℕ → List (
 IsTableReading words files refused name warnings =
     (words.host_table ≡ Some name) × ((given : Ruled) × IsRuled words files refused (warned warnings (Ok given)))
 
--- one of the files that the setup reads, and the warnings that stand before it
+-- one of the files that the setup reads, and the warnings that come before it
 abbrev pub IsReading : Words → Files → List ℕ → List ℕ → List (List ℕ) → Type 0
 IsReading words files refused name warnings =
     IsConfReading words files name warnings ⊎ IsTableReading words files refused name warnings

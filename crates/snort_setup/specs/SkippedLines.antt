@@ -1,23 +1,23 @@
 -- A rule line that `--skip-refused` skips, and the rule lines without it.
 --
 -- What a line that is skipped changes is one warning. Its place among the rule lines is lost with it, so those of
--- the lines behind it that are refused are one less. A rule whose pattern is refused counts by the names of its
+-- the lines after it that are refused are one less. A rule whose pattern is refused counts by the names of its
 -- flowbits (`Rules`): where it is the first to have one, it isn't as if it weren't there.
 -- To try it on: of three rules the first of which is outside the profile, the other two are accepted as they are
--- without it, and the warning on it stands before all others of rules.
+-- without it, and the warning on it comes before all others of rules.
 use Rattle.std.specs.Prelude.{◌≡◌, ◌<◌, ℕ, ◌+◌, Bool, false, true, List, ◌∷◌, ◌++◌, length, Err}
 use Rattle.conf_parser.specs.declared.line.Line.{Line}
 use Rattle.rule_parser.specs.declared.fault.RuleFault.{RuleFault}
 use Rattle.rule_types.specs.declared.rule.Rule.{Rule}
 use Rattle.snort_setup.specs.Rules.{Frame, IsRule, LineGives, RulesEnd, RulesGive, Standing, is_among, is_skippable, is_taken, most_rules, rule_warning}
 
--- behind what stands, a line gives a fault that is skipped, and no new name of a flowbit
+-- after what there is, a line gives a fault that is skipped, and no new name of a flowbit
 pub record IsSkipped (frame : Frame) (standing : Standing) (is_refused : Bool) (line : Line) (fault : RuleFault) : Type 0 where
   pub skips : frame.skips ≡ true
   pub skippable : is_skippable fault.kind ≡ true
   pub gives : LineGives frame standing is_refused line.text (record { rule = Err fault; names = standing.names })
 
--- a rule whose pattern is refused: its names of flowbits stood before, its number is free, and there is room for it
+-- a rule whose pattern is refused: its names of flowbits were there before, its number is free, and there is room for it
 pub record IsRefusedRule (frame : Frame) (standing : Standing) (line : Line) : Type 0 where
   pub skips : frame.skips ≡ true
   pub rule : Rule
@@ -29,7 +29,7 @@ pub record IsRefusedRule (frame : Frame) (standing : Standing) (line : Line) : T
 abbrev pub AreMoved : ℕ → List ℕ → List ℕ → Type 0
 AreMoved place refused moved = (k : ℕ) → is_among moved (place + k) ≡ is_among refused (place + (1 + k))
 
--- the same rules and the same refusal, and one warning more, behind these and before all others
+-- two ends of rule lines have the same rules and refusal, and one has a warning more, after these and before all others
 pub record HasOneMore (before : List (List ℕ)) (warning : List ℕ) (all less : RulesEnd) : Type 0 where
   pub rules : all.rules ≡ less.rules
   pub refusal : all.refusal ≡ less.refusal

@@ -18,15 +18,15 @@ use Rattle.rule_parser.specs.Faults.{plain}
 abbrev pub grown_by : List Refusal → List Refusal → List Refusal
 grown_by old new = drop (length old) new
 
--- it refused something
+-- a maker refused something
 abbrev pub refused_one : List Refusal → List Refusal → Bool
 refused_one old new = nat_lt (length old) (length new)
 
--- its refusals only grow
+-- a maker's refusals only grow
 abbrev pub Grows : List Refusal → List Refusal → Type 0
 Grows old new = new ≡ old ++ grown_by old new
 
--- what it refused is one pattern of these options, or nothing
+-- what a maker refused is one pattern of these options, or nothing
 abbrev pub Refuses : List Opt → List Refusal → List Refusal → Type 0
 Refuses options old new = OnTrue (refused_one old new) (RefusesOneOf options old new)
 
@@ -37,12 +37,12 @@ abbrev pub is_memory : RuleKind → Bool
 is_memory kind.NoMemory = true
 is_memory _ = false
 
--- behind a rule that the set takes, unless its pattern is refused
+-- the rules and the fault after a rule that the set takes, unless its pattern is refused
 abbrev pub IsAdded : List Rule → Rule → Bool → List Rule → Option RuleFault → Type 0
 IsAdded rules rule false behind fault = (behind ≡ rules ++ rule ∷ []) × (fault ≡ None)
 IsAdded rules rule true behind fault = (behind ≡ rules) × (fault ≡ Some (plain kind.PatternRefused))
 
--- the rules and the fault behind a rule that is judged so
+-- the rules and the fault after a rule that is judged so
 abbrev pub IsJudged : List Rule → Result Rule RuleFault → List Rule → Option RuleFault → Type 0
 IsJudged rules (Ok rule) behind fault = (behind ≡ rules ++ rule ∷ []) × (fault ≡ None)
 IsJudged rules (Err why) behind fault = (behind ≡ rules) × (fault ≡ Some why)

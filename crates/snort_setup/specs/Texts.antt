@@ -2,7 +2,7 @@
 --
 -- A line is `ERROR: FILE(LINE) TEXT` or `WARNING: FILE(LINE) TEXT` with a line feed, as Snort writes `ERROR:
 -- FILE(LINE) ..` for a fault of its configuration; the texts are our own. A line of the configuration that was
--- skipped shows its first word and the name behind it, a rule that was skipped the text of its refusal.
+-- skipped shows its first word and the name after it, a rule that was skipped the text of its refusal.
 -- To try it on: an unknown word on line 3 of `r` is `ERROR: r(3) unknown directive`.
 use Rattle.std.specs.Prelude.{ℕ, List, [], ◌++◌, codes, decimal, slice_index_or}
 use Rattle.edge_io.specs.Bytes.{slice}

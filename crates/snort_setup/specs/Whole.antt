@@ -30,7 +30,7 @@ RuledAs view words refused ended (Err (stop.Refused message)) warnings =
 RuledAs view words refused ended (Err (stop.CannotRead name)) warnings = ⊥
 RuledAs view words refused ended (Err stop.NoMemory) warnings = ⊤
 
--- the same, with the lines whose patterns are refused
+-- an answer is what the lines give, with the lines whose patterns are refused
 pub record RuledGives {A : Type 0} (view : A → Ruled) (words : Words) (ended : Ended) (grown : List Asked)
     (answer : Result A SetupStop) (warnings : List (List ℕ)) : Type 0 where
   pub refused : List ℕ

@@ -1,9 +1,9 @@
 -- What the words of a command say of a setup.
 --
--- The configuration's name stands behind `-c` and a variable behind `-S` (Snort Users Manual 2.9, section
+-- The configuration's name follows `-c`, and a variable `-S` (Snort Users Manual 2.9, section
 -- 1.4 and "Variables"); `--host-table` and `--skip-refused` are our own. The variable's value is taken as it
 -- is: a `$` in it is not expanded. It is fixed: no line of the configuration gives it another value.
--- To try it on: behind `-S N=$M` the variable N stands for the two bytes `$M`.
+-- To try it on: after `-S N=$M` the variable N stands for the two bytes `$M`.
 use Rattle.std.specs.Prelude.{ℕ, Bool, true, List, Option, Some, None}
 use Rattle.std.specs.Option.{option_map}
 use Rattle.std.specs.FinMap as map

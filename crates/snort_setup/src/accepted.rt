@@ -78,7 +78,7 @@ impl<P: Pattern> Accepted<P> {
         self.set.rules().len() >= MOST_RULES
     }
 
-    /// The rules and this one behind them, or the rules where the maker refuses its pattern.
+    /// The rules and this one after them, or the rules where the maker refuses its pattern.
     fn with_rule<M: PatternMaker<Made = P>>(
         self,
         alloc: Global,
@@ -112,7 +112,7 @@ impl<P: Pattern> Accepted<P> {
         }
     }
 
-    /// The rules behind this one: with it, or without it and with the fault for which it is refused.
+    /// The rules after this one: with it, or without it and with the fault for which it is refused.
     #[tactic(auto, unfolding(crate::specs::Rules::judged))]
     pub fn judge<M: PatternMaker<Made = P>>(
         self,

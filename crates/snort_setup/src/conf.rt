@@ -18,7 +18,7 @@ use edge_io::{Host, Items, NoMemory, Text};
 use net_lists::Vars;
 use std::alloc::Global;
 
-/// A configuration that was read, with the variables behind all its lines.
+/// A configuration that was read, with the variables after all its lines.
 #[derive(Drop)]
 pub(crate) struct Configured {
     pub vars: Vars,
@@ -66,7 +66,7 @@ fn conf_stop(alloc: Global, files: &[Text], stop: LoadStop) -> SetupStop
     }
 }
 
-/// Reads the configuration that the words name, from the variable that they define. Its warnings stand in
+/// Reads the configuration that the words name, from the variable that they define. Its warnings are in
 /// `warnings` whatever the answer is, but for want of memory.
 pub(crate) fn read_conf<H: Host>(
     alloc: Global,

@@ -8,7 +8,7 @@ ghost use Rattle.rule_parser.specs.Faults.{plain};
 ghost use Rattle.snort_setup.specs.Rules.{Frame, IsFaulty, Standing};
 ghost use Rattle.snort_setup.specs.SkippedLines.{IsRefusedRule, IsSkipped, OnlyWarns};
 
-/// Behind whatever stands, rule lines the first of which is skipped end as they do without that line, but for its
+/// After whatever there is, rule lines the first of which is skipped end as they do without that line, but for its
 /// warning: with the same rules, and the same refusal if there is one (`only`). Lines outside the profile are skipped
 /// (`outside`), and rules whose pattern is refused (`refused`), where the words say so.
 pub fn skipped_lines_only_warn()

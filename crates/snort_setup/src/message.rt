@@ -10,14 +10,14 @@ use itoa::Buffer;
 use rule_parser::RuleKind;
 use std::alloc::Global;
 
-/// What a line says: words, and behind them what the refused line has.
+/// What a line says: words, and after them what the refused line has.
 #[derive(Clone, Copy)]
 pub(crate) struct Reason<'a> {
     pub words: &'a [u8],
     pub shown: &'a [u8],
 }
 
-/// These words alone.
+/// A reason of these words alone.
 fn plainly(words: &[u8]) -> Reason<'_>
     ensures { reason_text result ≡ words.now }
 {
@@ -84,7 +84,7 @@ fn host_reason(fault: HostFault) -> Reason<'static>
     }
 }
 
-/// A line that tells, behind a word, of a line of a file.
+/// A line that tells, after a word, of a line of a file.
 #[tactic(auto, unfolding(crate::specs::Texts::told_line), using(crate::proofs::Told::grouped))]
 fn told_line(
     alloc: Global,

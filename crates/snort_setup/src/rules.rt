@@ -1,4 +1,4 @@
-//! The rule lines of a configuration, one behind another.
+//! The rule lines of a configuration, one after another.
 ghost use Rattle.std.specs.Prelude.{◌≡◌, ◌&&◌, false, All, IfOk, OnOk};
 ghost use Rattle.rule_types.specs.Sound.{IsSound};
 ghost use Rattle.option_eval.specs.RuleSet.{FindWhatIsMeant, SameMeaning};
@@ -17,7 +17,7 @@ use net_lists::Vars;
 use rule_parser::{BitNames, RuleFault, RuleKind, read_rule};
 use std::alloc::Global;
 
-/// What stands behind some rule lines: the accepted rules, the names of flowbits, and all warnings.
+/// What there is after some rule lines: the accepted rules, the names of flowbits, and all warnings.
 #[derive(Drop)]
 pub(crate) struct Progress<P> {
     pub accepted: Accepted<P>,
@@ -25,14 +25,14 @@ pub(crate) struct Progress<P> {
     pub warnings: Items<Text>,
 }
 
-/// How rule lines end: what stands behind them, or behind those before the one that is refused with this message.
+/// How rule lines end: what there is after them, or after those before the one that is refused with this message.
 #[derive(Drop)]
 pub(crate) struct RulesEnd<P> {
     pub progress: Progress<P>,
     pub refusal: Option<Text>,
 }
 
-/// What all rule lines stand in.
+/// What all rule lines are read in.
 #[derive(Clone, Copy)]
 pub(crate) struct LinesIn<'a> {
     pub vars: &'a Vars,
@@ -81,7 +81,7 @@ fn line_fault(fault: RuleFault) -> Result<RuleFault, NoMemory>
     }
 }
 
-/// What stands behind a line that is read: with its rule, or without it, and then the fault for which it is none.
+/// What there is after a line that is read: with its rule, or without it, and then the fault for which it is none.
 #[tactic(auto, unfolding(crate::specs::Rules::LineGives))]
 fn read_line<M: PatternMaker>(
     alloc: Global,
@@ -139,7 +139,7 @@ fn skips(lines: &LinesIn<'_>, kind: RuleKind) -> bool
     lines.skips && is_skippable(kind)
 }
 
-/// Behind a line that is none for this fault: a warning more, or the end with an error.
+/// What there is after a line that is none for this fault: a warning more, or the end with an error.
 fn refused_line<P: Pattern>(
     alloc: Global,
     lines: &LinesIn<'_>,
@@ -176,7 +176,7 @@ fn refused_line<P: Pattern>(
     })
 }
 
-/// Behind one line.
+/// What there is after one line, and the error, if it ends there.
 #[tactic(auto, unfolding(crate::specs::Rules::behind_line))]
 fn line_end<M: PatternMaker>(
     alloc: Global,
@@ -206,7 +206,7 @@ fn line_end<M: PatternMaker>(
     }
 }
 
-/// Before the first line, behind these warnings.
+/// What there is before the first line, after these warnings.
 fn first_progress<P: Pattern>(alloc: Global, warnings: Items<Text>) -> Progress<P>
     ensures { result ≡ first_progress warnings }
 {
@@ -217,7 +217,7 @@ fn first_progress<P: Pattern>(alloc: Global, warnings: Items<Text>) -> Progress<
     }
 }
 
-/// Behind all these lines, or those before the first that is refused.
+/// What there is after all these lines, or after those before the first that is refused.
 fn read_lines<M: PatternMaker>(
     alloc: Global,
     lines: &LinesIn<'_>,
@@ -248,7 +248,7 @@ fn read_lines<M: PatternMaker>(
     })
 }
 
-/// Reads the rule lines of a configuration that was loaded, behind its warnings.
+/// Reads the rule lines of a configuration that was loaded, after its warnings.
 pub(crate) fn read_rules<M: PatternMaker>(
     alloc: Global,
     vars: &Vars,

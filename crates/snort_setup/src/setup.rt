@@ -40,7 +40,7 @@ pub(crate) struct Ruled<P> {
     pub set: RuleSet<P>,
 }
 
-/// Reads the rule lines of a configuration, behind its warnings.
+/// Reads the rule lines of a configuration, after its warnings.
 fn read_ruled<M: PatternMaker>(
     alloc: Global,
     skips: bool,
@@ -84,7 +84,7 @@ fn read_ruled<M: PatternMaker>(
 ///
 /// `Refused` is the first line that is refused, or a file that is too large, with its message. `CannotRead` comes
 /// where the host failed at a file, or has none of this name. `warnings` is replaced by all warnings, each a line,
-/// in their order; after `Refused` and `CannotRead` by those that stand before. After `NoMemory` it is not to be
+/// in their order; after `Refused` and `CannotRead` by those that come before. After `NoMemory` it is not to be
 /// used. (Snort Users Manual 2.9, chapters 2 and 3; the host table is our own.)
 pub fn read_setup<H: Host, M: PatternMaker>(
     alloc: Global,

@@ -14,7 +14,7 @@ use Rattle.snort_engine.specs.declared.status.Status.{Status}
 use Rattle.snort_engine.specs.Outside.{Outside, by}
 use Rattle.snort_engine.specs.Headline.{Headline}
 
--- the files are these, and what is left of the open capture is what they leave behind the host's answers; the bytes
+-- the files are these, and what is left of the open capture is what they leave after the host's answers; the bytes
 -- written are those that the streams took
 abbrev pub seen_by : {R File Folder Out Err : Type 0} → Files → HeardHost R File Folder → HeardSink Out → HeardSink Err
     → List Refusal → Outside
@@ -36,7 +36,7 @@ unfoldable pub HeadlineByAgreeing : List (List ℕ) → Means → (Files → Typ
 HeadlineByAgreeing words means agree before after ended =
     (files : Files) → agree files → Headline words means (before files) (after files) ended
 
--- the same of any host, by all files that agree with what it answered: these are seen in its place
+-- the theorem on a run of any host, by all files that agree with what it answered: these are seen in its place
 abbrev pub HeadlineByAnswers : {H : Type 0} → HostOf H → H → List (List ℕ) → Means → (HostOf H → Outside) → (HostOf H → Outside)
     → Status → Type 0
 HeadlineByAnswers h host words means before after ended =

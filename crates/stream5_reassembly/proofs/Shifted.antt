@@ -25,7 +25,7 @@ first_counted byte base from to run is = record {
   ];
 }
 
--- and so do all
+-- runs from a base on are the runs counted from the base
 pub AreRuns-counted : (byte : ℕ → Option ℕ) (base from to : ℕ) (runs : List Run) → AreRuns byte (base + from) (base + to) runs → AreRuns (λ k. byte (base + k)) from to (map (counted_from base) runs)
 AreRuns-counted byte base from to [] none = λ place low high. none (base + place) (omega arith) (omega arith)
 AreRuns-counted byte base from to (run ∷ runs) (first, rest) =
@@ -39,7 +39,7 @@ cut : (f : Run → Run) (old mid new runs : List Run) → mid ≡ old ++ runs �
 cut f old mid new runs is same = same ∙ ap (λ (xs : List Run). take (length old) xs ++ map f (drop (length old) xs)) is
     ∙ (λ i. take-append_seam old runs i ++ map f (drop-append_seam old runs i))
 
--- the runs behind the first ones are counted from the base
+-- the runs after the first ones are counted from the base
 pub AppendsRuns-counted : (byte : ℕ → Option ℕ) (base to : ℕ) (old mid new : List Run) → base ≤ to → AppendsRuns byte base to old mid
     → new ≡ take (length old) mid ++ map (counted_from base) (drop (length old) mid) → AppendsRuns (λ k. byte (base + k)) 0 (to - base) old new
 AppendsRuns-counted byte base to old mid new order (runs, is, are) same =

@@ -29,7 +29,7 @@ idle-kept limits preference are =
       nothing = λ _. refl;
     }
 
--- and one that is started
+-- a direction that is started is kept sound
 pub started_at-kept : (direction : DirectionState) (seq : ℕ) → IsKept direction → seq < 2 ^ 32 → IsKept (started_at direction seq)
 started_at-kept direction seq kept small =
     let none : covered_end first_place [] ≡ first_place = covered_end-none first_place in
@@ -71,7 +71,7 @@ with_segment-kept direction segment kept started is =
       nothing = λ not. cc;
     }
 
--- the same of the bytes that the call adds
+-- a direction stays sound with the bytes that the call adds
 pub queued-kept : (direction shown : DirectionState) (start : ℕ) (bytes : List ℕ) (fate : Added) → IsKept direction → direction ≡ shown → shown.started ≡ true
     → fate ≡ fate_at shown (start + length bytes) → fate ≡ Queued → IsKept (with_segment direction (record { start = start; bytes = bytes }))
 queued-kept direction shown start bytes fate kept same started is queued =
@@ -141,7 +141,7 @@ Flushes-nothing old new before after kept is flushes = record {
   state = flushes.state ∙ flushed_to-top old kept is;
 }
 
--- the same for the call that flushes, whatever it answers
+-- where top is the base, the call that flushes leaves all as it was, whatever it answers
 pub Stays-nothing : {E : Type 0} (old new : DirectionState) (to : ℕ) (before after : List Run) (result : Result (Unit {0}) E) → IsKept old → top old ≡ old.place → to ≡ top old
     → OnOk result (Flushes old new to before after) → OnErr result (Stays old new before after) → Stays old new before after
 Stays-nothing old new to before after (Ok x) kept is at ok err = Flushes-nothing old new before after kept is (subst (λ (n : ℕ). Flushes old new n before after) at ok)

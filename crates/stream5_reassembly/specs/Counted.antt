@@ -2,7 +2,7 @@
 use Rattle.std.specs.Prelude.{ℕ, ◌-◌, ◌≤◌}
 use Rattle.overlap_core.specs.declared.segment.Run.{Run}
 
--- the run begins at the base or behind it
+-- the run begins at the base or after it
 abbrev pub IsFrom : ℕ → Run → Type 0
 IsFrom base run = base ≤ run.start
 

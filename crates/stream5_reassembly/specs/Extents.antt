@@ -12,7 +12,7 @@ pub record ExtentState : Type 0 where
   pub next : Option ℕ
   pub size : ℕ
 
--- nothing is known yet
+-- an extent of which nothing is known yet
 abbrev pub unknown : ExtentState
 unknown = record { next = None; size = 0 }
 

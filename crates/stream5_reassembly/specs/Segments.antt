@@ -4,7 +4,7 @@
 -- is queued is limited as by `max_queued_bytes` and `max_queued_segs` of the stream5 preprocessor
 -- (Snort 2.9 manual, section 2.2); when the queued bytes are flushed is this project's own rule.
 --
--- Places are natural numbers. The base stands at place 2^31 when the direction starts, so that a
+-- Places are natural numbers. The base is at place 2^31 when the direction starts, so that a
 -- segment which begins before it, by at most 2^31, has places as well; the base only moves forward.
 -- To try it on: with 1024 bytes, 2 segments and the flush point 1024, started at 0: "a" at 0 is
 -- Queued, "b" at 1024 PastWindow, "c" at 1023 Queued, "d" at 5 TooManySegs. An acknowledgement at
@@ -38,7 +38,7 @@ pub record DirectionState : Type 0 where
   pub segments : List Segment
   pub count : ℕ
 
--- where the base stands at the start
+-- where the base is at the start
 abbrev pub first_place : ℕ
 first_place = 2 ^ 31
 
@@ -78,7 +78,7 @@ fate_at direction end =
     else if direction.count == direction.limits.segs then TooManySegs
     else Queued
 
--- the same of these bytes, whose first has this sequence number
+-- what becomes of these bytes, whose first has this sequence number
 abbrev pub segment_fate : DirectionState → ℕ → List ℕ → Added
 segment_fate direction seq bytes = fate_at direction (place_in direction seq + length bytes)
 
@@ -100,7 +100,7 @@ after_fate TooManySegs direction seq bytes = direction
 abbrev pub top : DirectionState → ℕ
 top direction = covered_end direction.place direction.segments
 
--- the byte that the receiving host keeps so many places past the base, if one is queued there
+-- the byte that the receiving host keeps `place` places past the base, if one is queued there
 abbrev pub flushed_bytes : DirectionState → ℕ → Option ℕ
 flushed_bytes direction place = chosen_byte direction.preference direction.segments (direction.place + place)
 

@@ -4,7 +4,7 @@ ghost use Rattle.stream5_reassembly.specs.Counted.{counted_from, IsFrom};
 
 use overlap_core::Run;
 
-/// Makes the starts of the runs behind the first `known` ones count from the base.
+/// Makes the starts of the runs after the first `known` ones count from the base.
 pub fn count_from(base: u64, known: usize, runs: &mut Vec<Run>)
     requires known { known ≤ vec_len runs.old }
     requires from { All (IsFrom base) (drop known runs.old.items) }
@@ -14,7 +14,7 @@ pub fn count_from(base: u64, known: usize, runs: &mut Vec<Run>)
     count_all_from(base, &mut all[known..]);
 }
 
-/// The same for all of these.
+/// Makes the starts of all these runs count from the base.
 fn count_all_from(base: u64, runs: &mut [Run])
     requires { All (IsFrom base) runs.old }
     ensures { runs.new ≡ map (counted_from base) runs.old }

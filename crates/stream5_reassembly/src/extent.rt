@@ -5,7 +5,7 @@ ghost use Rattle.stream5_reassembly.specs.Extents.{extent_after, extent_from, un
 use crate::sequence::HALF;
 use std::marker::Model;
 
-/// How far the data of one side of a session reach: the sequence number behind the last byte, if data
+/// How far the data of one side of a session reach: the sequence number after the last byte, if data
 /// were seen or a first number is known, and how many places that number has moved.
 #[derive(Debug, Drop)]
 pub struct Extent {

@@ -5,7 +5,7 @@ ghost use Rattle.overlap_core.specs.Pieces.{bytes_held, IsRow, Piece};
 ghost use Rattle.stream5_reassembly.specs.Segments.{DirectionState, flushed_bytes, IsWithinLimits, top};
 
 /// A direction holds few bytes. Where it is within its limits, as every call leaves it, a byte that waits lies fewer
-/// than `bytes` places behind the base (`places`). So pieces in a row from the base up to top, as its queue keeps them,
+/// than `bytes` places after the base (`places`). So pieces in a row from the base up to top, as its queue keeps them,
 /// have at most `bytes` bytes together (`bytes`), and are no more than that (`pieces`).
 pub fn held_bytes_are_few()
     ensures places { (direction : DirectionState) (place byte : ℕ) → IsWithinLimits direction

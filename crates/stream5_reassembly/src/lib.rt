@@ -4,7 +4,7 @@
 //! once the other side has acknowledged enough of them, or at the end (specs/Segments). It puts
 //! sequence numbers, which go round modulo 2^32, at places that don't (specs/Sequence), and keeps the
 //! bytes in a `Queue` of overlap_core, which chooses where segments overlap. An `Extent` counts how far
-//! the data of one side reach (specs/Extents). The lanes of flows stand on this crate.
+//! the data of one side reach (specs/Extents). The lanes of flows build on this crate.
 #![tactic(auto)]
 
 mod counted;

@@ -12,11 +12,11 @@ pub struct Limits {
 /// What became of a segment.
 #[derive(Clone, Copy, Debug, PartialEq, Eq)]
 pub enum Added {
-    /// It is held.
+    /// The segment is held.
     Queued,
-    /// It ends at or before the base.
+    /// The segment ends at or before the base.
     Old,
-    /// It ends too many places past the base.
+    /// The segment ends too many places past the base.
     PastWindow,
     /// As many segments as may be were queued since the last flush.
     TooManySegs,

@@ -61,7 +61,7 @@ pub next-le : (next : ℕ) (o : Option ℕ) → (next ≤ next_by next o) × (ne
 next-le next None = (omega arith, omega arith)
 next-le next (Some flow) = (omega arith, omega arith)
 
--- what a touch answers and leaves, by the touches that the value stood for
+-- what a touch answers and leaves, by the touches that the value was for
 pub found_of : {E : Type 0} (r : Result Touch E) (flows : FlowsState) (key : Key) → IfOk r (λ touch. touch ≡ found_in flows key) → IfOk r (λ touch. IsFound flows key touch)
 found_of (Ok touch) flows key h = λ touches seen. h ∙ found_in-is flows touches key seen
 found_of (Err e) flows key h = tt

@@ -1,4 +1,4 @@
--- A packet that leaves the session as it is: the row that it meets, what it tells, and the session behind it.
+-- A packet that leaves the session as it is: the row that it meets, what it tells, and the session after it.
 use Rattle.std.proofs.Common.{◌≡◌, ℕ, Bool, true, false, not, ◌&&◌, ◌||◌, cond, Option, Some, None, refl, sym, ap, ◌∙◌}
 use Rattle.std.specs.Option.{is_some}
 use Rattle.std.proofs.lemmas.Bool.{false≢true}
@@ -148,7 +148,7 @@ stays-step s p rules is =
     ∙ ap (λ (reading : Reading). by_row false s reading p rules.needed_new) (row s p rules rest.0 split.1)
     ∙ left s p rest.0 split.1
 
--- the same of its step alone
+-- what a packet tells that leaves the session as it is
 pub stays-tells : (s : State) (p : Segment) (rules : SessionRules) → stays_as_is s p rules ≡ true
     → (session_step s p rules).step ≡ staying_step s p
 stays-tells s p rules is = ap (λ (t : Taken). t.step) (stays-step s p rules is)
@@ -162,7 +162,7 @@ module _ (s : State) (p : Segment) (rules : SessionRules) (step : Step) (state :
   pub told-state : state ≡ (session_step s p rules).state
   told-state = ap (λ (t : Taken). t.state) (sym told)
 
--- of a packet of any body
+-- a packet of any body has its moment
 last_of : (ip : IpHead) (body : Body) (len : ℕ) (moment : Moment) → (segment_of ip body len moment).moment ≡ moment
 last_of ip (body.Tcp head) len moment = refl
 last_of ip (body.Udp sport dport) len moment = refl

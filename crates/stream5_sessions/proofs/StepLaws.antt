@@ -63,7 +63,7 @@ session_step_fresh s p rules =
 
 -- ---- a session that isn't of TCP
 
--- neither data nor acknowledgements count, and no base is set
+-- a step by which neither data nor acknowledgements count, and no base is set
 pub record IsQuiet (step : Step) : Type 0 where
   pub carries : step.takes_data ≡ false
   pub acks : step.counts_ack ≡ false

@@ -37,24 +37,24 @@ pub record HasSeen (flows : FlowsState) (touches : List Key) : Type 0 where
   pub tcp : flows.tcp ≡ take flows.max.tcp (stretches flows.max true touches)
   pub udp : flows.udp ≡ take flows.max.udp (stretches flows.max false touches)
 
--- for whatever touches the value stood for, this is what a touch of the key finds
+-- for whatever touches the value was for, this is what a touch of the key finds
 abbrev pub IsFound : FlowsState → Key → Touch → Type 0
 IsFound flows key touch = (touches : List Key) → HasSeen flows touches → touch ≡ touch_found flows.max touches key
 
--- whatever touches the value stood for, it now stands for those and one of the key
+-- whatever touches the value was for, it now stands for those and one of the key
 abbrev pub SeesTouch : FlowsState → Key → FlowsState → Type 0
 SeesTouch old key new = (touches : List Key) → HasSeen old touches → HasSeen new (key ∷ touches)
 
--- the value stands for some touches behind which the key lives
+-- the value stands for some touches after which the key lives
 abbrev pub IsKnown : FlowsState → Key → Type 0
 IsKnown flows key = (touches : List Key) × HasSeen flows touches × (is_live flows.max touches key ≡ true)
 
--- behind whatever touches the value stands for, no more flows of a protocol live than may
+-- after whatever touches the value stands for, no more flows of a protocol live than may
 abbrev pub KeepsBounds : FlowsState → Type 0
 KeepsBounds flows =
     (touches : List Key) → HasSeen flows touches → (tcp : Bool) → live_count flows.max tcp touches ≤ max_for flows.max tcp
 
--- behind whatever touches the value stands for, the flows that live are appended
+-- after whatever touches the value stands for, the flows that live are appended
 abbrev pub AppendsLive : FlowsState → List ℕ → List ℕ → Type 0
 AppendsLive flows old new = (touches : List Key) → HasSeen flows touches → new ≡ old ++ live_flows flows.max touches
 
@@ -67,12 +67,12 @@ found_by entries cap next None = record {
   evicted = option_map (λ entry. entry.1) (slice_get entries (cap - 1));
 }
 
--- what is kept behind a touch, where the look-up gave this
+-- what is kept after a touch, where the look-up gave this
 abbrev pub kept_by : List (Key × ℕ) → ℕ → ℕ → Key → Option ℕ → List (Key × ℕ)
 kept_by entries cap next key (Some flow) = (key, flow) ∷ remove_entry (same_key key) entries
 kept_by entries cap next key None = (key, next) ∷ take (cap - 1) entries
 
--- the number of the next flow behind a touch, where the look-up gave this
+-- the number of the next flow after a touch, where the look-up gave this
 abbrev pub next_by : ℕ → Option ℕ → ℕ
 next_by next (Some flow) = next
 next_by next None = next + 1
@@ -89,11 +89,11 @@ looked_up flows key = lookup (same_key key) (kept_of flows key.tcp)
 abbrev pub found_in : FlowsState → Key → Touch
 found_in flows key = found_by (kept_of flows key.tcp) (max_for flows.max key.tcp) flows.next (looked_up flows key)
 
--- what is kept of this protocol behind a touch of the key
+-- what is kept of this protocol after a touch of the key
 abbrev pub kept_after : FlowsState → Key → List (Key × ℕ)
 kept_after flows key = kept_by (kept_of flows key.tcp) (max_for flows.max key.tcp) flows.next key (looked_up flows key)
 
--- the value behind a touch of the key
+-- the value after a touch of the key
 abbrev pub touched_state : FlowsState → Key → FlowsState
 touched_state flows key = record {
   max = flows.max;

@@ -1,13 +1,13 @@
 -- Which flows live, and their numbers.
 --
 -- A flow is one stretch of life of a key. Each packet of a tracked protocol touches its key. From a
--- touch on the key lives, until so many different other keys of its protocol were touched since its
+-- touch on the key lives, until as many different other keys of its protocol were touched since its
 -- last touch as there may be flows of the protocol: `max_tcp` and `max_udp` of stream5 (Snort Users
 -- Manual 2.9, section 2.2.2, `stream5_global`). A flow's number is the count of flows that began
 -- before it, of either protocol. That the key which was silent for longest gives way is this
 -- project's own choice.
 --
--- Touches stand in lists, the latest first, those of both protocols in one list.
+-- Touches are in lists, the latest first, those of both protocols in one list.
 -- To try it on: with at most two TCP flows, the TCP keys a, b, a, c are flows 0, 1, 0, 2, and the
 -- touch of c ends flow 1. With at most one, a, b, a are flows 0, 1, 2.
 use Rattle.std.specs.Prelude.{ℕ, ◌+◌, Bool, not, ◌&&◌, ◌==◌, List, [], ◌∷◌, Option, filter, nat_lt, if◌then◌else◌}

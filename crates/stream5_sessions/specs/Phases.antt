@@ -7,7 +7,7 @@
 -- require_3whs asks for a handshake (Snort Users Manual 2.9, section 2.2.3, `stream5_tcp`),
 -- and is watched in Off without its data then.
 --
--- Of each phase the rows stand from top to bottom, and the first one that fits decides; the last one
+-- Of each phase the rows are listed from top to bottom, and the first one that fits decides; the last one
 -- of each phase always fits, so each packet meets exactly one row.
 -- To try it on: from 10.0.0.1 port 1000 to 10.0.0.2 port 80 a SYN with seq 0, back a SYN with ACK, seq
 -- 100, ack 1, and there an ACK with seq 1, ack 101 go through Syn and SynAck to Est; the client's base
@@ -32,7 +32,7 @@ use Rattle.stream5_sessions.specs.declared.step.SessionRules.{SessionRules}
 use Rattle.stream5_sessions.specs.declared.step.Step.{Step}
 use Rattle.stream5_sessions.specs.Keys.{same_end}
 
--- so many places behind a sequence number (RFC 793, section 3.3)
+-- the sequence number `count` places after another (RFC 793, section 3.3)
 abbrev pub plus : ℕ → ℕ → ℕ
 plus seq count = (seq + count) % 2 ^ 32
 
@@ -85,7 +85,7 @@ segment_of ip body len moment = record {
   moment = moment;
 }
 
--- no session stands
+-- the state where there is no session
 abbrev pub no_session : Bool → Moment → State
 no_session tcp last = record {
   tcp = tcp;
@@ -100,7 +100,7 @@ no_session tcp last = record {
 
 -- The words of the rows.
 
--- the phase is that of a session that stands
+-- the phase is that of a session that there is
 abbrev pub is_open : Phase → Bool
 is_open NoSession = false
 is_open phase = true
@@ -124,7 +124,7 @@ abbrev pub unset : Option ℕ → ℕ → Option ℕ
 unset None number = Some number
 unset (Some base) number = None
 
--- nothing changes, and neither data nor acknowledgement count
+-- the change of a packet that changes nothing: neither data nor acknowledgement count
 abbrev pub stays : State → Change
 stays s = record { phase = s.phase; client = s.client; client_base = None; server_base = None; counts = false; ends = false }
 
@@ -136,11 +136,11 @@ ends s = record (stays s) { ends = true }
 abbrev pub begins_none : Change
 begins_none = record { phase = NoSession; client = None; client_base = None; server_base = None; counts = false; ends = false }
 
--- it begins a session that is only watched
+-- this packet begins a session that is only watched
 abbrev pub begins_off : Change
 begins_off = record begins_none { phase = Off }
 
--- it begins a session in this phase, with this client and these bases of the client and the server
+-- this packet begins a session in this phase, with this client and these bases of the client and the server
 abbrev pub begins : Phase → End → Option ℕ → Option ℕ → Change
 begins phase client client_base server_base = record {
   phase = phase;
@@ -155,7 +155,7 @@ begins phase client client_base server_base = record {
 abbrev pub larger_end : Segment → End
 larger_end p = if nat_lt p.sender.port p.receiver.port then p.receiver else p.sender
 
--- it begins a session under way: the base of its sender is seq, that of the other end ack, if there is one
+-- this packet begins a session under way: the base of its sender is seq, that of the other end ack, if there is one
 abbrev pub begins_mid : Segment → Change
 begins_mid p =
     if same_end (larger_end p) p.sender
@@ -179,7 +179,7 @@ goes_mid s p =
       counts = true;
     }
 
--- the end of a FIN: the place behind the data and the FIN itself
+-- the end of a FIN: the place after the data and the FIN itself
 abbrev pub fin_end : Segment → ℕ
 fin_end p = plus (plus p.seq p.len) 1
 
@@ -286,7 +286,7 @@ abbrev pub base_after : Option ℕ → Option ℕ → Option ℕ
 base_after None old = old
 base_after (Some new) old = Some new
 
--- What the packet tells: the facts are those of the phase behind it, and before an end. Of a UDP
+-- What the packet tells: the facts are those of the phase after it, and before an end. Of a UDP
 -- session neither data nor acknowledgements count, no packet ends it, and it has no bases.
 abbrev pub step_of : Bool → State → Change → Segment → Step
 step_of ended_before s change p = record {
@@ -302,7 +302,7 @@ step_of ended_before s change p = record {
   server_base = change.server_base;
 }
 
--- The session behind a packet that doesn't end it. A FIN is noted exactly where data count.
+-- The session after a packet that doesn't end it. A FIN is noted exactly where data count.
 abbrev pub state_after : State → Change → Segment → State
 state_after s change p =
     let now : State = record s { client = change.client } in
@@ -317,12 +317,12 @@ state_after s change p =
       last = p.moment;
     }
 
--- what a packet tells, and the session behind it
+-- what a packet tells, and the session after it
 pub record Taken : Type 0 where
   pub step : Step
   pub state : State
 
--- of a packet that changes this
+-- what a packet tells that changes this, and the session after it
 unfoldable pub taken : Bool → State → Change → Segment → Taken
 taken ended_before s change p = record {
   step = step_of ended_before s change p;
@@ -333,16 +333,16 @@ taken ended_before s change p = record {
 unfoldable pub is_timed_out : State → Moment → SessionRules → Bool
 is_timed_out s moment rules = is_open s.phase && nat_lt (s.last.nanos + rules.timeout * 1000000000) moment.nanos
 
--- the session that a packet meets: none behind the timeout
+-- the session that a packet meets: none after the timeout
 unfoldable pub at_hand : State → Segment → SessionRules → State
 at_hand s p rules = if is_timed_out s p.moment rules then no_session s.tcp s.last else s
 
--- by the row that the packet meets
+-- what a packet tells and leaves, by the row that it meets
 abbrev pub by_row : Bool → State → Reading → Segment → Bool → Taken
 by_row timed_out s (Then change) p needed_new = taken timed_out s change p
 by_row timed_out s EndsBefore p needed_new = taken true (no_session s.tcp s.last) (in_none p needed_new) p
 
--- one packet of a session: what it tells, and the session behind it
+-- one packet of a session: what it tells, and the session after it
 unfoldable pub session_step : State → Segment → SessionRules → Taken
 session_step s p rules =
     let now : State = at_hand s p rules in

@@ -3,7 +3,7 @@
 -- Most packets of a session are of this kind: data and acknowledgements of TCP under way, and all but the
 -- first of UDP that the client sends, or either side once the server has sent. By the table of phases
 -- (specs/Phases) such a packet begins no session, ends none, and sets no base.
--- To try it on: behind a handshake a segment with ACK alone stays, and one with FIN doesn't; of UDP the
+-- To try it on: after a handshake a segment with ACK alone stays, and one with FIN doesn't; of UDP the
 -- client's second datagram stays, and the server's first doesn't.
 use Rattle.std.specs.Prelude.{Bool, true, false, not, ◌&&◌, ◌||◌, None, is_some, if◌then◌else◌}
 use Rattle.std.specs.Option.{option_map}
@@ -35,7 +35,7 @@ has_no_control p = not p.syn && not p.fin && not p.rst
 abbrev pub has_both_fins : State → Bool
 has_both_fins s = is_some s.client_fin && is_some s.server_fin
 
--- by the session's protocol, where the session stands and is not timed out
+-- the packet leaves the session as it is, by the session's protocol, where there is a session that is not timed out
 abbrev pub stays_in : State → Segment → Bool
 stays_in s p =
     if s.tcp
@@ -61,6 +61,6 @@ staying_step s p = record {
   server_base = None;
 }
 
--- and the session behind it
+-- the session after such a packet
 abbrev pub staying_state : State → Segment → State
 staying_state s p = record s { last = p.moment }

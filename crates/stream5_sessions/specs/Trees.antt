@@ -33,7 +33,7 @@ number_in numbers key = get tree_cmp numbers.tree (tree_key_of key)
 abbrev pub HasNone : FlowNumbers → Type 0
 HasNone numbers = (q : Key) → number_in numbers q ≡ None
 
--- the key has this number behind a step, or none, and each other key what it had before
+-- the key has this number after a step, or none, and each other key what it had before
 abbrev pub Puts : FlowNumbers → Key → Option ℕ → FlowNumbers → Type 0
 Puts old key number new = (q : Key) → number_in new q ≡ (if same_key key q then number else number_in old q)
 

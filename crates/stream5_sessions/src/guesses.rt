@@ -28,7 +28,7 @@ impl Ports {
         }
     }
 
-    /// Where the guess for these ports stands. Ports that differ in the last bits of one alone stand apart.
+    /// Where the guess for these ports is. Ports that differ in the last bits of one alone have other places.
     fn place(self) -> usize {
         (self.low ^ self.high) as usize % PLACES
     }

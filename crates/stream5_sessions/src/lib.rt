@@ -5,7 +5,7 @@
 //! known as may be: the definition counts keys in the list of all touches (specs/Liveness). A flow
 //! holds sessions one after another: `Session::step` takes its packets one by one and tells of each
 //! what the table of phases says (specs/Phases). Reassembly, flowbits and the tests of rules on
-//! sessions stand on what it tells.
+//! sessions build on what it tells.
 #![tactic(auto)]
 
 mod flow_numbers;

@@ -66,7 +66,7 @@ impl Model for Lives {
 }
 
 impl Lives {
-    /// No key, and room for so many. Memory for keys is taken as they come.
+    /// No key, and room for `most` keys. Memory for keys is taken as they come.
     pub fn new(alloc: Global, most: u32) -> Result<Lives, NoMemory>
         requires { 1 ≤ most }
         ensures { IfOk result (λ lives. lives ≡ lives_with [] most) }
@@ -91,7 +91,7 @@ impl Lives {
         }
     }
 
-    /// As `again`, where the flow's number is the guess; else nothing.
+    /// The flow of a key that lives, as `again`, where the flow's number is the guess; else nothing.
     #[inline(always)]
     fn by_guess(&mut self, key: &Key) -> Option<u64>
         ensures value { IfSome result (λ flow. lookup (same_key key.now) self.old.entries ≡ Some flow) }
@@ -106,7 +106,7 @@ impl Lives {
         self.cache.get(&entry).copied()
     }
 
-    /// As `again`, with the number that the tree has. Seldom called, so its code stands apart.
+    /// The flow of a key that lives, as `again`, with the number that the tree has. Seldom called, so its code is kept apart.
     #[inline(never)]
     fn by_tree(&mut self, key: &Key) -> Option<u64>
         ensures value { result ≡ lookup (same_key key.now) self.old.entries }

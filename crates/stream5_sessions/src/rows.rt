@@ -47,7 +47,7 @@ fn unset(base: Option<u32>, number: u32) -> Option<u32>
     }
 }
 
-/// Nothing changes.
+/// The change of a packet that changes nothing.
 fn stays(state: &State) -> Change
     ensures { result ≡ stays state.now }
 {
@@ -197,7 +197,7 @@ fn acks_fin(state: &State, segment: &Segment) -> bool
     segment.has_ack && is_base(fin, segment.ack)
 }
 
-/// The rows where no session stands.
+/// The rows where there is no session.
 #[tactic(auto, unfolding(crate::specs::Phases::in_none))]
 #[inline(never)]
 pub(crate) fn in_none(segment: &Segment, needed: bool) -> Change

@@ -33,14 +33,14 @@ pub(crate) struct Segment {
     pub moment: Moment,
 }
 
-/// The sequence number so many places behind another (RFC 793, section 3.3).
+/// The sequence number `count` places after another (RFC 793, section 3.3).
 pub(crate) fn plus(seq: u32, count: usize) -> u32
     ensures { result ≡ plus seq count }
 {
     ((u128::from(seq) + count as u128) % (1 << 32)) as u32
 }
 
-/// The end of a FIN: the place behind the data and the FIN itself.
+/// The end of a FIN: the place after the data and the FIN itself.
 pub(crate) fn fin_end(segment: &Segment) -> u32
     ensures { result ≡ fin_end segment.now }
 {

@@ -13,7 +13,7 @@ use edge_io::Moment;
 use packet_decode::{Body, IpHead};
 use std::marker::Model;
 
-/// The session of a flow, of TCP or UDP: where it stands behind the flow's packets so far.
+/// The session of a flow, of TCP or UDP: where it is after the flow's packets so far.
 #[derive(Clone, Copy, Debug, PartialEq, Eq)]
 pub struct Session {
     state: State,
@@ -30,7 +30,7 @@ impl Model for Session {
 }
 
 impl Session {
-    /// No session stands, and no packet was seen.
+    /// A session before its first packet: there is none yet.
     pub fn new(tcp: bool) -> Session
         ensures { result ≡ no_session tcp (record { nanos = 0 }) }
     {
@@ -86,7 +86,7 @@ impl Session {
     }
 }
 
-/// No session stands.
+/// The state where there is no session.
 fn none(tcp: bool, last: Moment) -> State
     ensures { result ≡ no_session tcp last }
 {
@@ -102,7 +102,7 @@ fn none(tcp: bool, last: Moment) -> State
     }
 }
 
-/// The session that the packet meets takes its place: none behind the timeout.
+/// The session that the packet meets takes its place: none after the timeout.
 #[tactic(auto, unfolding(crate::specs::Phases::at_hand))]
 fn meet(state: &mut State, segment: &Segment, rules: &SessionRules)
     ensures { state.new ≡ at_hand state.old segment.now rules.now }
@@ -162,7 +162,7 @@ fn fins_after(state: &State, change: Change, segment: &Segment) -> (Option<u32>,
     }
 }
 
-/// The session goes on behind a packet that doesn't end it.
+/// The session goes on after a packet that doesn't end it.
 fn go_on(state: &mut State, change: Change, segment: &Segment)
     ensures { state.new ≡ state_after state.old change segment.now }
 {
@@ -176,7 +176,7 @@ fn go_on(state: &mut State, change: Change, segment: &Segment)
     state.last = segment.moment;
 }
 
-/// What the packet tells; the session is then as it stands behind it.
+/// What the packet tells; the session is then as it is after it.
 // It goes on in its place: moved from call to call, it would cost more than the table.
 #[tactic(auto, unfolding(crate::specs::Phases::taken))]
 fn taken(ended_before: bool, state: &mut State, change: Change, segment: &Segment) -> Step
@@ -192,7 +192,7 @@ fn taken(ended_before: bool, state: &mut State, change: Change, segment: &Segmen
     step
 }
 
-/// By the row that the packet meets.
+/// What the packet tells, by the row that it meets.
 fn by_row(
     timed_out: bool,
     state: &mut State,

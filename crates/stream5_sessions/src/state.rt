@@ -5,11 +5,11 @@ ghost use Rattle.stream5_sessions.specs.Phases.{is_timed_out};
 use crate::{End, SessionRules};
 use edge_io::Moment;
 
-/// Where a session stands. Of UDP, `Syn` is a session in which only the client has sent, and `Est`
+/// Where a session is. Of UDP, `Syn` is a session in which only the client has sent, and `Est`
 /// one in which the server has sent as well.
 #[derive(Clone, Copy, Debug, PartialEq, Eq)]
 pub(crate) enum Phase {
-    /// No session stands.
+    /// There is no session.
     NoSession,
     /// The client's SYN was seen.
     Syn,
@@ -29,7 +29,7 @@ impl Phase {
     ghost use Rattle.std.specs.Prelude.{◌≡◌};
     ghost use Rattle.stream5_sessions.specs.Phases.{is_open, is_established};
 
-    /// A session stands.
+    /// There is a session.
     pub fn is_open(self) -> bool
         ensures { result ≡ is_open self }
     {
@@ -63,7 +63,7 @@ pub(crate) struct State {
 /// What a row of the table changes.
 #[derive(Clone, Copy, Debug, PartialEq, Eq)]
 pub(crate) struct Change {
-    /// The phase behind the packet, and before an end.
+    /// The phase after the packet, and before an end.
     pub phase: Phase,
     pub client: Option<End>,
     /// The bases that the packet sets.
@@ -79,7 +79,7 @@ pub(crate) struct Change {
 #[derive(Clone, Copy, Debug, PartialEq, Eq)]
 pub(crate) enum Reading {
     Then(Change),
-    /// The session ends before the packet, which is then read where no session stands.
+    /// The session ends before the packet, which is then read where there is no session.
     EndsBefore,
 }
 

@@ -1,6 +1,6 @@
 //! Packets that leave a session as it is, but for the moment of its last packet (specs/Staying).
 //!
-//! Most packets are of this kind, so what is asked of them is read where it stands: no `Segment` is made, and no
+//! Most packets are of this kind, so what is asked of them is read where it lies: no `Segment` is made, and no
 //! second `State`.
 ghost use Rattle.std.specs.Prelude.{◌≡◌, ℕ, option_map};
 ghost use Rattle.edge_io.specs.declared.moment.Moment.{Moment};
@@ -47,7 +47,7 @@ fn is_from_client(state: &State, ip: &IpHead, body: &Body) -> bool
     }
 }
 
-/// By the session's protocol, where the session stands and is not timed out.
+/// Whether the packet leaves the session as it is, by its protocol, where there is a session that is not timed out.
 fn stays_in(state: &State, ip: &IpHead, body: &Body) -> bool
     ensures { (len : ℕ) (moment : Moment) → result ≡ stays_in state.now (segment_of ip.now body.now len moment) }
 {

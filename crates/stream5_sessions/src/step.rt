@@ -6,7 +6,7 @@ pub struct SessionRules {
     pub timeout: u32,
     /// The session at hand is taken up only after a handshake.
     pub needed: bool,
-    /// The same of a session that this packet begins.
+    /// A session that this packet begins is taken up only after a handshake.
     pub needed_new: bool,
 }
 

@@ -24,7 +24,7 @@ length-event_body event (V4 first) (V6 second) src_is dst_is one = absurd one
 length-event_body event (V6 first) (V4 second) src_is dst_is one = absurd one
 length-event_body event (V6 first) (V6 second) src_is dst_is one = rw (src_is, dst_is) refl
 
--- the same of any addresses
+-- the length of an event's body, between any addresses
 pub length-any_event : (event : U2Event) (src dst : Addr) → event.src ≡ src → event.dst ≡ dst → length (event_body event) ≡ event_len src dst
 unfolding event_body
 length-any_event event (V4 first) (V4 second) src_is dst_is = rw (src_is, dst_is) refl
@@ -32,7 +32,7 @@ length-any_event event (V4 first) (V6 second) src_is dst_is = rw (src_is, dst_is
 length-any_event event (V6 first) (V4 second) src_is dst_is = rw (src_is, dst_is) refl
 length-any_event event (V6 first) (V6 second) src_is dst_is = rw (src_is, dst_is) refl
 
--- and that of a packet
+-- the length of a packet's body
 pub length-packet_body : (packet : U2Packet) → length (packet_body packet) ≡ 28 + length packet.bytes
 unfolding packet_body
 length-packet_body packet = length-append (numbers 4 (packet_words packet)) packet.bytes
@@ -68,7 +68,7 @@ count-packet : (packet : U2Packet) → length packet.bytes < 256 ^ 4 → big_num
 unfolding packet_body
 count-packet packet short = big_number-reads_back 4 (length packet.bytes) [] short
 
--- a packet's body is long enough, and its count is that of the bytes behind its numbers
+-- a packet's body is long enough, and its count is that of the bytes after its numbers
 pub size-2 : (body : List ℕ) (entry : U2) → IsRecordOf 2 body entry → (28 ≤ length body) × (28 + big_number 4 (drop 24 (take 28 body)) ≡ length body)
 size-2 body (Event event) of = absurd (event-kinds event.src of.kind_is)
 size-2 body (Other kind bytes) of = absurd (of.is.writable.0.no_packet of.kind_is)
@@ -132,7 +132,7 @@ body-read event words tail is =
     ∙ append_assoc (words ++ src ++ dst) (take 4 tail) (drop 4 tail)
     ∙ ap (λ (t : List ℕ). words ++ src ++ dst ++ t) (take-append-drop 4 tail)
 
--- and they fit
+-- an event's numbers that are read of its body fit
 fits-read : (event : U2Event) (words tail : List ℕ) → IsEventRead event words tail → IsInRange event.src → IsInRange event.dst → FitsEvent event
 fits-read event words tail is src dst =
     let values : event_words event ≡ is.values = is.words_are ∙ places-rest 0 9 is.values (omega arith) in
@@ -146,7 +146,7 @@ fits-read event words tail is src dst =
       octets = subst (AllFit 1) (sym octets) (all-bytes (drop 4 tail) (bytes-drop 4 tail is.tail_bytes));
     }
 
--- so the event is that of its words and its tail
+-- the event that is read is that of its words and its tail
 pub event-read : (event : U2Event) (words : List ℕ) (src dst : Addr) (tail : List ℕ) → event.src ≡ src → event.dst ≡ dst → IsEventRead event words tail → IsEventOf words src dst tail event
 event-read event words src dst tail src_is dst_is is =
     record {
@@ -156,7 +156,7 @@ event-read event words src dst tail src_is dst_is is =
       fits = λ (first : IsInRange src) (second : IsInRange dst). fits-read event words tail is (subst IsInRange (sym src_is) first) (subst IsInRange (sym dst_is) second);
     }
 
--- the parts of the body of an event, with addresses of so many bytes
+-- the parts of the body of an event, with addresses of `width` bytes
 pub record AreParts (width : ℕ) (body words tail : List ℕ) (first second : ℕ) : Type 0 where
   pub bytes : AreBytes body
   pub size : length body ≡ 44 + (width + width)
@@ -171,7 +171,7 @@ pub record AreParts (width : ℕ) (body words tail : List ℕ) (first second : �
   pub first_is : first ≡ big_number width src
   pub second_is : second ≡ big_number width dst
 
--- they make the body, and the addresses fit
+-- the parts make the body, and the addresses fit
 pub parts-whole : (width : ℕ) (body words tail : List ℕ) (first second : ℕ) → AreParts width body words tail first second
     → (words ++ big_bytes width first ++ big_bytes width second ++ tail ≡ body) × (first < 256 ^ width) × (second < 256 ^ width)
 parts-whole width body words tail first second are =
@@ -206,7 +206,7 @@ event-of event body words tail first second are of =
       body_is = of.body_is ∙ whole.0;
     }
 
--- and of version 6
+-- an event between addresses of version 6 whose body is that
 pub event-of-6 : (event : U2Event) (body words tail : List ℕ) (first second : ℕ) → AreParts 16 body words tail first second
     → IsEventOf words (V6 first) (V6 second) tail event
     → IsRecordOf 72 body (Event event)

@@ -7,7 +7,7 @@ use Rattle.unified2_out.specs.Records.{frame_text, most_body_bytes}
 use Rattle.unified2_out.specs.Fronts.{IsFrontFrame}
 use Rattle.unified2_out.proofs.Numbers.{AreBytes, bytes-drop, bytes-first, number-split}
 
--- two lists of one length, with what stands behind them
+-- two lists of one length, with what follows them
 append-split : (first second rest more : List ℕ) → length first ≡ length second → first ++ rest ≡ second ++ more → (first ≡ second) × (rest ≡ more)
 append-split first second rest more sizes same =
     (sym (take_at first rest (length first) refl) ∙ ap (take (length first)) same ∙ take_at second more (length first) (sym sizes), sym (drop_at first rest (length first) refl) ∙ ap (drop (length first)) same ∙ drop_at second more (length first) (sym sizes))
@@ -17,7 +17,7 @@ pub length-frame_text : (kind : ℕ) (body : List ℕ) → length (frame_text ki
 unfolding frame_text
 length-frame_text kind body = omega arith
 
--- two frames, with what stands behind them, are one where their bytes are
+-- two frames, with what follows them, are one where their bytes are
 pub frame-split : (kind other : ℕ) (body second rest more : List ℕ) → kind < 256 ^ 4 → other < 256 ^ 4 → length body ≤ most_body_bytes → length second ≤ most_body_bytes
     → frame_text kind body ++ rest ≡ frame_text other second ++ more → (kind ≡ other) × (body ≡ second) × (rest ≡ more)
 unfolding frame_text
@@ -33,7 +33,7 @@ frame-long bytes kind body front =
     let size = ap length front.is ∙ length-append (frame_text kind body) front.rest in
     omega (arith, size, length-frame_text kind body)
 
--- the length of its body stands at 4
+-- the length of a frame's body is at its place 4
 pub frame-size : (bytes : List ℕ) (kind : ℕ) (body : List ℕ) → IsFrontFrame bytes kind body → big_number 4 (drop 4 bytes) ≡ length body
 unfolding frame_text
 frame-size bytes kind body front =

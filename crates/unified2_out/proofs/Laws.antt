@@ -15,7 +15,7 @@ use Rattle.unified2_out.proofs.Numbers.{number-split, numbers-split}
 use Rattle.unified2_out.proofs.Bodies.{event-kinds, kind-fits, body-short}
 use Rattle.unified2_out.proofs.Frames.{frame-split, length-frame_text}
 
--- two addresses of one version, with what stands behind them, are one where their bytes are
+-- two addresses of one version, with what follows them, are one where their bytes are
 address-split : (first second : Addr) (rest more : List ℕ) → IsInRange first → IsInRange second → event_kind first ≡ event_kind second
     → address_bytes first ++ rest ≡ address_bytes second ++ more → (first ≡ second) × (rest ≡ more)
 address-split (V4 first) (V4 second) rest more fits as_well kinds same =
@@ -128,7 +128,7 @@ record-one (Other kind bytes) (Packet second) is as_well kinds bodies = absurd (
 record-one (Other kind bytes) (Other other more) is as_well kinds bodies =
     ap (λ (k : ℕ). Other k bytes) kinds ∙ ap (Other other) bodies
 
--- two records, with what stands behind them, are one where their texts are
+-- two records, with what follows them, are one where their texts are
 pub text-split : (first second : U2) (rest more : List ℕ) → IsRecord first → IsRecord second
     → unified2_text first ++ rest ≡ unified2_text second ++ more → (first ≡ second) × (rest ≡ more)
 unfolding unified2_text
@@ -161,11 +161,11 @@ records-one (first ∷ firsts) (second ∷ seconds) are as_well same =
     let tails = records-one firsts seconds (λ k d h. are (suc k) d (omega arith)) (λ k d h. as_well (suc k) d (omega arith)) heads.1 in
     ap (λ (r : U2). r ∷ firsts) heads.0 ∙ ap (λ (rs : List U2). second ∷ rs) tails
 
--- so bytes are of one list of records
+-- bytes are of one list of records
 pub records_of-one : (bytes : List ℕ) (firsts seconds : List U2) → AreRecordsOf bytes firsts → AreRecordsOf bytes seconds → firsts ≡ seconds
 records_of-one bytes firsts seconds are as_well = records-one firsts seconds are.each as_well.each (are.joined ∙ sym as_well.joined)
 
--- and bad bytes are of none
+-- bad bytes are of no list of records
 pub bad-no_records : (bytes : List ℕ) (place : ℕ) (entries : List U2) → IsBadAt bytes place → AreRecordsOf bytes entries → ⊥
 bad-no_records bytes place entries bad are =
     let whole = sym (take_all (length bytes) bytes (omega arith)) in

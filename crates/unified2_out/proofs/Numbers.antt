@@ -1,4 +1,4 @@
--- Numbers of so many bytes each: what one list of bytes is split into, and what is read of it.
+-- Numbers of `width` bytes each: what one list of bytes is split into, and what is read of it.
 use Rattle.std.proofs.Common.{◌≡◌, ℕ, zero, suc, ◌+◌, ◌*◌, ◌/◌, ◌%◌, ◌^◌, ◌<◌, ◌≤◌, List, [], ◌∷◌, ◌++◌, length, take, drop, get_or, slice_index, refl, sym, ap, ◌∙◌, append_assoc, arith}
 use Rattle.std.proofs.Math.Nat.{div-one, mul-suc, mul_assoc, mul-add-div_right, mul-add-mod_self_right, mod-eq_of_lt, one-le-pow, pow-succ'}
 use Rattle.std.proofs.Math.Seq.{drop-cons}
@@ -49,7 +49,7 @@ bytes-above (suc n) high low =
     let rest = bytes-above n (high * 256) low in
     ap (bytes_high_first (suc n)) moved ∙ rw (top, rest) refl
 
--- nor do they show what a number has above 2^32
+-- four bytes don't show what a number has above 2^32
 pub words-modulo : (number : ℕ) → bytes_high_first 4 (number % 4294967296) ≡ bytes_high_first 4 number
 words-modulo number =
     let parts : number / 4294967296 * 256 ^ 4 + number % 4294967296 ≡ number = omega arith in
@@ -95,19 +95,19 @@ numbers-read width bytes (value ∷ values) small size read =
     let behind = numbers-read width (drop width bytes) values (bytes-drop width bytes small) (omega (arith, length-drop width bytes)) read_behind in
     rw (front, behind) (take-append-drop width bytes)
 
--- and they fit
+-- numbers that are read of bytes fit
 pub numbers-fit : (width : ℕ) (bytes values : List ℕ) → AreBytes bytes → IsRead big_number width bytes values → AllFit width values
 numbers-fit width bytes values small read k d h =
     let fits = big_from-lt 0 width (drop (width * k) bytes) (bytes-drop (width * k) bytes small) in
     omega (arith, read k h, get_or_default_zero values k d h)
 
--- two numbers that fit, with the bytes behind them, are equal where their bytes are
+-- two numbers that fit, with the bytes after them, are equal where their bytes are
 pub number-split : (width first second : ℕ) (rest more : List ℕ) → first < 256 ^ width → second < 256 ^ width
     → bytes_high_first width first ++ rest ≡ bytes_high_first width second ++ more → (first ≡ second) × (rest ≡ more)
 number-split width first second rest more fits as_well same =
     (sym (big_number-reads_back width first rest fits) ∙ ap (big_from 0 width) same ∙ big_number-reads_back width second more as_well, sym (drop_at (bytes_high_first width first) rest width (length-bytes_high_first width first)) ∙ ap (drop width) same ∙ drop_at (bytes_high_first width second) more width (length-bytes_high_first width second))
 
--- the same for lists of numbers
+-- two lists of numbers that fit, with the bytes after them, are equal where their bytes are
 pub numbers-split : (width : ℕ) (firsts seconds rest more : List ℕ) → AllFit width firsts → AllFit width seconds → length firsts ≡ length seconds
     → numbers width firsts ++ rest ≡ numbers width seconds ++ more → (firsts ≡ seconds) × (rest ≡ more)
 numbers-split width [] [] rest more fit as_well sizes same = (refl, same)
@@ -119,7 +119,7 @@ numbers-split width (first ∷ firsts) (second ∷ seconds) rest more fit as_wel
     let tails = numbers-split width firsts seconds rest more (λ k d h. fit (suc k) d (omega arith)) (λ k d h. as_well (suc k) d (omega arith)) (omega arith) heads.1 in
     (rw (heads.0, tails.0) refl, tails.1)
 
--- the elements at so many places of a list, from a place on
+-- the elements at this many places of a list, from a place on
 abbrev pub places : ℕ → ℕ → List ℕ → List ℕ
 places place zero values = []
 places place (suc count) values = get_or values place 0 ∷ places (suc place) count values

@@ -27,14 +27,14 @@ frame-of bytes size entry front =
 pub front-no_frame : (bytes : List ℕ) → HasNoFrame bytes → HasNoRecord bytes
 front-no_frame bytes none size entry front = none (kind_of entry) (body_of entry) (frame-of bytes size entry front)
 
--- nor where the frame is of none
+-- where the frame is of no record there is no record
 pub front-no_record : (bytes : List ℕ) (kind : ℕ) (body : List ℕ) → IsFrontFrame bytes kind body → IsOfNoRecord kind body → HasNoRecord bytes
 front-no_record bytes kind body frame none size entry front =
     let own = frame-of bytes size entry front in
     let same = frame-split (kind_of entry) kind (body_of entry) body own.rest frame.rest own.kind_fits frame.kind_fits own.short frame.short (sym own.is ∙ frame.is) in
     none entry (record { is = front.is; kind_is = same.0; body_is = same.1 })
 
--- the record of the frame stands at the front
+-- the record of the frame is at the front
 pub front-record : (bytes : List ℕ) (kind : ℕ) (body : List ℕ) (entry : U2) (old new : List U2) → IsFrontFrame bytes kind body → IsRecordOf kind body entry
     → new ≡ old ++ entry ∷ [] → AddsFront bytes old new (8 + length body)
 unfolding unified2_text
@@ -65,12 +65,12 @@ no_further (first ∷ firsts) (second ∷ seconds) rest more are as_well none sa
     let tails = no_further firsts seconds rest more (λ k d h. are (suc k) d (omega arith)) (λ k d h. as_well (suc k) d (omega arith)) none heads.1 in
     omega (arith, sizes, tails, length-append (unified2_text first) (joined_text firsts), length-append (unified2_text second) (joined_text seconds))
 
--- a reading that stands at a place: the records that end there were added
+-- a reading that has come to a place: the records that end there were added
 pub record IsWalk (bytes : List ℕ) (old new : List U2) (place : ℕ) : Type 0 where
   pub reached : RecordsEndAt bytes place
   pub added : new ≡ old ++ reached.entries
 
--- none yet
+-- a reading that begins: no record was added yet
 pub walk-start : (bytes : List ℕ) (old : List U2) → IsWalk bytes old old 0
 walk-start bytes old =
     record {
@@ -82,7 +82,7 @@ walk-start bytes old =
 pub front-size : (bytes : List ℕ) (old new : List U2) (size : ℕ) → AddsFront bytes old new size → 8 ≤ size
 front-size bytes old new size adds = omega (arith, length-unified2_text adds.entry, adds.front.size_is)
 
--- one more
+-- a reading that has come one record further
 pub walk-step : (bytes : List ℕ) (old mid new : List U2) (place size : ℕ) → IsWalk bytes old mid place
     → AddsFront (take (length bytes - place) (drop place bytes)) mid new size → IsWalk bytes old new (place + size)
 walk-step bytes old mid new place size walk adds =
@@ -119,7 +119,7 @@ walk-end bytes old new place walk all =
       added = walk.added;
     }
 
--- no record at the place
+-- a reading that has come to a place where there is no record
 pub walk-bad : (bytes : List ℕ) (old new : List U2) (place : ℕ) → IsWalk bytes old new place → place < length bytes
     → HasNoRecord (take (length bytes - place) (drop place bytes)) → IsBadAt bytes place
 walk-bad bytes old new place walk inside none =
@@ -135,6 +135,6 @@ walk-bad bytes old new place walk inside none =
     omega (arith, least, here.within, there.within, ap length here.are.joined, ap length there.are.joined, length-take place bytes, length-take other bytes) in
     record { reached = here; furthest = furthest; left = inside }
 
--- what stood there stands there still
+-- what was there is there still
 pub walk-kept : (bytes : List ℕ) (old new : List U2) (place : ℕ) → IsWalk bytes old new place → take (length old) new ≡ old
 walk-kept bytes old new place walk = ap (take (length old)) walk.added ∙ take_at old walk.reached.entries (length old) refl

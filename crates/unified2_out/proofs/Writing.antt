@@ -1,4 +1,4 @@
--- The bytes of a record, part by part behind what stands there.
+-- The bytes of a record, part by part after what is there.
 use Rattle.std.proofs.Common.{◌≡◌, ℕ, ◌+◌, List, [], ◌∷◌, ◌++◌, length, refl, sym, ap, ◌∙◌, append_assoc}
 use Rattle.byteorder.specs.Endian.{big_bytes}
 use Rattle.unified2_out.specs.declared.record.U2Event.{U2Event}

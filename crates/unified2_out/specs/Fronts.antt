@@ -1,7 +1,7 @@
--- What stands at the front of bytes: a kind with a body, and the record that these are.
+-- What is at the front of bytes: a kind with a body, and the record that these are.
 --
 -- A step of the reading: no list of records is spoken of here (`Reading`).
--- To try it on: at the front of 00 00 00 63 00 00 00 02 61 62 63 stand the kind 99 and the body 61 62,
+-- To try it on: at the front of 00 00 00 63 00 00 00 02 61 62 63 are the kind 99 and the body 61 62,
 -- which are the record of that kind with these bytes; 63 is left.
 use Rattle.std.specs.Prelude.{◌≡◌, ℕ, ◌^◌, ◌<◌, ◌≤◌, List, [], ◌∷◌, ◌++◌, length}
 use Rattle.edge_io.specs.declared.address.Addr.{Addr}
@@ -38,7 +38,7 @@ pub record IsEventOf (words : List ℕ) (src dst : Addr) (tail : List ℕ) (even
   pub body_is : event_body event ≡ words ++ address_bytes src ++ address_bytes dst ++ tail
   pub fits : IsInRange src → IsInRange dst → FitsEvent event
 
--- the bytes begin with a record, whose text has so many bytes
+-- the bytes begin with a record, whose text has this many bytes
 pub record IsFrontRecord (bytes : List ℕ) (size : ℕ) (entry : U2) : Type 0 where
   pub is : IsRecord entry
   pub size_is : length (unified2_text entry) ≡ size

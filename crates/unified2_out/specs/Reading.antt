@@ -25,7 +25,7 @@ pub record AreRecordsOf (bytes : List ℕ) (entries : List U2) : Type 0 where
   pub each : All IsRecord entries
   pub joined : joined_text entries ≡ bytes
 
--- a list of records ends at a place of the bytes: its joined text is all that stands before it
+-- a list of records ends at a place of the bytes: its joined text is all that comes before it
 pub record RecordsEndAt (bytes : List ℕ) (place : ℕ) : Type 0 where
   pub within : place ≤ length bytes
   pub entries : List U2

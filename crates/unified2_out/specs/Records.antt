@@ -1,7 +1,7 @@
 -- What a Unified2 record is, as bytes.
 --
 -- The format: Snort Users Manual 2.9, "Unified2 File Format", its parts "Serial Unified2 Header",
--- "Unified2 Packet", "Unified2 IDS Event" and "Unified2 IDS Event IP6"; the same layouts stand in
+-- "Unified2 Packet", "Unified2 IDS Event" and "Unified2 IDS Event IP6"; the same layouts are in
 -- barnyard2's unified2.h. All numbers have the most significant byte first. Own: these three kinds
 -- alone are read as what they are, all others as a kind and a body; a body has at most 1,048,576
 -- bytes, and the bytes of a packet are exactly what follows its numbers.
@@ -19,7 +19,7 @@ use Rattle.unified2_out.specs.declared.record.LentPacket.{LentPacket}
 use Rattle.unified2_out.specs.declared.record.U2.{U2}
 use Rattle.unified2_out.specs.declared.record.U2.TheVariants.{Event, Packet, Other}
 
--- numbers of so many bytes each, one after another
+-- numbers of `width` bytes each, one after another
 abbrev pub numbers : ℕ → List ℕ → List ℕ
 numbers width values = flat_map (big_bytes width) values
 
@@ -89,7 +89,7 @@ unified2_text entry = frame_text (kind_of entry) (body_of entry)
 abbrev pub most_body_bytes : ℕ
 most_body_bytes = 1048576
 
--- both addresses are of one version
+-- two addresses are of one version
 abbrev pub AreOfOneVersion : Addr → Addr → Type 0
 AreOfOneVersion (V4 first) (V4 second) = ⊤
 AreOfOneVersion (V4 first) (V6 second) = ⊥
@@ -121,7 +121,7 @@ packet_of packet = record {
   bytes = packet.bytes.now;
 }
 
--- each number fits so many bytes
+-- each number fits `width` bytes
 abbrev pub AllFit : ℕ → List ℕ → Type 0
 AllFit width values = All (λ value. value < 256 ^ width) values
 

@@ -15,7 +15,7 @@ use std::alloc::Global;
 
 /// Appends the records whose texts, joined, are these bytes.
 ///
-/// `Bad` comes exactly where there are none: `at` is the place behind the longest list of records
+/// `Bad` comes exactly where there are none: `at` is the place after the longest list of records
 /// whose joined texts the bytes begin with. After a refusal, also for want of memory, `out` is as it
 /// was.
 pub fn read_records(alloc: Global, bytes: &[u8], out: &mut Vec<U2>) -> Result<(), U2Fault>
@@ -33,7 +33,7 @@ pub fn read_records(alloc: Global, bytes: &[u8], out: &mut Vec<U2>) -> Result<()
     }
 }
 
-// At a refusal some records may stand behind what stood there.
+// At a refusal some records may be left after what was there.
 fn push_records(alloc: Global, bytes: &[u8], out: &mut Vec<U2>) -> Result<(), U2Fault>
     ensures read { OnOk result (AddsRecords bytes.now out.old.items out.new.items) }
     ensures refused { IfErr result (IsCauseOf bytes.now) }

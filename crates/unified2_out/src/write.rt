@@ -17,7 +17,7 @@ use std::alloc::AllocError;
 ///
 /// `read_records` reads it where it `IsWritable`: an event between addresses of one version, a packet of at
 /// most 1,048,548 bytes, or any other record of at most 1,048,576 and a kind that is none of 2, 7 and 72. Of a
-/// longer one the length stands modulo 2^32. Where memory is lacking, nothing is appended.
+/// longer one the length is written modulo 2^32. Where memory is lacking, nothing is appended.
 pub fn write_record(entry: &U2, out: &mut Vec<u8>) -> Result<(), NoMemory>
     ensures appended { OnOk result (out.new.items ≡ out.old.items ++ unified2_text entry.now) }
     ensures unchanged { OnErr result (out.new.items ≡ out.old.items) }
@@ -49,7 +49,7 @@ pub fn write_packet(packet: &LentPacket<'_>, out: &mut Vec<u8>) -> Result<(), No
     }
 }
 
-// Where memory is lacking, a part of the record may stand behind what stood there.
+// Where memory is lacking, a part of the record may be left after what was there.
 fn push_record(entry: &U2, out: &mut Vec<u8>) -> Result<(), AllocError>
     ensures appended { OnOk result (out.new.items ≡ out.old.items ++ unified2_text entry.now) }
     ensures kept { OnErr result (take (length out.old.items) out.new.items ≡ out.old.items) }
@@ -61,7 +61,7 @@ fn push_record(entry: &U2, out: &mut Vec<u8>) -> Result<(), AllocError>
     }
 }
 
-// Where memory is lacking, a part of the event may stand behind what stood there.
+// Where memory is lacking, a part of the event may be left after what was there.
 fn push_event(event: &U2Event, out: &mut Vec<u8>) -> Result<(), AllocError>
     ensures appended { OnOk result
         (out.new.items ≡ out.old.items ++ unified2_text (U2.Event event.now)) }
@@ -95,7 +95,7 @@ fn address_len(address: Addr) -> u32
     }
 }
 
-/// What stands before the addresses of an event: its kind, its length, and its numbers of four bytes.
+/// What comes before the addresses of an event: its kind, its length, and its numbers of four bytes.
 fn event_head(event: &U2Event) -> [u8; EVENT_HEAD]
     ensures { result ≡ numbers 4
         (event_kind event.now.src ∷ event_len event.now.src event.now.dst ∷ event_words event.now) }
@@ -120,7 +120,7 @@ fn event_head(event: &U2Event) -> [u8; EVENT_HEAD]
     head
 }
 
-/// What stands behind the addresses of an event: its ports, and its numbers of one byte.
+/// What comes after the addresses of an event: its ports, and its numbers of one byte.
 fn event_tail(event: &U2Event) -> [u8; 8]
     ensures { result ≡ numbers 2 (event_ports event.now) ++ event_octets event.now }
 {
@@ -163,14 +163,14 @@ fn lent(packet: &U2Packet) -> LentPacket<'_>
     }
 }
 
-/// The length of so many bytes behind `head` others, modulo 2^32.
+/// The length of `count` bytes after `head` others, modulo 2^32.
 fn length_word(head: u32, count: usize) -> u32
     ensures { big_bytes 4 result ≡ big_bytes 4 (head + count) }
 {
     head.wrapping_add((count % (1 << 32)) as u32)
 }
 
-// Where memory is lacking, a part of the packet may stand behind what stood there.
+// Where memory is lacking, a part of the packet may be left after what was there.
 fn push_packet(packet: &LentPacket<'_>, out: &mut Vec<u8>) -> Result<(), AllocError>
     ensures appended { OnOk result
         (out.new.items ≡ out.old.items ++ unified2_text (U2.Packet (packet_of packet.now))) }
@@ -199,7 +199,7 @@ fn push_packet(packet: &LentPacket<'_>, out: &mut Vec<u8>) -> Result<(), AllocEr
     Ok(())
 }
 
-// Where memory is lacking, a part of the record may stand behind what stood there.
+// Where memory is lacking, a part of the record may be left after what was there.
 fn push_other(kind: u32, body: &[u8], out: &mut Vec<u8>) -> Result<(), AllocError>
     ensures appended { OnOk result (out.new.items ≡ out.old.items ++ frame_text kind body.now) }
     ensures kept { OnErr result (take (length out.old.items) out.new.items ≡ out.old.items) }

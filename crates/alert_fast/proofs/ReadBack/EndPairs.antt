@@ -67,7 +67,7 @@ with_no_target from to none other words own =
     let (p, first, second, e, f) = has_pair from to other words own in
     none (other.dst, p.1) second f
 
--- both ends without
+-- both ends without ports
 pub plain_ends : (from to : List ℕ) (src dst : Addr) → IsWhole IsAddr address_text from src → IsWhole IsAddr address_text to dst → AreOwn false from to (record { src = src; dst = dst; ports = None })
 unfolding port_text
 plain_ends from to src dst h k = record {

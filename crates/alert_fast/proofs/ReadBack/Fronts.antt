@@ -34,7 +34,7 @@ pub lacks-none : (byte : ℕ) (x y : List ℕ) → Lacks byte (x ++ (byte ∷ y)
 lacks-none byte x y h = (lacks-back byte x (byte ∷ y) h).0 refl
 
 module _ {A : Type 0} (Fits : A → Type 0) (spell : A → List ℕ) where
-  -- a value that a byte ends, which none of those that may stand there has in it
+  -- a value that a byte ends, which none of those that may be there has in it
   pub ended_front : (end : ℕ) (text word rest : List ℕ) (value : A) → ((a : A) → Fits a → Lacks end (spell a)) → IsWord end text word rest → IsWhole Fits spell word value → IsFront Fits (ended spell end) text value rest
   ended_front end text word rest value free w h = record {
     fits = h.fits;

@@ -1,4 +1,4 @@
--- A message and its class, and the longest message that may stand there.
+-- A message and its class, and the longest message that may be there.
 use Rattle.std.proofs.Common.{◌≡◌, ◌≢◌, ℕ, ◌+◌, ◌≤◌, List, [], ◌∷◌, ◌++◌, Option, Some, None, length, refl, sym, ap, ◌∙◌, append_assoc, append-nil, arith, codes, length-append}
 use Rattle.std.proofs.lemmas.List.{append_cancel_right}
 use Rattle.alert_fast.specs.Told.{named_class}
@@ -15,7 +15,7 @@ classed_text msg class = sym (append_assoc msg (codes " [**] [Classification: " 
 msg_shorter : (other : List ℕ) (named : Option (List ℕ)) → length other + 6 ≤ length (msg_text other named)
 msg_shorter other named = omega (arith, length-append other (codes " [**] " ++ named_class named), length-append (codes " [**] ") (named_class named))
 
--- without a class
+-- a message without a class
 pub plain_split : (text msg : List ℕ) → text ≡ msg ++ codes " [**] " → IsSplit text msg None
 plain_split text msg e = record {
   spelled = plain_text msg ∙ sym e;

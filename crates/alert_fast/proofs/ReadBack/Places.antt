@@ -13,7 +13,7 @@ pub lacks_by_place : (byte : ℕ) (text : List ℕ) → ((k : ℕ) → k < lengt
 lacks_by_place byte [] h = tt
 lacks_by_place byte (a ∷ text) h = (h 0 (omega arith), lacks_by_place byte text (λ k lt. h (suc k) (omega (arith, lt))))
 
--- the byte at a place stands between what comes before it and what comes after it
+-- the byte at a place is between what comes before it and what comes after it
 pub at_place : (text : List ℕ) (k : ℕ) → k < length text → text ≡ take k text ++ (get_or text k 0 ∷ drop (k + 1) text)
 at_place text k lt =
     sym (take-append-drop k text) ∙ ap (λ (t : List ℕ). take k text ++ t) (rw add-one (drop-cons text k 0 lt))
@@ -49,7 +49,7 @@ back_word_only start (a ∷ x) (b ∷ y) w v hw hv e =
     let later = back_word_only start x y w v hw hv (rest_same a b _ _ e) in
     (ap (λ (h : ℕ). h ∷ x) (first_same a b _ _ e) ∙ ap (λ (t : List ℕ). b ∷ t) later.0, later.1)
 
--- a text that a needle begins, behind another one
+-- a text that a needle begins, after another one
 pub occurs_behind : (needle x y : List ℕ) → OccursAt (x ++ (needle ++ y)) needle (length x)
 occurs_behind needle x y = record {
   fits = omega (arith, length-append x (needle ++ y), length-append needle y);

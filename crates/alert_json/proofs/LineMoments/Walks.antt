@@ -26,7 +26,7 @@ spelled bytes more line is begins = begins ∙ ap (λ (l : List ℕ). l ++ more)
 pub no-line : (bytes : List ℕ) → Lacks 10 bytes → NoLine bytes
 no-line bytes lacks line more is begins = lacks-none 10 is.text more (subst (Lacks 10) (spelled bytes more line is begins) lacks)
 
--- none of fewer bytes, whatever follows
+-- bytes without a line feed begin with no line that is shorter than they are, whatever follows
 within : (bytes more text rest : List ℕ) → Lacks 10 bytes → length text < length bytes → bytes ++ more ≡ text ++ (10 ∷ rest) → ⊥
 within [] more text rest lacks few same = absurd (omega (arith, few))
 within (b ∷ bytes) more [] rest lacks few same = lacks.0 (first_same b 10 _ _ same)
@@ -59,7 +59,7 @@ too-long bytes text rest word long more line later is begins =
 
 -- ---- lines
 
--- lines behind lines
+-- lines after lines
 pub told-append : (run : RunFacts) (from mid last : YearFrom) (firsts seconds : List (List ℕ)) (wrote later : List ℕ)
     → AreTold run from firsts wrote mid → AreTold run mid seconds later last → AreTold run from (firsts ++ seconds) (wrote ++ later) last
 told-append run from mid last [] seconds wrote later first second =
@@ -83,7 +83,7 @@ told-one run from next line event is dated = (event, next, [], is, dated, sym (a
 line-some : (line : List ℕ) → IsLine line → 0 < length line
 line-some line is = omega (arith, ap length is.is, length-append is.text (10 ∷ []))
 
--- so lines are no more than their bytes
+-- there are no more lines than bytes in them
 pub lines-few : (run : RunFacts) (from last : YearFrom) (lines : List (List ℕ)) (wrote : List ℕ) → AreTold run from lines wrote last
     → length lines ≤ length (concat lines)
 lines-few run from last [] wrote told = omega arith

@@ -117,7 +117,7 @@ failed-stopped rose host stopped.NoMemory answer out cause hands = subst (HasFai
 
 -- ---- the first file
 
--- it may be read
+-- the first file may be read
 pub first-may : (name first : List ℕ) (vars : Variables) (before : Read) → first ≡ name → before ≡ nothing_read vars → IsUtf8 name → MayBeRead (file_count before) first
 first-may name first vars before n b text =
     subst (λ (f : List ℕ). MayBeRead (file_count before) f) (sym n)
@@ -127,7 +127,7 @@ first-may name first vars before n b text =
 abbrev pub start : At
 start = record { file = 0; line = 0 }
 
--- its reading is that of all files
+-- the reading of the first file is that of all files
 pub first-goes : (host : Option Files) (name first : List ℕ) (vars : Variables) (before : Read) (result : Result Read Stopped) → first ≡ name → before ≡ nothing_read vars
     → GoesOn host (file_count before) file_count whole_next (λ contents. file_read contents 16 first start before) result
     → GoesOn host 0 file_count whole_next (reading_of name vars) result

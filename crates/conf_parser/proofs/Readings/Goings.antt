@@ -47,7 +47,7 @@ pub tells-seen_by : (host : Option Files) → Tells host (seen_by host)
 tells-seen_by None = tt
 tells-seen_by (Some files) = λ number name. refl
 
--- ---- one part behind another
+-- ---- one part after another
 
 pub goes-refl : (host : Option Files) (n : ℕ) (a : Contents → Ended) → Goes host n n a a
 goes-refl host n a = record { seen = seen_by host; tells = tells-seen_by host; later = omega arith; goes = λ contents same. refl }
@@ -142,13 +142,13 @@ stops-from host low a b (stopped.Asks name output) same x = record { seen = x.se
 
 -- ---- answers
 
--- a part behind which another one answers
+-- a part after which another one answers
 pub goes-then : (host : Option Files) (low mid : ℕ) (a b : Contents → Ended) (result : Result Read Stopped) → Goes host low mid a b
     → GoesOn host mid file_count whole_next b result → GoesOn host low file_count whole_next a result
 goes-then host low mid a b (Ok read) x y = goes-goes host low mid (file_count read) a b (whole_next read) x y
 goes-then host low mid a b (Err stop) x y = goes-stops host low mid a b stop x y
 
--- the same answer, for the same reading
+-- an equal reading goes on with the same answer
 pub goes_on-from : (host : Option Files) (low mid : ℕ) (a b : Contents → Ended) (result : Result Read Stopped) → mid ≡ low → ((contents : Contents) → a contents ≡ b contents)
     → GoesOn host mid file_count whole_next b result → GoesOn host low file_count whole_next a result
 goes_on-from host low mid a b (Ok read) count same x =
@@ -156,7 +156,7 @@ goes_on-from host low mid a b (Ok read) count same x =
 goes_on-from host low mid a b (Err stop) count same x =
     subst (λ n. Stops host n a stop) count (stops-from host mid a b stop same x)
 
--- a line behind which the reading goes on at once
+-- a line after which the reading goes on at once
 pub line-onward : (host : Option Files) (left : ℕ) (source : Source) (line : Numbered) (before read : Read) → file_count read ≡ file_count before
     → ((including : Including) → line_read including source line before ≡ Whole read) → Goes host (file_count before) (file_count read) (line_of left source line before) (whole_next read)
 line-onward host left source line before read count same = record {

@@ -1,4 +1,4 @@
--- What each line keeps of the settings stands behind all files; and each line handed on stands in a file that
+-- What each line keeps of the settings holds after all files; and each line handed on is in a file that
 -- was read.
 use Rattle.std.proofs.Common.{◌≡◌, ℕ, zero, suc, ◌+◌, ◌-◌, ◌<◌, ◌≤◌, Bool, true, false, cond, List, [], ◌∷◌, ◌++◌, length, Option, Some, None, Result, Ok, Err, refl, sym, subst, arith, length-append}
 use Rattle.std.specs.Prelude.{⊤, nat_le}
@@ -81,6 +81,6 @@ module _ (P : Settings → Type 0) where
   unfolding read_files
   reading-keeps keeps contents name variables p = file-keeps keeps contents 16 name (record { file = 0; line = 0 }) (nothing_read variables) p
 
-  -- the same of a reading that was whole
+  -- what each line keeps holds after a reading that was whole
   pub whole-keeps : LinesKeep → (contents : Contents) (name : List ℕ) (variables : Variables) (read : Read) → P (nothing_read variables).settings → read_files contents name variables ≡ Whole read → P read.settings
   whole-keeps keeps contents name variables read p whole = subst Behind-all whole (reading-keeps keeps contents name variables p)

@@ -61,7 +61,7 @@ gave-is : (host : Option Files) (number : ℕ) (name bytes : List ℕ) → Holds
 gave-is None number name bytes holds = refl
 gave-is (Some files) number name bytes holds = holds
 
--- the file that stands next
+-- the file that comes next
 one_more : (files : List (List ℕ)) (name : List ℕ) → length files < length (files ++ name ∷ [])
 one_more files name =
     let one : length (name ∷ []) ≡ 1 = refl in

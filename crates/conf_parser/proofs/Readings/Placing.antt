@@ -1,4 +1,4 @@
--- Each line that a reading hands on stands in a file that was read.
+-- Each line that a reading hands on is in a file that was read.
 use Rattle.std.proofs.Common.{◌≡◌, ℕ, zero, suc, ◌+◌, ◌-◌, ◌<◌, ◌≤◌, Bool, true, false, cond, List, [], ◌∷◌, ◌++◌, length, Option, Some, None, Result, Ok, Err, refl, sym, ap, subst, ◌∙◌, inl, inr, arith, length-append}
 use Rattle.std.specs.Prelude.{⊤, ◌⊎◌, nat_le, All}
 use Rattle.std.proofs.lemmas.List.Elements.{All-append}
@@ -28,7 +28,7 @@ use Rattle.conf_parser.specs.Loaded.{loaded_of}
 use Rattle.conf_parser.specs.Loading.{AreHandedOut, IsLoading, first_files}
 use Rattle.conf_parser.specs.Places.{WarningsAreIn, RulesAreIn, StandInFiles}
 
--- what is handed on stands in its files
+-- what is handed on is in its files
 record AreIn (output : Output) : Type 0 where
   rules : RulesAreIn (length output.files) output.rules
   warnings : WarningsAreIn (length output.files) output.warnings
@@ -66,7 +66,7 @@ with_warning-in output source line directive name place h = record {
   warnings = All-append (λ (warning : Warning). warning.file < length output.files) output.warnings _ h.warnings (all_one (λ (warning : Warning). warning.file < length output.files) _ place);
 }
 
--- a reading that ends so behind so many files
+-- how a reading ends after `count` files, with what it hands on in its files
 EndsIn : ℕ → Ended → Type 0
 EndsIn count (Whole read) = (count ≤ file_count read) × AreIn read.output
 EndsIn count (Refused fault output) = (fault.file < length output.files) × AreIn output
@@ -85,7 +85,7 @@ onward-in low (Whole read) next h all = all read h.0 h.1
 onward-in low (Refused fault output) next h all = h
 onward-in low (Asks name output) next h all = h
 
--- behind fewer files
+-- what a reading ends with after some files, it ends with after fewer
 ends-earlier : (low high : ℕ) (ended : Ended) → low ≤ high → EndsIn high ended → EndsIn low ended
 unfolding EndsIn
 ends-earlier low high (Whole read) l h = (omega (arith, h.0), h.1)
@@ -161,7 +161,7 @@ reading-in : (contents : Contents) (name : List ℕ) (variables : Variables) →
 unfolding read_files IncludesIn IsPlaced
 reading-in contents name variables = file-in contents 16 name (record { file = 0; line = 0 }) (nothing_read variables) (inr (refl, refl)) (nothing-in variables)
 
--- what is handed out stands in the files there
+-- what is handed out is in the files there
 warnings-out : (output : Output) (out : Loaded) → AreIn output → AreHandedOut output out → WarningsAreIn (length out.files) out.warnings
 warnings-out output out h hands =
     subst (λ (files : List (List ℕ)). WarningsAreIn (length files) out.warnings) (sym hands.files)

@@ -68,7 +68,7 @@ max_frags-within : (frags : Option ℕ) → IfSome frags (IsWithin 1 1048576) �
 max_frags-within None within = (omega arith, omega arith)
 max_frags-within (Some frags) within = within
 
--- behind the last
+-- after the last line
 frag_with : (frags : Option ℕ) (engines : List FragEngine) → IfSome frags (IsWithin 1 1048576) → length engines ≤ 1024 → All IsFragEngine engines → IfSome (frag_of (record { max_frags = frags; engines = engines })) IsFragConfig
 unfolding frag_of
 frag_with frags [] within count sound = tt

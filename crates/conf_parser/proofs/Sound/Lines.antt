@@ -56,7 +56,7 @@ first_draft-sound = record {
   suppress = omega arith;
 }
 
--- behind the last
+-- after the last line
 pub config_of-sound : (draft : Draft) → IsSoundDraft draft → IsSound (config_of draft)
 unfolding config_of
 config_of-sound draft sound = record {

@@ -90,7 +90,7 @@ number-within least most text = and_then (IsWithin least most) (whole_number tex
 pub ranged : (kind : ConfKind) (least most : ℕ) (text : List ℕ) → Holds (IsWithin least most) (or_kind kind (number_in least most text))
 ranged kind least most text = kinded (IsWithin least most) kind (number_in least most text) (number-within least most text)
 
--- such a number, changed
+-- a number within a range, changed
 pub numbered : {B : Type 0} (Q : B → Type 0) (f : ℕ → B) (kind : ConfKind) (least most : ℕ) (text : List ℕ) → ((n : ℕ) → IsWithin least most n → Q (f n)) → Holds Q (mapped f (or_kind kind (number_in least most text)))
 numbered Q f kind least most text q = changed (IsWithin least most) Q f (or_kind kind (number_in least most text)) (ranged kind least most text) q
 
@@ -103,6 +103,6 @@ set P alone step keeps d text p = folded P (λ e s. step e s.name s.value) (λ e
 below : (n : ℕ) → nat_le 1024 n ≡ false → n < 1024
 below n few = grind (arith, nat_tests)
 
--- one more, where fewer than 1024 stand
+-- one more, where there are fewer than 1024
 pub pushed-few : {X : Type 0} (xs : List X) (x : X) → nat_le 1024 (length xs) ≡ false → length (xs ++ x ∷ []) ≤ 1024
 pushed-few xs x few = omega (arith, below (length xs) few, length-append xs (x ∷ []))

@@ -219,7 +219,7 @@ module _ (variables : Variables) where
       chained Any IsStreamDraft (setting_text rest) _ (anything (setting_text rest)) (λ text any.
       chained Tcp IsStreamDraft (tcp_settings variables text) _ (tcp_settings-sound text) (λ tcp one. with_engine-sound draft (engine_of tcp) sound (engine_of-sound tcp one)))
 
--- ---- before the first line and behind the last
+-- ---- before the first line and after the last
 
 pub first_stream-sound : IsStreamDraft (record { global = None; udp_timeout = None; engines = [] })
 first_stream-sound = record { global = tt; udp_timeout = tt; count = omega arith; engines = All-nil IsStreamEngine }

@@ -6,7 +6,7 @@ use Rattle.edge_io.specs.Told.{before}
 use Rattle.edge_io.specs.Files.{Files}
 use Rattle.edge_io.specs.Answers.{Answer, gave, Agree, AreNext, left_behind}
 
--- the next bytes stand before what is left behind them
+-- the next bytes come before what is left after them
 next_taken : (left : Option (List ℕ)) (bytes : List ℕ) → AreNext left bytes → left ≡ before bytes (option_map (drop (length bytes)) left)
 unfolding before
 next_taken None bytes next = refl

@@ -69,12 +69,12 @@ pub seen_left : (old new : Files → Option (List ℕ)) (seen : Option Files) �
 seen_left old new None same = refl
 seen_left old new (Some files) same = same files
 
--- as much is left by them as is told
+-- the files that may be seen leave as much as is told
 told_left : (contents : Option Files) (left : Option (List ℕ)) (agrees : Files → Type 0) (left_of : Files → Option (List ℕ)) → AsTold contents left agrees left_of → left_by left_of contents ≡ left
 told_left None left agrees left_of law = sym law
 told_left (Some files) left agrees left_of law = law.left_is
 
--- what holds behind a call by whatever may be seen of the host holds by what it tells
+-- what holds after a call by whatever may be seen of the host holds by what it tells
 pub told : {H : Type 0} (g : HostOf H) → ((host : H) → AsTold (g.contents host) (g.left host) (g.agrees host) (g.left_of host)) → (old new : H)
     (P : Option Files → Option (List ℕ) → Option (List ℕ) → Type 0) → g.contents new ≡ g.contents old
     → ((seen : Option Files) → MaySee (g.contents new) (g.agrees new) seen → P seen (left_by (g.left_of old) seen) (left_by (g.left_of new) seen))

@@ -45,7 +45,7 @@ module _ (options : List Opt) where
       let all = all-sought 0 options (λ k. let e : 0 + k ≡ k = omega arith in ap (slice_get options) e) in
       either (IsSought options) (find (λ sought. sought.marked) (sought_from 0 options)) (longest (sought_from 0 options)) (found (IsSought options) (λ sought. sought.marked) (sought_from 0 options) all) (longest-of (IsSought options) (sought_from 0 options) all)
 
--- a content that stands in the payload, in lower case
+-- a content that occurs in the payload, in lower case
 lower-reads : (nocase : Bool) (payload bytes : List ℕ) (start : ℕ) → OccursAt (folded nocase payload) (folded nocase bytes) start → (start + length bytes ≤ length payload) × ((j : ℕ) → j < length bytes → lower (slice_index payload (start + j)) ≡ lower (slice_index bytes j))
 unfolding lower
 lower-reads true payload bytes start is =

@@ -76,7 +76,7 @@ ended-end letters bytes word (suc count) h e =
     (λ before. let s = ended-end letters bytes word count (omega arith) before in (s.0, omega (arith, s.1), s.2))
     (or_cases (begins word (letter ∷ read)) (has_ended word read) (sym (ended-push word letter read) ∙ sym (ap (has_ended word) more) ∙ e))
 
--- and so it has ended
+-- where a word ends at some place, it has ended by each later one
 end-ended : (letters bytes word : List ℕ) (end count : ℕ) → end ≤ count → count ≤ length bytes → begins word (word_of letters (take end bytes)) ≡ true → has_ended word (word_of letters (take count bytes)) ≡ true
 end-ended letters bytes word end zero h k b =
     let same : end ≡ 0 = omega arith in
@@ -99,7 +99,7 @@ closed-drop words closed (suc count) state h k =
     let rest = closed-drop words closed count grown.0 grown.2 (omega (arith, ap length grown.3)) in
     (rest.0, rest.1, rest.2 ∙ sym (ap (drop (suc count)) grown.3))
 
--- a word that begins at a place behind the beginning of a walk, and doesn't end within it, is that of a long state there
+-- a word that begins at a place after the beginning of a walk, and doesn't end within it, is that of a long state there
 pending : (words : List (List ℕ)) → IsClosed words → (letters bytes : List ℕ) (from count state at end : ℕ) → IsAt words (word_of letters (take count (drop from bytes))) (word_at words at) → state < length words → end ≤ length bytes
     → from + count < end → from + length (word_at words state) ≤ end → end < from + count + length (word_at words state) → begins (word_at words state) (word_of letters (take end bytes)) ≡ true → from + count + length (word_at words state) ≤ end + length (word_at words at)
 pending words closed letters bytes from count state at end is h k late behind unended b =
@@ -134,7 +134,7 @@ covers-none automaton bytes seen none = record {
       };
 }
 
--- behind the last one everything has begun
+-- after the last place everything has begun
 pub covers-all : (automaton : Automaton) (bytes : List ℕ) (done : ℕ) (seen : Seen) (hits : List ℕ) → length bytes ≤ done → Covers automaton bytes done seen hits → AreHits automaton bytes hits
 covers-all automaton bytes done seen hits h covers = record {
   found = λ patterns finds.
@@ -152,7 +152,7 @@ covers-all automaton bytes done seen hits h covers = record {
       subst Q (count-words automaton.letters patterns) (subst P same is.listed);
 }
 
--- a walk from a place on, up to where so much is pending as lies behind another place
+-- a walk from a place on, up to where all that is pending lies after another place
 pub covers-walked : (automaton : Automaton) (bytes : List ℕ) (from count to at : ℕ) (old new : Seen) (old_hits new_hits : List ℕ) → from + count ≤ length bytes → to ≤ from + count
     → ((from + count ≡ length bytes) ⊎ ((at < automaton.shallow) × (to + 3 ≤ from + count)))
     → Walks automaton (word_of automaton.letters (take count (drop from bytes))) at old old_hits new new_hits → CoversOn automaton bytes from (so_far old old_hits) to (so_far new new_hits)

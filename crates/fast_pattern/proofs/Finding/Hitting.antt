@@ -83,7 +83,7 @@ unseen-less count at old new h off also =
     let p = numbers-mark test more at 0 count (ap not (now-marked old new at also)) (ap not off) (λ place ne. ap not (sym (others-same old new at also place ne))) (omega arith) (omega arith) in
     omega (arith, length_permutation (at ∷ numbers test 0 count) (numbers more 0 count) p)
 
--- a chain
+-- nothing of a chain was marked yet
 pub following-none : (nexts : List ℕ) (head : ℕ) (seen : Seen) (hits : List ℕ) → IsFollowing nexts head seen hits head seen hits
 following-none nexts head seen hits = record {
   begins = λ patterns same chained may. may;
@@ -103,7 +103,7 @@ follows-end nexts head old old_hits at new new_hits is zero_at = record {
   listed = is.listed;
 }
 
--- a pattern stands in its own chain
+-- a pattern is in its own chain
 own-left : (patterns : List (List ℕ)) (at : ℕ) → 0 < at → 0 < length (word_at patterns (at - 1)) → is_left patterns at (at - 1) ≡ true
 own-left patterns at some nonempty = left-from patterns at (at - 1) some (ends_word-from patterns (word_at patterns (at - 1)) (at - 1) nonempty (begins-self (word_at patterns (at - 1)))) (inr (omega arith))
 

@@ -33,7 +33,7 @@ answer-marks old new at false e also place = also place ∙ ⊎_elim
     (λ ne. ap (λ b. is_marked old place || b) (ne_eqb place at ne))
     (cases_eq place at)
 
--- no place, and one more
+-- no place is marked yet, and then one more
 pub none-marked : (seen : Seen) → seen.places.keys ≡ [] → (place : ℕ) → is_marked seen place ≡ false
 unfolding is_marked
 none-marked seen none place = ap (list_any (is_at (nat_cmp place))) none

@@ -77,7 +77,7 @@ pub one-listed : (low : ℕ) (parts : List (Part (Bounds ℕ))) → verdict (has
 unfolding has_port verdict
 one-listed low parts = refl
 
--- where ports lie
+-- the half of a block in which a port lies
 pub half-low : (bits low port : ℕ) → port < low + 2 ^ bits → half_with bits low port ≡ low
 half-low bits low port h = cond-true (ltb port (low + 2 ^ bits)) low (low + 2 ^ bits) (lt-ltb port (low + 2 ^ bits) h)
 

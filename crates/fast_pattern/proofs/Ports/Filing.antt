@@ -1,4 +1,4 @@
--- Entries at blocks, and the chains in which they stand.
+-- Entries at blocks, and the chains in which they are.
 use Rattle.std.proofs.Common.{◌≡◌, ℕ, zero, suc, ◌+◌, ◌-◌, ◌<◌, ◌≤◌, ◌==◌, Bool, true, false, ◌&&◌, ◌||◌, List, [], ◌∷◌, ◌++◌, length, take, min, slice_index, sym, refl, ap, subst, ◌∙◌, arith}
 use Rattle.std.specs.List.{list_any}
 use Rattle.std.proofs.lemmas.Bool.{eq-eqb, ne_eqb}
@@ -62,7 +62,7 @@ filed-new test number (block ∷ blocks) place =
 pub has-push : (xs : List ℕ) (x place : ℕ) → has (xs ++ x ∷ []) place ≡ (has xs place || (x == place))
 has-push xs x place = list_any-append (λ y. y == place) xs (x ∷ []) ∙ ap (λ b. has xs place || b) (or-none (x == place))
 
--- behind the last entry of a block the others are of other blocks
+-- after the last entry of a block the others are of other blocks
 module _ (entries : List Entry) (block place : ℕ) where
   abbrev test : Entry → Bool
   test = is_of (λ other. other == block) place

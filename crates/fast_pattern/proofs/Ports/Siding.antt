@@ -109,7 +109,7 @@ module _ (rules : List Asked) (patterns : List (List ℕ)) (kind : Kind) (of : S
       P : List ℕ → Type 0
       P = λ bs. All (λ block. (0 < block) × (block < 131072)) bs
 
-  -- what a rule that stands in the index is sought at
+  -- what a rule that is in the index is sought at
   asks-some : (some : Option Asked) (port : ℕ) → is_asked of port some ≡ (stands_some of some && has_key some port)
   asks-some None port = refl
   asks-some (Some asked) port = refl

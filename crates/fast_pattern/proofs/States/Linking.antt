@@ -100,7 +100,7 @@ module _ (words patterns : List (List ℕ)) (ends : List ℕ) (are : AreWords wo
       (λ long. absurd (ne (same-word state place h k tells.1 long)))
       (cases_lt (length (word_at patterns place)) (length (word_at words state)))
 
-  -- and the other way round
+  -- patterns that end a state's fail end its word
   ends-fail : (state : ℕ) (fail : List ℕ) (place : ℕ) → place < length patterns → IsFail words (word_at words state) fail → ends_word patterns fail place ≡ true → ends_word patterns (word_at words state) place ≡ true
   ends-fail state fail place k is e =
       let tells = ends_word-tells patterns fail place e in
@@ -123,7 +123,7 @@ module _ (words patterns : List (List ℕ)) (ends : List ℕ) (are : AreWords wo
         false≢true (sym (begins-none (word_at patterns place) tells.0) ∙ ap (begins (word_at patterns place)) (sym empty) ∙ tells.1)));
   }
 
-  -- the chain behind a pattern: the one before it of its state, else that of the fail
+  -- the chain after a pattern: the one before it of its state, else that of the fail
   pub next-same : (place owner : ℕ) → place < length patterns → 0 < length (word_at patterns place) → IsLastOf ends place (slice_index ends place) owner → 0 < owner → IsNext patterns place owner
   next-same place owner k nonempty is some =
       let state = slice_index ends place in
@@ -201,7 +201,7 @@ module _ (words patterns : List (List ℕ)) (ends : List ℕ) (trie : Trie) (dee
   some-word : 0 < state → 0 < length (word_at words state)
   some-word some = let step = is.steps state some h in omega (arith, ap length step.4)
 
-  -- its chain
+  -- the chain of a state: that of its own patterns, else that of its fail
   new-head : (firsts sames : List ℕ) → AreOwned ends (length words) firsts sames (length patterns) → IsHead patterns (word_at words state) (either (slice_index firsts state) (slice_index heads fail))
   new-head firsts sames owned =
       let first = slice_index firsts state in

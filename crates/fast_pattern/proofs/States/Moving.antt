@@ -51,7 +51,7 @@ reached-none trie fails below state letter at was low = record {
   };
 }
 
--- on by the letter
+-- a state that was reached, and one letter on from it
 pub reached-move : (words : List (List ℕ)) (below state letter : ℕ) (reached : Reached) → IsReached words below state letter reached → 0 < reached.child → IsMove words state letter reached.child
 reached-move words below state letter reached is some =
     let child = is.some some in
@@ -133,7 +133,7 @@ fails-move trie fails state shallow next ne other known moves = record {
       (⊎_elim (λ below. below) (λ above. omega (arith, is.levels state next above move.within, whole.shorter)) (cases_lt next state), whole);
 }
 
--- the same, of the step itself
+-- where a state fails to whose step is this one
 pub fails-first-by : (trie : Trie) (fails : List ℕ) (state : ℕ) (step : Step) → step ≡ step_at trie.steps.items (state - 1) → (state ≡ 0 → ⊥) → step.up ≡ 0 → FailsTo trie fails state 0
 fails-first-by trie fails state step known ne up = fails-first trie fails state ne (ap (λ (s : Step). s.up) (sym known) ∙ up)
 

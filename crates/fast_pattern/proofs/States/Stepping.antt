@@ -61,7 +61,7 @@ halves width dense heads state entry is = go (place_of width dense state) (slice
         (λ some. let same : ◌≡◌ {A = ℕ} (cond (eqb hd 0) 0 1) 1 = cond-false {A = ℕ} (eqb hd 0) 0 1 (ne_eqb hd 0 some) in (omega (arith, same), λ even. absurd (omega (arith, same))))
         (cases_eq hd 0)
 
--- from a row
+-- a move from a state that has a row
 pub step-row : (automaton : Automaton) (at letter entry : ℕ) → at + letter < length automaton.table.items → entry ≡ slice_index automaton.table.items (at + letter) → Steps automaton at letter entry
 step-row automaton at letter entry below known = record {
   stepped = λ patterns finds state h at_is k.
@@ -77,7 +77,7 @@ step-row automaton at letter entry below known = record {
       (cases_lt state dense);
 }
 
--- from a state that has none
+-- a move from a state that has no row
 pub step-sparse : (automaton : Automaton) (at state letter entry : ℕ) → length automaton.table.items ≤ at + letter → state ≡ at - sparse → StepsBack automaton state letter entry → Steps automaton at letter entry
 step-sparse automaton at state letter entry above state_is back = record {
   stepped = λ patterns finds own h at_is k.

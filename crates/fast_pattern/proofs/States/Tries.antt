@@ -124,7 +124,7 @@ module _ (words : List (List ℕ)) (old new : Trie) (deep state letter : ℕ) (i
     greatest = λ number k up. was.greatest number k (sym (ap (λ (s : Step). s.up) (step-kept number (omega arith))) ∙ up);
   }
 
-  -- and up to the new one, of another state
+  -- the last child of another state, up to the new one, stays
   last-other : (other child : ℕ) → (other ≡ state → ⊥) → IsLastChild old.steps.items (length old.steps.items) other child → IsLastChild new.steps.items (length new.steps.items) other child
   last-other other child ne was =
       let kept = last-kept (length old.steps.items) other child (omega arith) was in
@@ -216,7 +216,7 @@ module _ (words : List (List ℕ)) (old new : Trie) (deep state letter : ℕ) (i
     few = few;
   }
 
--- what `child` says, where the state stands already and where it is added
+-- what `child` says, where the state is there already and where it is added
 pub has-child : (trie : Trie) (state letter child : ℕ) → IsTrie trie (length (word_at (words_of trie.steps.items) state) + 1) → state < length (words_of trie.steps.items) → FindsChild trie state letter child → 0 < child → HasChild trie state letter child trie
 has-child trie state letter child is here finds some =
     let found = finds.found (words_of trie.steps.items) (length (word_at (words_of trie.steps.items) state) + 1) is here in

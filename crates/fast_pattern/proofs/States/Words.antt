@@ -87,7 +87,7 @@ module _ (words : List (List ℕ)) (closed : IsClosed words) where
       ap (λ w. begins w (letter ∷ text)) grown.3 ∙ begins-cons grown.1 (word_at words grown.0) letter text ∙ step grown.0 grown.2 grown.1 grown.3)
       (cases_eq (length (word_at words state)) 0)
 
-  -- one letter on: the state behind what was read and the letter is that behind the state's word and the letter
+  -- one letter on: the state after what was read and the letter is that after the state's word and the letter
   pub walk-step : (read word next : List ℕ) (letter : ℕ) → IsAt words read word → IsAt words (letter ∷ word) next → IsAt words (letter ∷ read) next
   walk-step read word next letter at step state h =
       by_letter state h letter read next (λ up within by grown.
@@ -95,7 +95,7 @@ module _ (words : List (List ℕ)) (closed : IsClosed words) where
       ∙ sym (ap (λ w. begins w (letter ∷ word)) grown ∙ begins-cons by (word_at words up) letter word)
       ∙ step state h)
 
-  -- where no word is longer by the letter, the state is that behind the shorter word and the letter
+  -- where no word is longer by the letter, the state is that after the shorter word and the letter
   pub fail-step : (word fail next : List ℕ) (letter : ℕ) → IsFail words word fail → ((other : ℕ) → other < length words → word_at words other ≡ letter ∷ word → ⊥) → IsAt words (letter ∷ fail) next → IsAt words (letter ∷ word) next
   fail-step word fail next letter is lacks step state h =
       by_letter state h letter word next (λ up within by grown.

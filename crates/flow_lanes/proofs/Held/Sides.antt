@@ -25,7 +25,7 @@ pub record IsFew (bytes segs : ℕ) (direction : DirectionState) : Type 0 where
   pub bytes_few : direction.limits.bytes ≤ bytes
   pub segs_few : direction.limits.segs ≤ segs
 
--- it isn't started, and holds nothing
+-- a direction isn't started, and holds nothing
 abbrev pub IsIdle : DirectionState → Type 0
 IsIdle direction = direction ≡ idle direction.limits direction.preference
 

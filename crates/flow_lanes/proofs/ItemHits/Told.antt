@@ -38,7 +38,7 @@ sides-matched rules sides (item ∷ items) = by_rules item.rules (λ (after : Si
         ap (λ (empty : Bool). fold (sides_after_hit rules) sides (cond (not empty) (hit ∷ matched items) (matched items))) (some_length place places)
         ∙ rest (sides_after_hit rules sides hit)
 
--- so the session behind a job is the same by all of its items and by those that are told
+-- the session after a job is the same by all of its items and by those that are told
 pub steered-told : (all : Bool) (rules : List Rule) (items : List Hits) (session : Session) → steered rules (told all items) session ≡ steered rules items session
 unfolding steered
 steered-told true rules items session = refl

@@ -1,4 +1,4 @@
--- A batch in turn: each job is searched by its own lane, and what is found of it stands behind what was found of the
+-- A batch in turn: each job is searched by its own lane, and what is found of it is put after what was found of the
 -- jobs before it. So it is what is found of the jobs taken one by one, and the lanes stand for these jobs.
 use Rattle.std.proofs.Common.{◌≡◌, ℕ, zero, suc, ◌<◌, Bool, true, false, cond, List, [], ◌∷◌, ◌++◌, length, get_or, set, Option, Some, None, refl, sym, ap, subst, ◌∙◌, ◌⊎◌, inl, inr, append_assoc, eq-eqb, arith}
 use Rattle.std.specs.Prelude.{option_and_then, option_map, slice_get}
@@ -27,7 +27,7 @@ pub one_lane : (count : ℕ) (flow : Option ℕ) → count ≡ 1 → 0 ≡ lane_
 one_lane count None one = refl
 one_lane count (Some flow) one = omega arith
 
--- what stands in a list behind a write
+-- what is in a list after a write
 slice_get-set_same : {X : Type 0} (xs : List X) (i : ℕ) (y : X) → i < length xs → slice_get (set xs i y) i ≡ Some y
 slice_get-set_same [] i y within = absurd (omega arith)
 slice_get-set_same (x ∷ xs) zero y within = refl
@@ -85,7 +85,7 @@ stand-more d lanes place mid next job before here is_mid stand done = record {
         (stand.each p lane (sym (slice_get-set_other lanes place p next apart) ∙ is))
 
 module _ {P : Type 0} (by : Inspection P) where
-  -- no job
+  -- no job was searched
   pub searched-none : (lanes : List LaneState) → HaveSearched by lanes [] [] lanes
   searched-none lanes old new is_old is_new means d before detects stand = record {
     right = refl;
@@ -107,7 +107,7 @@ module _ {P : Type 0} (by : Inspection P) where
         stands = LanesStand-same d (among (set lanes place next)) new (before ++ job ∷ []) (sym is_new) (stand-more d lanes place mid next job before here is_mid stood done.stands);
       }
 
-  -- more jobs
+  -- more jobs were searched
   searched-more : (olds mids news : List LaneState) (front jobs : List Job) (found more : List (Numbered JobFound)) → HaveSearched by olds front found mids
       → HaveSearched by mids jobs more news → HaveSearched by olds (front ++ jobs) (found ++ more) news
   searched-more olds mids news front jobs found more one two old new is_old is_new means d before detects stand =
@@ -132,11 +132,11 @@ module _ {P : Type 0} (by : Inspection P) where
       (searched-more (lanes_of olds) (lanes_of mids) (set (lanes_of mids) place worker.lane) front (job ∷ []) found (record { number = job.number; value = adds.found } ∷ []) so_far
       (searched-one (lanes_of mids) place (get_or mids place other).lane worker.lane job adds.found at is_mid adds.searches)))
 
--- what lanes know behind no job
+-- what lanes know after no job
 pub learnt-none : (lanes : List LaneState) → HaveLearnt lanes [] lanes
 learnt-none lanes = record { count = refl; known = λ old new is_old is_new other. ap (λ (ls : List LaneState). knows ls other) (is_new ∙ sym is_old) }
 
--- behind a job
+-- what lanes know after one job
 learnt-one : (lanes : List LaneState) (place : ℕ) (mid next : LaneState) (job : Job) → place ≡ lane_of (length lanes) (flow_of job) → slice_get lanes place ≡ Some mid → LearnsJob mid job next → HaveLearnt lanes (job ∷ []) (set lanes place next)
 learnt-one lanes place mid next job is_place is_mid learns = record {
   count = length-set lanes place next;
@@ -160,7 +160,7 @@ learnt-one lanes place mid next job is_place is_mid learns = record {
         ap (option_and_then (λ (lane : LaneState). known_of lane other)) (slice_get-set_other lanes place (lane_of (length lanes) (flow_of other)) next apart)
         ∙ sym (ap (λ (b : Bool). facts_after (knows lanes other) (cond b (job ∷ []) [])) stranger)
 
--- behind more jobs
+-- what lanes know after a batch's front and the jobs that follow it
 learnt-more : (olds mids news : List LaneState) (front jobs : List Job) → HaveLearnt olds front mids → HaveLearnt mids jobs news → HaveLearnt olds (front ++ jobs) news
 learnt-more olds mids news front jobs one two = record {
   count = two.count ∙ one.count;
@@ -171,7 +171,7 @@ learnt-more olds mids news front jobs one two = record {
       ∙ ap (facts_after (known_in old other)) (sym (filter-append (same_flow other) front jobs));
 }
 
--- behind one job more
+-- what the workers' lanes know after one job more
 pub turn_learnt : (olds mids : List Worker) (place : ℕ) (other worker : Worker) (front : List Job) (job : Job) → place < length mids → place ≡ lane_of (length mids) (flow_of job)
     → HaveLearnt (lanes_of olds) front (lanes_of mids) → LearnsJob (get_or mids place other).lane job worker.lane → HaveLearnt (lanes_of olds) (front ++ job ∷ []) (lanes_of (set mids place worker))
 turn_learnt olds mids place other worker front job within is_place so_far learns =
@@ -182,7 +182,7 @@ turn_learnt olds mids place other worker front job within is_place so_far learns
     (learnt-more (lanes_of olds) (lanes_of mids) (set (lanes_of mids) place worker.lane) front (job ∷ []) so_far
     (learnt-one (lanes_of mids) place (get_or mids place other).lane worker.lane job at is_mid learns))
 
--- so the next job is sound
+-- the next job is sound, by what the lanes know after those before it
 pub turn_sound : (engines : ℕ) (olds mids : List Worker) (place : ℕ) (other : Worker) (jobs front : List Job) (job : Job) (rest : List Job) → place < length olds → length mids ≡ length olds
     → place ≡ lane_of (length olds) (flow_of job) → AreSoundAmong engines olds jobs → jobs ≡ front ++ job ∷ rest → HaveLearnt (lanes_of olds) front (lanes_of mids) → IsSoundFor engines (known_of (get_or mids place other).lane job) job
 turn_sound engines olds mids place other jobs front job rest within size is_place sound whole learnt =

@@ -27,11 +27,11 @@ same_number-keeps flow None b is = absurd (false≢true is)
 pub is_of_flow-by_class : (flow : ℕ) → IsByClass same_flow (is_of_flow flow)
 is_of_flow-by_class flow x y is = same_number-keeps flow (flow_of x) (flow_of y) is
 
--- they are the answers to these jobs alone
+-- the answers to a flow's jobs are the answers to these jobs alone
 pub answers_of_flow-alone : (d : Detection) (flow : ℕ) (jobs : List Job) → answers_of_flow d flow jobs ≡ along_from (answer d) [] (filter (is_of_flow flow) jobs)
 answers_of_flow-alone d flow jobs = sym (along_from-class same_flow (is_of_flow flow) (answer d) (answer-local d) (is_of_flow-by_class flow) [] jobs)
 
--- so they are the same in every order that keeps the order of the flow's jobs
+-- the answers to a flow's jobs are the same in every order that keeps the order of the flow's jobs
 pub answers_of_flow-any_order : (d : Detection) (flow : ℕ) (xs ys : List Job) → filter (is_of_flow flow) xs ≡ filter (is_of_flow flow) ys → answers_of_flow d flow xs ≡ answers_of_flow d flow ys
 answers_of_flow-any_order d flow xs ys same = answers_of_flow-alone d flow xs ∙ ap (along_from (answer d) []) same ∙ sym (answers_of_flow-alone d flow ys)
 

@@ -103,7 +103,7 @@ module _ {P : Type 0} (by : Inspection P) (olds mids news : List Worker) (jobs :
       (numbers_joined by (lanes_of olds) jobs (lists_of parts) (lanes_of news) gathered (omega (arith, old_count))) in
       apart_permuted (map (λ (job : Job). job.number) jobs) (numbers (joined parts)) ascend moved
 
-  -- what it gives is what is found of the batch
+  -- what the merge gives is what is found of the batch
   pub gathered_search : 0 < length olds → AscendsBy (λ (job : Job). job.number) jobs → (merged : List (Numbered JobFound)) → IsPermutation (joined parts) merged → Ascends merged
       → HaveSearched by (lanes_of olds) jobs merged (lanes_of news)
   gathered_search some ascend merged whole ascending =
@@ -111,7 +111,7 @@ module _ {P : Type 0} (by : Inspection P) (olds mids news : List Worker) (jobs :
       let some' : 0 < length (lanes_of olds) = omega (arith, old_count) in
       parts_searched by (lanes_of olds) jobs (lists_of parts) (lanes_of news) gathered some' ascend merged whole' ascending
 
-  -- and the lanes have learnt of it
+  -- the lanes have learnt of the batch
   pub gathered_learns : 0 < length olds → HaveLearnt (lanes_of olds) jobs (lanes_of news)
   gathered_learns some =
       let some' : 0 < length (lanes_of olds) = omega (arith, old_count) in

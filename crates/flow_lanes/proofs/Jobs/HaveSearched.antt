@@ -158,7 +158,7 @@ module _ {P : Type 0} (by : Inspection P) (olds : List LaneState) (jobs : List J
             ∙ ((at_place place inside).right means d (own_jobs (length olds) place before) detects stands).right
             ∙ ap (λ count. along_from (numbered_out by.all d) (own_jobs count place before) (own_jobs count place jobs)) (sym are.parts_count)
 
-  -- so the batch is searched
+  -- the batch is searched by its parts, merged
   pub parts_searched : 0 < length olds → AscendsBy (λ (job : Job). job.number) jobs
       → (merged : List (Numbered JobFound)) → IsPermutation (flat_map (λ part. part) parts) merged → AscendsBy (λ (out : Numbered JobFound). out.number) merged
       → HaveSearched by olds jobs merged news
@@ -197,7 +197,7 @@ module _ {P : Type 0} (by : Inspection P) (olds news : List LaneState) (jobs : L
         stands = done.stands;
       }
 
-  -- and one that tells those that a rule matches gives its matches
+  -- a search that tells the items that a rule matches gives the batch's matches
   pub told_matches : by.all ≡ false → HaveSearched by olds jobs found news
       → (out : Matches) → out.hits.items ≡ map (λ (o : Numbered JobFound). o.value.hits) found → out.items ≡ sum_by (λ (o : Numbered JobFound). o.value.items) found
       → out.tries ≡ sum_by (λ (o : Numbered JobFound). o.value.tries) found → HaveMatched by olds jobs out news

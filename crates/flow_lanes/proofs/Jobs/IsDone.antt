@@ -37,7 +37,7 @@ cond_then : {A : Type 0} (b : Bool) (x y z : A) → (b ≡ true → x ≡ y) →
 cond_then true x y z same = same refl
 cond_then false x y z same = refl
 
--- so the flow of the job goes on, and no other
+-- the flow of the job goes on, and no other
 sets_flows : (flow : ℕ) (kept : Option KeptFlow) (by : Option KeptFlow → Option KeptFlow) (old new : List (ℕ × KeptFlow)) → Sets flow kept old new → kept ≡ by (kept_in old flow)
     → (other : ℕ) → kept_in new other ≡ cond (other == flow) (by (kept_in old other)) (kept_in old other)
 sets_flows flow kept by old new sets is other =
@@ -112,7 +112,7 @@ module _ {P : Type 0} (by : Inspection P) (making : Making) (moment : Moment) wh
       → Tallied by (of_job (alone_items head payload) None) given → IsDone by making moment (work.Alone head payload) flows flows given
   do-alone head payload flows given tallied = record { tallied = tallied; flows = λ means trying tried flow. refl; facts = λ flow. refl }
 
--- no job of a flow stands before an item by itself
+-- an item by itself has no earlier job of its flow
 no_flow : (before : List Job) → filter (λ other. same_number None (flow_of other)) before ≡ []
 no_flow [] = refl
 no_flow (job ∷ before) = no_flow before

@@ -8,7 +8,7 @@ use Rattle.flow_lanes.specs.Standing.{KeptFlow}
 same_test : (a b : ℕ) → (a == b) ≡ (b == a)
 same_test a b = grind (arith, nat_tests)
 
--- a look-up is the same, whichever key stands first in its test
+-- a look-up is the same, whichever key comes first in its test
 pub looked_up : (flow : ℕ) (flows : List (ℕ × KeptFlow)) → lookup (λ other. flow == other) flows ≡ kept_in flows flow
 looked_up flow [] = refl
 looked_up flow (entry ∷ flows) = λ i. cond (same_test flow entry.0 i) (Some entry.1) (looked_up flow flows i)
@@ -17,7 +17,7 @@ pub sets-from : (flow : ℕ) (kept : Option KeptFlow) (old new : List (ℕ × Ke
     → ((other : ℕ) → lookup (λ key. other == key) new ≡ cond (flow == other) kept (lookup (λ key. other == key) old)) → Sets flow kept old new
 sets-from flow kept old new updates = λ other. sym (looked_up other new) ∙ updates other ∙ (λ i. cond (same_test flow other i) kept (looked_up other old i))
 
--- what stands where nothing was kept is what was put there
+-- what is there where nothing was kept is what was put there
 pub put-new : (flow : ℕ) (flows : List (ℕ × KeptFlow)) (found : Option KeptFlow) (put kept : KeptFlow) → found ≡ lookup (λ key. flow == key) flows
     → kept_in flows flow ≡ None → kept ≡ unwrap_or found put → kept ≡ put
 put-new flow flows found put kept is none stands = stands ∙ ap (λ f. unwrap_or f put) (is ∙ looked_up flow flows ∙ none)

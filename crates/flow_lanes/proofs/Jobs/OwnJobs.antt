@@ -18,7 +18,7 @@ use Rattle.flow_lanes.specs.Standing.{LaneState, LearnsJob, Stands, is_in_lane, 
 use Rattle.flow_lanes.specs.Batching.{AddsFound, AddsOwn, AreSoundIn, GoesOn, SearchesJob, numbered_out, own_jobs}
 use Rattle.flow_lanes.proofs.Jobs.AnswersOfFlow.{is_in_lane-by_class}
 
--- the element at a place stands between those before it and those behind it
+-- the element at a place is between those before it and those after it
 pub split_at_read : {X : Type 0} (xs : List X) (i : ℕ) (x : X) → i < length xs → x ≡ get_or xs i x → xs ≡ take i xs ++ x ∷ drop (suc i) xs
 split_at_read xs i x within is =
     sym (take-append-drop i xs) ∙ ap (λ rest. take i xs ++ rest) (drop-cons xs i x within ∙ ap (λ first. first ∷ drop (suc i) xs) (sym is))
@@ -103,12 +103,12 @@ module _ {P : Type 0} (by : Inspection P) where
   AddsOwn-other share job lane outs is start front done =
       subst (λ jobs. GoesOn by start jobs outs lane) (sym (own_jobs-more share.count share.place front job false is ∙ append-nil (own_jobs share.count share.place front))) done
 
-  -- what the lane knows of a job's flow behind its own jobs of the batch's front
+  -- what the lane knows of a job's flow after its own jobs of the batch's front
   pub GoesOn-known : (count place : ℕ) (old new : LaneState) (jobs : List Job) (outs : List (Numbered JobFound)) (other : Job) → is_in_lane count place other ≡ true
       → GoesOn by old (own_jobs count place jobs) outs new → known_of new other ≡ facts_after (known_of old other) (filter (same_flow other) jobs)
   GoesOn-known count place old new jobs outs other is done = done.known other ∙ ap (facts_after (known_of old other)) (own_jobs-of_flow count place other is jobs)
 
-  -- so its next job is sound
+  -- the lane's next job is sound
   pub GoesOn-sound : (engines count place : ℕ) (old mid : LaneState) (jobs front : List Job) (job : Job) (rest : List Job) (outs : List (Numbered JobFound))
       → AreSoundIn engines count place old jobs → jobs ≡ front ++ job ∷ rest → GoesOn by old (own_jobs count place front) outs mid
       → is_in_lane count place job ≡ true → IsSoundFor engines (known_of mid job) job

@@ -26,11 +26,11 @@ use Rattle.flow_lanes.specs.Sound.{FlowFacts, HasSessions, IsSoundFor, IsSoundWo
 use Rattle.flow_lanes.specs.Standing.{AreShort, is_stretch}
 use Rattle.flow_lanes.specs.Streams.{flushed_payloads, item_size, parts_of, runs_of, places_below}
 
--- a front of so many bytes has no more
+-- a front of `most` bytes has no more
 front_short : (most : ℕ) (bytes : List ℕ) → length (take most bytes) ≤ most
 front_short most bytes = let here = length-take most bytes in first_of (omega arith, grind (arith), search (arith, here))
 
--- bytes that are cut into so many at most
+-- bytes that are cut into parts of `most` at most
 pub parts_of-short : (most : ℕ) (bytes : List ℕ) → All (λ part. length part ≤ most) (parts_of most bytes)
 unfolding parts_of
 parts_of-short most bytes = All-map (λ part. length part ≤ most) (λ part. take most (drop (part * most) bytes)) (range_with_len 0 ((length bytes + (most - 1)) / most)) (λ k d lt. front_short most _)
@@ -129,7 +129,7 @@ told_short making p found step state has =
     (if_short step.ended_before (option_map_or (λ s. closing_items s p.moment) found []) [] (of_some_short (λ s. closing_items s p.moment) (λ s. closing_short s p.moment) found) none_short)
     (session_short making p step found (session_of making p found step state) (session_behind p step (session_of making p found step state)) has)
 
--- so are those of a packet's job, and of a flow's end
+-- the items of a packet's job, and of a flow's end, are short
 pub packet_short : (making : Making) (p : Packet) (found : Option Session) → HasSessions p.head.body → AllShort (all_items (packet_items making p found))
 unfolding packet_items
 packet_short making p found has = told_short making p found (step_of making p found) (state_of making p found) has

@@ -28,7 +28,7 @@ dropped : {A : Type 0} (xs ys : List A) → drop (length xs) (xs ++ ys) ≡ ys
 dropped [] ys = refl
 dropped (x ∷ xs) ys = dropped xs ys
 
--- the session at hand behind its items
+-- the session at hand after its items
 pub settles-by : {P : Type 0} (by : Inspection P) (items : List Item) (step : Step) (old mid bare new : Option FlowState) (bits last : Option Bits) (one two : SoFar) (first : ℕ)
     → bits ≡ bits_now step.tracked old → session_at_hand mid ≡ session_at_hand old → session_at_hand bare ≡ cond step.ends None (session_at_hand mid)
     → first ≡ length one.hits → Tries by items bits last one two
@@ -60,7 +60,7 @@ unless_ends : (ends : Bool) (x y : Option Session) → (ends ≡ false → x ≡
 unless_ends true x y same = refl
 unless_ends false x y same = same refl
 
--- the packet's session behind its items
+-- the packet's session after its items
 module _ (making : Making) (p : Packet) (step : Step) (state : State) (items : List Item) (old mid : Option FlowState)
     (items_are : items ≡ items_on making p step state (session_at_hand old))
     (bits : bits_at_hand mid ≡ cond step.tracked (cond step.begun (Some empty) (bits_at_hand old)) None) where
@@ -80,7 +80,7 @@ module _ (making : Making) (p : Packet) (step : Step) (state : State) (items : L
       let left = unless_ends step.ends (session_at_hand mid) (session_behind p step (session_of making p (session_at_hand old) step state)) session in
       settles ∙ (λ i. option_map (after_items trying (bits_are i) (items_are i)) (left i))
 
--- behind a session that ended before it, a packet begins its own or has none
+-- after a session that ended before it, a packet begins its own or has none
 begun-anew : (making : Making) (p : Packet) (step : Step) (state : State) (found : Option Session) → step.begun ≡ step.tracked → session_of making p found step state ≡ session_of making p None step state
 unfolding session_of
 begun-anew making p step state found fresh = by_case step.tracked step.begun (Some (with_bases step (begun_session making p step state))) (option_map (λ (session : Session). with_bases step (record (settled session) { state = state })) found) fresh

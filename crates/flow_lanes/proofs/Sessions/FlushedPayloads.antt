@@ -7,11 +7,11 @@ use Rattle.stream5_reassembly.specs.Segments.{DirectionState, flushed_bytes}
 use Rattle.flow_lanes.specs.Streams.{begins_run, flushed_payloads, in_front, item_size, parts_of, runs_of}
 
 module _ (byte : ℕ → Option ℕ) where
-  -- what so many places from one on have
+  -- what this many places from one on have
   abbrev places : ℕ → ℕ → List (Option ℕ)
   places low count = map byte (range_with_len low count)
 
-  -- the first place, and those behind it
+  -- the first place, and those after it
   runs_of-step : (low count : ℕ) → runs_of (places low (suc count)) ≡ in_front (byte low) (begins_run (places (low + 1) count)) (runs_of (places (low + 1) count))
   unfolding runs_of
   runs_of-step low count = refl

@@ -1,4 +1,4 @@
--- What is kept of a flow behind one more of its packets.
+-- What is kept of a flow after one more of its packets.
 use Rattle.std.proofs.Common.{◌≡◌, ℕ, ◌+◌, ◌-◌, ◌*◌, ◌^◌, ◌<◌, ◌≤◌, Bool, true, false, cond, Option, Some, None, refl, sym, ap, subst, ◌∙◌, arith}
 use Rattle.stream5_sessions.specs.declared.key.End.{End}
 use Rattle.stream5_sessions.specs.declared.key.Key.{Key}
@@ -32,7 +32,7 @@ pub found-sound : (p : Packet) (facts : FlowFacts) (found : Option Session) → 
 found-sound p facts found kept same few =
     subst (λ (tcp : Bool). IsFound tcp (2 ^ 63 - 2 ^ 31) found) (ends-tcp p facts.ends same) (IsFound-weaker facts.ends.key.tcp (facts.packets * 2 ^ 31) (2 ^ 63 - 2 ^ 31) found (omega arith) kept.kept)
 
--- what is kept behind the packet
+-- what is kept after the packet
 pub kept-more : (p : Packet) (facts : FlowFacts) (found after : Option Session) → IsKeptBy facts found → facts.ends ≡ ends_of p → facts.packets < 2 ^ 32
     → ((places : ℕ) → IsFound (is_tcp p.head.body) places found → IsFound (is_tcp p.head.body) (places + 2 ^ 31) after)
     → IsKeptBy (record { ends = facts.ends; packets = facts.packets + 1 }) after

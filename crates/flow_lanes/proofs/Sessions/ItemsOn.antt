@@ -27,7 +27,7 @@ pub none-told : (session : Session) → HasNoneLeft session.client → HasNoneLe
 none-told session client server = λ moment sizes i.
     stream_items session.client true moment sizes (sym client.0 i) ++ stream_items session.server false moment sizes (sym server.0 i)
 
--- and all stretches tell it always
+-- all stretches that are left of a session always tell what is left of it
 pub all-told : (session : Session) (left : Stretches) → left ≡ stretches_of left_payloads session → TellsLeft session (Some left)
 all-told session left is = λ moment sizes. ap (stretches_items moment sizes) is
 
@@ -50,7 +50,7 @@ pub body-of : (p : Packet) (found : Option Session) → HasSessions p.head.body 
 body-of p None has same = of_protocol p.head.body has
 body-of p (Some session) has same = subst (λ (b : Bool). IsBodyOf b p.head.body) (sym same) (of_protocol p.head.body has)
 
--- where none stands, the packet's own protocol
+-- the session that a packet finds is of the packet's protocol, also where there is none
 pub state_found-tcp : (p : Packet) (found : Option Session) → IfSome found (λ (s : Session). s.state.tcp ≡ is_tcp p.head.body) → (state_found p found).tcp ≡ is_tcp p.head.body
 state_found-tcp p None same = refl
 state_found-tcp p (Some session) same = same
@@ -102,7 +102,7 @@ ack-sizes p step s = by_case (not step.counts_ack) (is_from_client step)
     by_case false true = λ i. (s.client.extent.size, (ack-extent s.server (ack_of p) i).size)
     by_case false false = λ i. ((ack-extent s.client (ack_of p) i).size, s.server.extent.size)
 
--- the sizes are those behind the data, before the acknowledgement as behind it
+-- the sizes are those after the data, before the acknowledgement as after it
 pub sizes-are : (p : Packet) (step : Step) (s : Session) → sizes_of (after_data p step s) ≡ sizes_of (after_packet p step s)
 sizes-are p step s = sym (ack-sizes p step (after_data p step s)) ∙ ap sizes_of (data_first p step s)
 

@@ -7,7 +7,7 @@ use Rattle.std.proofs.lemmas.List.FromFn.{map-range_with_len_more}
 use Rattle.overlap_core.specs.declared.segment.Run.{Run}
 use Rattle.flow_lanes.specs.Streams.{item_size, parts_of, payloads_of}
 
--- a part more behind those that were appended
+-- a part more after those that were appended
 pub parts-more : {A : Type 0} (f : ℕ → A) (count : ℕ) (first old new : List A) (part : A) → old ≡ first ++ map f (range_with_len 0 count) → part ≡ f count → new ≡ old ++ part ∷ []
     → new ≡ first ++ map f (range_with_len 0 (count + 1))
 parts-more {A = A} f count first old new part so_far is pushed =

@@ -36,7 +36,7 @@ pub cut-flushed : (direction : DirectionState) (to : ℕ) (runs : List Run) → 
 cut-flushed direction to runs appends =
     ap payloads_of appends.1 ∙ sym (flushed_payloads-runs direction to appends.0 appends.2)
 
--- an acknowledgement: what it flushes, and the direction behind it
+-- an acknowledgement: what it flushes, and the direction after it
 pub acked-cut : (old new : DirectionState) (ack : ℕ) (runs : List Run) (flushed : Bool) → flushed ≡ ack_flushes old ack
     → (flushed ≡ true → Flushes old new (ack_place old ack) [] runs) → (flushed ≡ false → Stays old new [] runs)
     → (payloads_of runs ≡ cond (ack_flushes old ack) (flushed_payloads old (ack_place old ack)) [])

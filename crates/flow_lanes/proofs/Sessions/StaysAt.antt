@@ -120,7 +120,7 @@ module _ (making : Making) (p : Packet) (before found : Option FlowState) (step 
   nothing_ended : ended_items p.moment step.ended_before (session_at_hand before) ≡ []
   nothing_ended = ap (λ (b : Bool). ended_items p.moment b (session_at_hand before)) stays.kind.ended_before
 
-  -- so these are all the items of the packet
+  -- what is gained at the session at hand is all that the packet gives
   pub stayed-gain : {P : Type 0} (by : Inspection P) (one two : SoFar) → Tallies by (gain_at making p step before) one two → Tallies by (gain_of making p before) one two
   stayed-gain by one two =
       told-gain making p before before step state stays.step_is refl anew none_ended by one one two

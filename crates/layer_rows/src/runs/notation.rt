@@ -7,7 +7,7 @@ use crate::runs::frames::{HEAD, ends_of, push_fragment, push_tcp, push_udp, reco
 use crate::runs::row::RunRow;
 use row_files::{Parts, RowLine, cut};
 
-/// Applies a line to a row, as often as it stands; false where it isn't understood.
+/// Applies a line to a row, as often as it is read; false where it isn't understood.
 pub(crate) fn apply(page: &mut Page, row: &mut RunRow, line: &str) -> bool {
     let line = RowLine::read(line);
     let mut is_taken = true;
@@ -80,7 +80,7 @@ fn apply_packet(page: &mut Page, row: &mut RunRow, key: &str, rest: &str) -> boo
     !parts.is_wrong()
 }
 
-/// Appends a record: its moment is the one that was told, or as many seconds as records stand before.
+/// Appends a record: its moment is the one that was told, or as many seconds as records come before.
 fn append_record(page: &mut Page, row: &mut RunRow, packet: &[u8]) {
     let moment = row.moment.unwrap_or((row.records, 0));
     for number in &record_head(moment, packet) {
@@ -145,7 +145,7 @@ fn push_fragment_line(page: &mut Page, packet: &mut Vec<u8>, parts: &mut Parts<'
     push_fragment(page, packet, offset, more, parts.left().as_bytes());
 }
 
-/// The bytes of pairs of hexadecimal digits, between which blanks may stand. The page has what is wrong with them.
+/// The bytes of pairs of hexadecimal digits, between which blanks may be. The page has what is wrong with them.
 fn bytes_of(page: &mut Page, digits: &str) -> Vec<u8> {
     let mut bytes = Vec::new(page.alloc);
     for word in digits.split(' ') {

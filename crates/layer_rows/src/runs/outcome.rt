@@ -22,7 +22,7 @@ fn sink_of(alloc: Global, step: u32) -> Result<MemSink, NoMemory> {
     MemSink::new(alloc, step, ROOM)
 }
 
-/// Two sinks that take so many bytes at a call.
+/// Two sinks that take this many bytes at a call.
 fn sinks_of(alloc: Global, step: u32) -> Result<Sinks, NoMemory> {
     let alerts = sink_of(alloc, step)?;
     let errors = sink_of(alloc, step)?;

@@ -62,7 +62,7 @@ group_small text value h e = omega arith
 
 pub ruleset hex_groups = (group-some, group-none, group_small)
 
--- the first piece, where a colon stands and where none does
+-- the first piece, where there is a colon and where there is none
 slice_split-only : {X : Type 0} (p : X → Bool) (xs : List X) → length xs ≤ position_or_len p xs → slice_split p xs ≡ xs ∷ []
 slice_split-only p [] h = refl
 slice_split-only p (x ∷ xs) h = go (p x) h (slice_split-only p xs)
@@ -104,7 +104,7 @@ grown_small count value next h n = omega (arith, shift_more count)
 pub all_fit : (count : ℕ) → count ≤ 8 → 2 ^ (16 * count) ≤ 2 ^ 128
 all_fit count h = let fits : 16 * count ≤ 128 = omega arith in pow_mono fits
 
--- so many groups that make this number
+-- `count` groups that make this number
 made : ℕ → ℕ → Option Groups
 made count value = Some (record { count = count; value = value })
 
@@ -139,7 +139,7 @@ joined_from count value h (piece ∷ pieces) = go (group piece) (count == 8) ref
     go (Some next) true e more = past next (groups_of pieces) (eqb-true count 8 e)
     go (Some next) false e more = more (value * 65536 + next) (below count h e) ∙ on next (groups_of pieces)
 
--- so eight groups at most are read as the list of them
+-- eight groups at most are read as the list of them
 pub joined_groups : (pieces : List (List ℕ)) → joined (record { count = 0; value = 0 }) pieces ≡ groups_upto (groups_of pieces)
 unfolding kept made groups_value
 joined_groups pieces = joined_from 0 0 (omega arith) pieces ∙ go (groups_of pieces)
@@ -158,7 +158,7 @@ scaled value next size wide rest e =
     let d : value * wide ≡ value * (65536 * size) = ap (λ w. value * w) (e ∙ mul_comm size 65536) in
     omega (arith, a, b, c, d)
 
--- the number of groups behind others
+-- the number of groups after others
 fold_from : (value : ℕ) (gs : List ℕ) → fold (λ v g. v * 65536 + g) value gs ≡ value * 2 ^ (16 * length gs) + groups_value gs
 unfolding groups_value
 fold_from value [] = omega arith

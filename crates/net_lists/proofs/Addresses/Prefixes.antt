@@ -11,7 +11,7 @@ row_below a size rows below split = ⊎_elim (λ h. h) (λ h. absurd (omega (ari
 end_below : (row size rows : ℕ) → row < rows → 0 < size → row * size + (size - 1) < size * rows
 end_below row size rows below some = let h : row + 1 ≤ rows = omega arith in omega (arith, mul-le-mul_left size h, mul_comm size row)
 
--- the prefix with k of `bits` bits behind it
+-- the prefix with k of `bits` bits after it
 pub last_fits : (bits address k : ℕ) → address < 2 ^ bits → k ≤ bits → cleared address k + (2 ^ k - 1) < 2 ^ bits
 last_fits bits address k fits h =
     let size = 2 ^ k in

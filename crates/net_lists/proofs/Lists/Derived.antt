@@ -18,7 +18,7 @@ some_same : {B : Type 0} (x y : List (Part B)) → Some x ≡ Some y → x ≡ y
 some_same x y e = cc
 
 module _ {B : Type 0} (reads : List ℕ → Option B) where
-  -- symbols that begin with what this rule derives, and go on as may stand behind it
+  -- symbols that begin with what this rule derives, and go on as may come after it
   pub record Begins (rule : Rule) (sign : Bool) (depth negated : ℕ) (symbols : List Symbol) (parts : List (Part B)) : Type 0 where
     pub front : List Symbol
     pub rest : List Symbol
@@ -30,7 +30,7 @@ module _ {B : Type 0} (reads : List ℕ → Option B) where
     pub follows : run reads (at wanted.Separator depth negated) rest ≡ Some others
     pub shorter : length rest < length symbols
 
-  -- items of at most so many symbols begin so
+  -- items of fewer than `most` symbols begin with what the rule of items derives
   abbrev Items : ℕ → Type 0
   Items most = (depth negated : ℕ) (symbols : List Symbol) (parts : List (Part B)) → length symbols < most → run reads (at wanted.Item depth negated) symbols ≡ Some parts → Begins Item (ltb 0 negated) depth negated symbols parts
 
@@ -46,7 +46,7 @@ module _ {B : Type 0} (reads : List ℕ → Option B) where
     follows : run reads (at wanted.Separator depth (negated - 1)) rest ≡ Some others
     shorter : length rest < length symbols
 
-  -- behind an item that goes on a group
+  -- a group goes on after an item
   closes_more : (sign : Bool) (depth negated : ℕ) (front rest : List Symbol) (first parts : List (Part B)) (b : Begins Item sign (suc depth) negated rest parts) → Closes sign depth negated (front ++ (Comma ∷ b.front)) b.rest (first ++ b.first) b.others → Closes sign depth negated front (Comma ∷ rest) first parts
   closes_more sign depth negated front rest first parts b c = record {
     inner = c.inner;
@@ -82,7 +82,7 @@ module _ {B : Type 0} (reads : List ℕ → Option B) where
       closes_more sign depth negated front rest first parts item
       (closes most items fuel sign depth negated (front ++ (Comma ∷ item.front)) item.rest (first ++ item.first) item.others s (omega (arith, item.shorter)) (omega (arith, item.shorter)) (more d item.derived) item.follows)
 
-  -- an operand stands where one is wanted
+  -- a group in brackets is an operand where one is wanted
   bracketed : (most : ℕ) → Items most → (w : Wanted) (depth negated : ℕ) (sign : Bool) (rest : List Symbol) (parts : List (Part B)) → Stands w negated sign → length rest < most → run reads (at w depth negated) (Open ∷ rest) ≡ Some parts → Begins Operand sign depth negated (Open ∷ rest) parts
   bracketed most items w depth negated sign rest parts s l e =
       let inside = opened sign negated in
@@ -138,7 +138,7 @@ module _ {B : Type 0} (reads : List ℕ → Option B) where
     shorter = b.shorter;
   }
 
-  -- and so is one behind a `!`
+  -- an operand after a `!` is an item
   negated_item : (depth negated : ℕ) (rest : List Symbol) (parts : List (Part B)) → Begins Operand true depth negated rest parts → Begins Item false depth negated (Not ∷ rest) parts
   negated_item depth negated rest parts b = record {
     front = Not ∷ b.front;
@@ -152,7 +152,7 @@ module _ {B : Type 0} (reads : List ℕ → Option B) where
     shorter = omega (arith, b.shorter);
   }
 
-  -- behind a `!` an operand is wanted
+  -- after a `!` an operand is wanted
   behind_not : (most : ℕ) → Items most → (depth negated : ℕ) (rest : List Symbol) (parts : List (Part B)) → negated ≡ 0 → length rest ≤ most → run reads (at wanted.Operand depth negated) rest ≡ Some parts → Begins Operand true depth negated rest parts
   behind_not most items depth negated [] parts z l e = absurd (none_some (sym (run-end_wanted reads wanted.Operand depth negated true (z, refl)) ∙ e))
   behind_not most items depth negated (Not ∷ rest) parts z l e = absurd (none_some (sym (run-not_operand reads depth negated rest) ∙ e))

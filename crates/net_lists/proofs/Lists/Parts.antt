@@ -15,7 +15,7 @@ use Rattle.net_lists.proofs.Lists.Starts.{AreParts, none_some, mapped, taken, fi
 some_same : {A : Type 0} (x y : A) → Some x ≡ Some y → x ≡ y
 some_same x y e = cc
 
--- between a `[` and a `]` stands what stands between them
+-- what is bracketed by a `[` and a `]` is what is between them
 bracketed-brackets : (inner : List ℕ) → bracketed (91 ∷ (inner ++ (93 ∷ []))) ≡ Some inner
 unfolding bracketed
 bracketed-brackets inner =

@@ -15,7 +15,7 @@ use Rattle.net_lists.specs.declared.network.Network.{Network}
 use Rattle.net_lists.specs.Addresses.{cut, hex_value, octet, dotted, group, groups_of, groups, gap_place, gap, address_of, address_around, colons, address, bits_of, network_at, network, address_bounds}
 use Rattle.net_lists.specs.Parts.{port_end, between_ends, port_bounds}
 
--- a digit, or a byte behind the digits and before the letters
+-- a digit, or a byte after the digits and before the letters
 record IsStart (byte : ℕ) : Type 0 where
   low : 48 ≤ byte
   high : byte ≤ 58
@@ -102,7 +102,7 @@ at_place : (text : List ℕ) (place : ℕ) (within : Bool) (parts : List ℕ × 
 at_place text place true parts e = cc
 at_place text place false parts e = absurd (none_some e)
 
--- the first byte of a text is that of what stands before a byte, unless that byte stands first
+-- the first byte of a text is that of what comes before a byte, unless that byte comes first
 cut_head : (at byte : ℕ) (rest : List ℕ) (parts : List ℕ × List ℕ) → cut at (byte ∷ rest) ≡ Some parts → ((parts.0 ≡ []) × (byte ≡ at)) ⊎ ((front : List ℕ) × (parts.0 ≡ byte ∷ front))
 unfolding cut
 cut_head at byte rest parts e = go (byte == at) refl e

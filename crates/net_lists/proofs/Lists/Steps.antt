@@ -21,18 +21,18 @@ pub before-before : {B : Type 0} (front back : List (Part B)) (rest : Option (Li
 before-before front back None = refl
 before-before front back (Some rest) = ap Some (sym (append_assoc front back rest))
 
--- what stands behind parts that were read
+-- what comes after parts that were read
 pub before_some : {B : Type 0} (parts : List (Part B)) (rest : Option (List (Part B))) (whole : List (Part B)) → before parts rest ≡ Some whole → (others : List (Part B)) × (rest ≡ Some others) × (whole ≡ parts ++ others)
 before_some parts None whole e = cc
 before_some parts (Some rest) whole e = (rest, refl, cc)
 
--- an operand of this sign may stand where this is wanted, and so many brackets are negated
+-- an operand of this sign may come where this is wanted and `negated` brackets are negated
 abbrev pub Stands : Wanted → ℕ → Bool → Type 0
 Stands wanted.Item negated sign = ltb 0 negated ≡ sign
 Stands wanted.Operand negated sign = (negated ≡ 0) × (sign ≡ true)
 Stands wanted.Separator negated sign = ⊥
 
--- how many brackets are negated behind one that opens
+-- how many brackets are negated after one that opens
 abbrev pub opened : Bool → ℕ → ℕ
 opened sign negated = cond sign (negated + 1) 0
 
@@ -76,7 +76,7 @@ module _ {B : Type 0} (reads : List ℕ → Option B) where
   unfolding run behind_not
   run-not depth negated rest = elim (negated == 0) as (λ b. elim (cond b (Some (no_part {B = B} (at wanted.Operand depth negated))) None) as (λ _. Option (List (Part B))) [ None ↦ None | Some step ↦ before (option_to_list step.part) (run reads step.place rest) ] ≡ cond b (run reads (at wanted.Operand depth negated) rest) None) [ true ↦ before-nil _ | false ↦ refl ]
 
-  -- what may not stand there
+  -- what may not come at a place
   pub run-end_wanted : (w : Wanted) (depth negated : ℕ) (sign : Bool) → Stands w negated sign → run reads (at w depth negated) [] ≡ None
   unfolding run
   run-end_wanted wanted.Item depth negated sign s = refl

@@ -1,4 +1,4 @@
--- The symbols behind blanks, and those of a word.
+-- The symbols after blanks, and those of a word.
 use Rattle.std.proofs.Common.{◌≡◌, ℕ, ◌+◌, ◌<◌, Bool, true, false, not, cond, List, [], ◌∷◌, ◌&&◌, is_none, take, drop, Option, Some, None, refl, sym, ap, ◌∙◌, arith, suc}
 use Rattle.std.specs.List.{prefix_len}
 use Rattle.std.proofs.lemmas.Bool.{false≢true}
@@ -18,7 +18,7 @@ symbols-blanks (x ∷ xs) = go (is_blank x) refl (symbols-blanks xs)
     go true e more = rw one_more more
     go false e more = rw e refl
 
--- and behind them none stands
+-- after the blanks in front there is none
 pub begins_blank-blanks : (xs : List ℕ) → begins_blank (drop (prefix_len is_blank xs) xs) ≡ false
 begins_blank-blanks [] = refl
 begins_blank-blanks (x ∷ xs) = go (is_blank x) refl (begins_blank-blanks xs)
@@ -27,7 +27,7 @@ begins_blank-blanks (x ∷ xs) = go (is_blank x) refl (begins_blank-blanks xs)
     go true e more = rw one_more more
     go false e more = e
 
--- a byte of a word is joined to the word behind it
+-- a byte of a word is joined to the word after it
 word_front : (x : ℕ) (xs : List ℕ) → is_word_byte x ≡ true → symbols (x ∷ xs) ≡ joined x (begins_word xs) (symbols xs)
 word_front x xs e = go (is_blank x) (mark x) e
   where

@@ -13,7 +13,7 @@ use Rattle.net_lists.specs.Membership.{IsPositive, IsNegated, IsListed, Has, Has
 use Rattle.net_lists.specs.Verdicts.{is_within, has_address, verdict, is_listed}
 
 module _ {B : Type 0} (has : B → Bool) where
-  -- at a part, and behind the last
+  -- at a part, and after the last
   pub verdict-stop : (found positive : Bool) (parts : List (Part B)) (i : ℕ) (part : Part B) → i < length parts → part ≡ get_or parts i part → has part.bounds ≡ true → part.negated ≡ true → verdict has found positive (drop i parts) ≡ false
   unfolding verdict
   verdict-stop found positive parts i part h e t n =

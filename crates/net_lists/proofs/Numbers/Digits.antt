@@ -1,4 +1,4 @@
--- A number that stands at a cap past its bound is refused as the number itself is.
+-- A number that is held at a cap past its bound is refused as the number itself is.
 use Rattle.std.proofs.Common.{◌≡◌, ℕ, ◌+◌, ◌<◌, ◌≤◌, Bool, true, false, ◌&&◌, cond, leb, min, List, Option, Some, None, sym, ap, ◌∙◌, arith}
 use Rattle.std.proofs.lemmas.Bool.Decides.{nat_tests}
 use Rattle.net_lists.specs.Numbers.{decimal_value, are_digits, digits_upto}
@@ -17,7 +17,7 @@ pub digits_upto-past : (most capped : ℕ) (text : List ℕ) → are_digits text
 unfolding digits_upto decided
 digits_upto-past most capped text digits e h = past (decimal_value text) most capped e h ∙ ap (decided most (decimal_value text)) (sym digits)
 
--- one within it gives itself
+-- a number within its bound gives itself
 pub digits_upto-within : (most capped : ℕ) (text : List ℕ) → are_digits text ≡ true → capped ≡ min (decimal_value text) (most + 1) → capped ≤ most → Some capped ≡ digits_upto most text
 unfolding digits_upto decided
 digits_upto-within most capped text digits e h = within (decimal_value text) most capped e h ∙ ap (decided most (decimal_value text)) (sym digits)

@@ -1,4 +1,4 @@
--- A number that stands at a cap past its bounds is refused as the number itself is.
+-- A number that is held at a cap past its bounds is refused as the number itself is.
 use Rattle.std.proofs.Common.{◌≡◌, ℕ, ◌<◌, min, List, Option, Some, None, refl, sym, ap, ◌∙◌, arith, ℤ, pos, neg_ℤ, ◌<ℤ◌}
 use Rattle.std.specs.Option.{option_map, option_and_then}
 use Rattle.std.proofs.lemmas.Bool.Decides.{nat_tests}
@@ -55,7 +55,7 @@ module _ (least most : ℤ) (cap : ℕ) (low : neg_ℤ (pos cap) <ℤ least) (hi
       ∙ ap (option_and_then (signed_kept_in least most)) (map-map pos (λ n. min n cap) (whole_number text))
       ∙ positives least most cap high (whole_number text) ∙ sym (plain (sym e))
 
-  -- one behind a `-`, or none
+  -- the number after a `-`, or none
   pub signed_in-minus : (read : Option ℕ) (digits : List ℕ) → Some digits ≡ behind_minus text → read ≡ option_map (λ n. min n cap) (whole_number digits) → option_and_then (signed_kept_in least most) (option_map (λ n. neg_ℤ (pos n)) read) ≡ signed_in least most text
   signed_in-minus read digits e r =
       ap (λ o. option_and_then (signed_kept_in least most) (option_map (λ n. neg_ℤ (pos n)) o)) r

@@ -1,4 +1,4 @@
--- Putting pieces together, one behind another.
+-- Putting pieces together, one after another.
 use Rattle.std.proofs.Common.{◌≡◌, ℕ, ◌-◌, ◌<◌, ◌≤◌, List, [], ◌∷◌, ◌++◌, length, drop, Result, Ok, Err, refl, sym, ap, ◌∙◌, append_assoc}
 use Rattle.std.proofs.lemmas.List.{append-nil, drop_at, drop_all}
 use Rattle.std.proofs.lemmas.Bool.{lt-ltb, le-ltb}
@@ -37,7 +37,7 @@ unfolding pieces
 pieces-nil variables text place = refl
 
 module _ (variables : Variables) (text : List ℕ) (whole : Result (List ℕ) ExpandFault) (front : List ℕ) (place room : ℕ) (so_far : whole ≡ with_front front (put_together room (pieces variables text place 0 (drop place text)))) where
-  -- behind a piece that fits
+  -- after a piece that fits
   pub fits_behind : (bytes : List ℕ) (next : ℕ) → pieces variables text place 0 (drop place text) ≡ Bytes bytes ∷ pieces variables text next 0 (drop next text) → length bytes ≤ room → whole ≡ with_front (front ++ bytes) (put_together (room - length bytes) (pieces variables text next 0 (drop next text)))
   fits_behind bytes next piece fits =
       so_far ∙ ap (λ ps. with_front front (put_together room ps)) piece

@@ -1,4 +1,4 @@
--- The pieces of a text from a place on: the first, and those behind it.
+-- The pieces of a text from a place on: the first, and those after it.
 use Rattle.std.proofs.Common.{◌≡◌, ℕ, zero, suc, ◌+◌, ◌-◌, ◌<◌, ◌==◌, true, false, List, [], ◌∷◌, length, take, drop, get_or, Option, Some, None, refl, sym, ap, ◌∙◌, arith, add-one, drop-cons}
 use Rattle.std.proofs.lemmas.List.{drop-drop}
 use Rattle.std.proofs.lemmas.Bool.{eq-eqb, ne_eqb}
@@ -6,7 +6,7 @@ use Rattle.net_lists.specs.Forms.{Form, Otherwise, form_at}
 use Rattle.net_lists.specs.Variables.{Variable, Variables, value_of}
 use Rattle.net_lists.specs.Expansion.{Bytes, pieces, piece_of, otherwise_of, variable_of}
 
--- the pieces behind bytes that are passed
+-- the pieces after bytes that are passed
 pieces_passed : (variables : Variables) (text : List ℕ) (place passed : ℕ) (rest : List ℕ) → pieces variables text place passed rest ≡ pieces variables text (place + passed) 0 (drop passed rest)
 unfolding pieces
 pieces_passed variables text place zero rest = ap (λ p. pieces variables text p 0 rest) (omega arith)
@@ -25,12 +25,12 @@ module _ (variables : Variables) (text : List ℕ) (place : ℕ) where
   unfolding pieces
   pieces-byte within other = ap (pieces variables text place 0) (here within) ∙ rw other refl
 
-  -- and so is a `$` that begins no form
+  -- a `$` that begins no form is a piece of its own
   pub pieces-alone : place < length text → ((get_or text place 0 == 36) ≡ true) → form_at text (place + 1) ≡ None → pieces variables text place 0 (drop place text) ≡ Bytes (get_or text place 0 ∷ []) ∷ pieces variables text (place + 1) 0 (drop (place + 1) text)
   unfolding pieces
   pieces-alone within dollar none = ap (pieces variables text place 0) (here within) ∙ rw (dollar, none) refl
 
-  -- a form is a piece, and the next begins behind it
+  -- a form is a piece, and the next begins after it
   pub pieces-form : place < length text → ((get_or text place 0 == 36) ≡ true) → (form : Form) → form_at text (place + 1) ≡ Some form → place + 1 < form.end → pieces variables text place 0 (drop place text) ≡ piece_of text form (variable_of variables text form) ∷ pieces variables text form.end 0 (drop form.end text)
   unfolding pieces
   pieces-form within dollar form found behind =
@@ -56,7 +56,7 @@ module _ (variables : Variables) (text : List ℕ) (place : ℕ) (form : Form) (
       pieces-form variables text place within (eq-eqb _ 36 dollar) form (sym found) behind
       ∙ ap (λ p. p ∷ pieces variables text form.end 0 (drop form.end text)) (piece_of-found text form _ bytes e)
 
-  -- and else what the form says
+  -- where the variable has no value, the piece is what the form says
   pub pieces-otherwise : None ≡ value_of (variable_of variables text form) → (otherwise : Otherwise) → form.otherwise ≡ otherwise → pieces variables text place 0 (drop place text) ≡ otherwise_of text otherwise ∷ pieces variables text form.end 0 (drop form.end text)
   pieces-otherwise e otherwise o =
       pieces-form variables text place within (eq-eqb _ 36 dollar) form (sym found) behind

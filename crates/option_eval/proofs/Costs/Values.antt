@@ -1,4 +1,4 @@
--- What a rule can extract from a payload: the numbers, the lists of values, and the standings behind extractions.
+-- What a rule can extract from a payload: the numbers, the lists of values, and the standings after extractions.
 use Rattle.std.proofs.Common.{◌≡◌, ℕ, zero, suc, ◌+◌, ◌-◌, ◌*◌, ◌<◌, ◌≤◌, ◌⊎◌, inl, inr, ⊎_elim, pos, ◌+ℤ◌, Bool, true, false, not, ◌&&◌, ◌||◌, ◌==◌, cond, List, [], ◌∷◌, length, take, drop, get_or, Option, Some, None, Contains, slice_index, slice_set, refl, sym, ap, subst, ◌∙◌, arith, unwrap_or}
 use Rattle.std.specs.Prelude.{min, All, nat_le, option_and_then}
 use Rattle.std.proofs.lemmas.Bool.{false≢true, eqb-true}
@@ -118,7 +118,7 @@ module _ (payload : List ℕ) (fetch : Fetch) where
       (got.from, got.begins, takes.3 ∙ ap (λ (n : ℕ). rounded_up align (n * times)) (sym got.number)))
       (few_map ℕ (Begins payload fetch) ℕ count (number_at times align) (few_places name times align))
 
-  -- of one byte
+  -- what an extraction of one byte takes
   few_of_one : (times align : ℕ) → fetch.bytes ≡ 1 → All (λ byte. byte < 256) payload → Few ℕ 256 (Takes times align)
   unfolding Takes number_in
   few_of_one times align one bytes = few_weaker ℕ 256 256 (λ x. (byte : ℕ) × (byte < 256) × (x ≡ number_in fetch.base times align (byte ∷ []))) (Takes times align) (omega arith)
@@ -237,7 +237,7 @@ module _ (payload : List ℕ) (all : List Opt) where
 
   -- ---- the lists of values
 
-  -- what is kept of values behind some option, or of none
+  -- what is kept of values after some option, or of none
   IsKept : List Opt → List ℕ → Type 0
   IsKept [] v = v ≡ start.values
   IsKept (o ∷ os) v = ((values : List ℕ) × AreValues values × (v ≡ kept_values os values)) ⊎ IsKept os v
@@ -271,7 +271,7 @@ module _ (payload : List ℕ) (all : List Opt) where
       (λ (later : IsKept os v). kept_both os v later)
       is
 
-  -- or each beside a 0
+  -- a list of the value of one name beside a 0
   One : List ℕ → Type 0
   One v = ((x : ℕ) × IsValue 0 x × (v ≡ x ∷ 0 ∷ [])) ⊎ ((y : ℕ) × IsGiven payload 1 all y × (v ≡ 0 ∷ y ∷ []))
 
@@ -316,7 +316,7 @@ module _ (payload : List ℕ) (all : List Opt) where
           (few_map ℕ (IsValue 0) (List ℕ) (1 + a) (λ x. x ∷ 0 ∷ []) (few_values bytes 0))
           (few_map ℕ (IsGiven payload 1 all) (List ℕ) b (λ y. 0 ∷ y ∷ []) (few_given payload bytes 1 all)))
 
-  -- ---- the standings behind extractions
+  -- ---- the standings after extractions
 
   module _ (means : Means) where
     IsBehindOne : Opt → List Opt → Standing → Type 0

@@ -103,7 +103,7 @@ module _ (means : Means) (payload vs ws : List ℕ) (p q : ℕ) where
       (subst (λ (v : ℤ). Unless negated ((pos (cond relative p 0) +ℤ v) <ℤ pos (length payload))) number h.0, there vs ws p q p h.1)
   plain_alike _ plain same h = there vs ws p q p h
 
--- the values behind an extraction
+-- the values after an extraction
 behind_gives : (name given : ℕ) (vs ws : List ℕ) (x : ℕ) → length vs ≡ length ws → (b : Bool) → b ≡ (given == name) → (b ≡ false → slice_index vs name ≡ slice_index ws name)
     → slice_index (slice_set vs given x) name ≡ slice_index (slice_set ws given x) name
 behind_gives name given vs ws x size false is other =
@@ -117,7 +117,7 @@ behind_gives name given vs ws x size true is other =
     get_or_past (slice_set vs name x) name 0 (omega (arith, length-set vs name x)) ∙ sym (get_or_past (slice_set ws name x) name 0 (omega (arith, length-set ws name x))))
     (cases_lt name (length vs)))
 
--- what is kept of such lists is the same
+-- two lists whose values are the same where they are still read: the same is kept of both
 kept_same : (b : Bool) (x y : ℕ) → (b ≡ true → x ≡ y) → cond b x 0 ≡ cond b y 0
 kept_same true x y h = h refl
 kept_same false x y h = refl
@@ -131,7 +131,7 @@ kept_read : (b : Bool) (x : ℕ) → b ≡ true → x ≡ cond b x 0
 kept_read true x is = refl
 kept_read false x is = absurd (false≢true is)
 
--- and a list is one with what is kept of it
+-- a list of values is alike with what is kept of it
 pub alike_kept : (options : List Opt) (vs : List ℕ) → length vs ≡ 2 → Alike options vs (kept_values options vs)
 alike_kept options vs two = record { size = two; same = λ name is. at name is }
   where
@@ -152,7 +152,7 @@ module _ (means : Means) (payload : List ℕ) where
     later_same : (o : Opt) → Alike (o ∷ os) vs ws → (name : ℕ) → gives name o ≡ false → is_read name os ≡ true → slice_index vs name ≡ slice_index ws name
     later_same o alike name given is = alike.same name (or_right (reads name o) (not (gives name o) && is_read name os) (subst (λ (b : Bool). (not b && is_read name os) ≡ true) (sym given) is))
 
-    -- a standing to which the option leads just as well, and which the options behind can't tell apart
+    -- a standing to which the option leads just as well, and which the options after it can't tell apart
     abbrev LeadsAlike : Opt → Standing → Type 0
     LeadsAlike o t = (t' : Standing) × Leads means payload o (standing ws p) t' × (t'.place ≡ t.place) × Alike os t.values t'.values
 

@@ -81,7 +81,7 @@ module _ (means : Means) (payload : List ℕ) (o : Opt) (plain : is_extract o �
             complete = λ q to. found.complete q (x, Contains-get_or places 0 0 some, other_values ws vs two' two x q (move_free means payload o ws to.0 x (standing ws q) (sym is) fixed to.2));
           }
 
--- other numbers of options behind
+-- numbers of options that follow, one below the other, differ
 apart_from : (k left : ℕ) → (k < left) ⊎ (left < k) → (k == left) ≡ false
 apart_from k left (inl less) = grind (arith, nat_tests)
 apart_from k left (inr more) = grind (arith, nat_tests)
@@ -106,7 +106,7 @@ module _ (means : Means) (payload : List ℕ) where
   known_nothing [] known none = tt
   known_nothing (o ∷ os) known none = (some_none (LeadsAlike means payload o (needs_place os)) (known_at known (length os)) (none (length os)), known_nothing os known none)
 
-  -- what is known of the options behind is told by the numbers below theirs
+  -- what is known of the options that follow is told by the numbers below theirs
   pub known_below : (os : List Opt) (a b : Known) → ((left : ℕ) → left < length os → known_at b left ≡ known_at a left) → AreKnown means payload os a → AreKnown means payload os b
   known_below [] a b same h = tt
   known_below (o ∷ os) a b same h = (
@@ -114,13 +114,13 @@ module _ (means : Means) (payload : List ℕ) where
     known_below os a b (λ left below. same left (omega arith)) h.1,
   )
 
--- and of the options behind one, once what is known of that is taken
+-- what is known of the options after one, once what is known of that one is taken
 pub known_taken : (means : Means) (payload : List ℕ) (os : List Opt) (old taken : Known) → ((other : ℕ) → known_at taken other ≡ cond (other == length os) None (known_at old other))
     → AreKnown means payload os old → AreKnown means payload os taken
 known_taken means payload os old taken take h =
     known_below means payload os old taken (λ other below. take other ∙ cond_false (other == length os) None (known_at old other) (apart_from other (length os) (inl below))) h
 
--- a turn: what is known of one option is taken, that of the options behind changes, and it is put back
+-- a turn: what is known of one option is taken, what is known of the options after it changes, and it is put back
 module _ (taken behind kept : Known) (old : Known) (left : ℕ) (next : Next) (free : Type 0)
     (take : (other : ℕ) → known_at taken other ≡ cond (other == left) None (known_at old other))
     (others : (other : ℕ) → left ≤ other → known_at behind other ≡ known_at taken other)
@@ -162,7 +162,7 @@ module _ (taken behind kept : Known) (old : Known) (left : ℕ) (next : Next) (f
           turn_own)
       by_number other false is = subst (λ (found : Option Next). IfSome found (RisesTo high)) (sym (keeps other (sym is))) (h other)
 
--- where less is known
+-- known places rise where less is known
 pub rising_taken : (old taken : Known) (left high : ℕ) → ((other : ℕ) → known_at taken other ≡ cond (other == left) None (known_at old other)) → AreRising high old → AreRising high taken
 rising_taken old taken left high take h = λ other. subst (λ (found : Option Next). IfSome found (RisesTo high)) (sym (take other)) (by_test (other == left) (known_at old other) (h other))
   where
@@ -173,7 +173,7 @@ rising_taken old taken left high take h = λ other. subst (λ (found : Option Ne
 pub rising_nothing : (known : Known) (high : ℕ) → ((left : ℕ) → known_at known left ≡ None) → AreRising high known
 rising_nothing known high none = λ left. some_none (RisesTo high) (known_at known left) (none left)
 
--- the places behind an option rise
+-- the places after an option rise
 pub next_rises : (next : Next) (places : List ℕ) (high : ℕ) → RisesTo high next → IsRising 0 places high → IsRising 0 (next_set next places) high
 next_rises next.Same places high risen before = before
 next_rises (next.To led) places high risen before = risen

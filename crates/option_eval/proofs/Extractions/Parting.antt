@@ -11,7 +11,7 @@ use Rattle.option_eval.proofs.Sets.Rising.{contains_first, contains_behind, risi
 use Rattle.option_eval.proofs.Extractions.Stating.{same_values, left_was, some_among}
 use Rattle.option_eval.proofs.Extractions.Stepping.{Counted, IsLeft, counted_first, counted_next, without}
 
--- the states that were taken out stand among these, with each place once
+-- the states that were taken out are among these, with each place once
 pub record MergedFrom (from left done : States) : Type 0 where
   pub there : (values places : List ℕ) → places_at from values ≡ Some places
       → (places_at left values ≡ Some places) ⊎ ((found : List ℕ) × (places_at done values ≡ Some found) × ((p : ℕ) → Contains places p → Contains found p))
@@ -79,7 +79,7 @@ without_all values (x ∷ xs) low high risen rest all =
     above : (p : ℕ) → Contains xs p → standing values p ≡ standing values x → ⊥
     above p has same = let place : p ≡ x = ap (λ (s : Standing). s.place) same in omega (arith, rising_least xs (x + 1) high p risen.1 has)
 
--- so many standings were taken out of a list: `rest` has those that are left
+-- this many standings were taken out of a list: `rest` has those that are left
 abbrev pub Listed : List Standing → States → ℕ → Type 0
 Listed listed left now = (rest : List Standing) × EachState (λ values. ⊤) (λ values p. Contains rest (standing values p)) left × (now + length rest ≤ length listed)
 
@@ -113,7 +113,7 @@ pub part_tried : (P : List ℕ → ℕ → Type 0) (old new taken : States) (pas
 part_tried P old new taken true same h = some_among taken old same.1 P (h.0 refl)
 part_tried P old new taken false same h = λ m. absurd (false≢true (h.1 (some_among old taken same.0 P m)))
 
--- what was spent, where the states behind are still to be tried unless there are none
+-- what was spent, where the states that follow are still to be tried unless there are none
 abbrev pub Owing : ℕ → ℕ → List (List ℕ) → States → States → ℕ → ℕ → Type 0
 Owing each owed lists left behind old now = (((q : List ℕ) → places_at behind q ≡ None) × Counted each lists left old now) ⊎ Counted each lists left old (now + owed)
 

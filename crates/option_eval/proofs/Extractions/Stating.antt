@@ -36,7 +36,7 @@ same_or : {A : Type 0} (b : Bool) (w x y : A) → (b ≡ false → x ≡ y) → 
 same_or true w x y h = refl
 same_or false w x y h = h refl
 
--- the same behind one that differs there alone
+-- a value is put into a map that differs from what is told at this value alone
 pub get_put : {X : Type 0} (f : X → List ℕ) (m n : BTreeMap (List ℕ) X) (values : List ℕ) (w : X) (placed : List ℕ) (before : List ℕ → Option (List ℕ)) → f w ≡ placed
     → ((q : List ℕ) → bytes_eq values q ≡ false → option_map f (get (slice_cmp nat_cmp) m q) ≡ before q)
     → ((q : List ℕ) → get (slice_cmp nat_cmp) n q ≡ cond (is_at (slice_cmp nat_cmp values) q) (Some w) (get (slice_cmp nat_cmp) m q))
@@ -48,7 +48,7 @@ none_or : {A : Type 0} (b : Bool) (w x y : A) → b ≡ false → x ≡ cond b w
 none_or true w x y is h = absurd (false≢true (sym is))
 none_or false w x y is h = h
 
--- and where it was taken out
+-- a value is taken out of a map: nothing changes at another one
 pub get_taken : {X : Type 0} (f : X → List ℕ) (m n : BTreeMap (List ℕ) X) (values : List ℕ)
     → ((q : List ℕ) → get (slice_cmp nat_cmp) n q ≡ cond (is_at (slice_cmp nat_cmp values) q) None (get (slice_cmp nat_cmp) m q))
     → (q : List ℕ) → bytes_eq values q ≡ false → option_map f (get (slice_cmp nat_cmp) n q) ≡ option_map f (get (slice_cmp nat_cmp) m q)
@@ -89,7 +89,7 @@ module _ (old new : States) (values : List ℕ) (place : ℕ)
       (unwrap_or (places_at old values) [] ++ place ∷ [], refl, Contains-append_left (unwrap_or (places_at old values) []) (place ∷ []) p (subst (λ (xs : List ℕ). Contains xs p) (sym before) has))
   stays_in false q places is found p has = (places, found, has)
 
-  -- of a kind that holds of some standing
+  -- a standing of some kind, in a state after one more was added: it was there, or is the one that was added
   pub some_added : (P : List ℕ → ℕ → Type 0) → SomeState P new → SomeState P old ⊎ P values place
   some_added P (q, places, found, p, has, holds) = ⊎_elim
       (λ (before : (before : List ℕ) × (places_at old q ≡ Some before) × Contains before p). inl (q, before.0, before.1, p, before.2, holds))
@@ -105,7 +105,7 @@ module _ (old new : States) (values : List ℕ) (place : ℕ)
   some_new P holds =
       (values, unwrap_or (places_at old values) [] ++ place ∷ [], added values ∙ ap (λ (b : Bool). cond b (Some (unwrap_or (places_at old values) [] ++ place ∷ [])) (places_at old values)) (own_values values), place, Contains-push (unwrap_or (places_at old values) []) place, holds)
 
-  -- of kinds that hold of each
+  -- kinds that hold of each standing hold of each one after one more was added
   pub each_added : (K : List ℕ → Type 0) (R : List ℕ → ℕ → Type 0) → EachState K R old → K values → R values place → EachState K R new
   each_added K R each key here q places found = (
     key_of (bytes_eq values q) refl (sym (added q) ∙ found),
@@ -136,14 +136,14 @@ module _ (old new : States) (values taken : List ℕ) (was : places_at old value
       inl (same, cc)
   taken_or_left false q places is found = inr found
 
-  -- of a kind that holds of some standing
+  -- a standing of some kind, in a state before some were taken out: it was among these, or is still there
   pub some_taken : (P : List ℕ → ℕ → Type 0) → SomeState P old → ((p : ℕ) × Contains taken p × P values p) ⊎ SomeState P new
   some_taken P (q, places, found, p, has, holds) = ⊎_elim
       (λ (both : (values ≡ q) × (taken ≡ places)). inl (p, subst (λ (xs : List ℕ). Contains xs p) (sym both.1) has, subst (λ (x : List ℕ). P x p) (sym both.0) holds))
       (λ (there : cond (bytes_eq values q) None (places_at old q) ≡ Some places). inr (q, places, left q ∙ there, p, has, holds))
       (taken_or_left (bytes_eq values q) q places refl found)
 
--- no state
+-- where there is no state there is no standing of any kind
 pub some_nowhere : (P : List ℕ → ℕ → Type 0) (states : States) → ((q : List ℕ) → places_at states q ≡ None) → ¬ SomeState P states
 some_nowhere P states none (q, places, found, p, has, holds) = let h = none q in absurd (cc)
 
@@ -177,7 +177,7 @@ nowhere_among from to among none q = step (places_at from q) refl
 pub same_own : (states : States) → AreSame states states
 same_own states = (λ values places found. (places, found, λ p has. has), λ values places found. (places, found, λ p has. has))
 
--- of weaker kinds
+-- each standing is of weaker kinds, too
 pub each_weaker : (states : States) (K L : List ℕ → Type 0) (R S : List ℕ → ℕ → Type 0) → ((values : List ℕ) → K values → L values) → ((values : List ℕ) (p : ℕ) → R values p → S values p) → EachState K R states → EachState L S states
 each_weaker states K L R S key here each values places found =
     let at = each values places found in

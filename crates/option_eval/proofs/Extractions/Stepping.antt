@@ -1,4 +1,4 @@
--- One option more of a walk that leaves states behind the first extraction, one state more, and what they cost.
+-- One option more of a walk that leaves states after the first extraction, one state more, and what they cost.
 use Rattle.std.proofs.Common.{◌≡◌, ℕ, zero, suc, ◌+◌, ◌*◌, ◌≤◌, ◌⊎◌, inl, inr, ⊎_elim, Bool, true, false, cond, List, [], ◌∷◌, length, Option, Some, None, MatchBool, Contains, refl, sym, ap, subst, ◌∙◌, arith}
 use Rattle.std.specs.Prelude.{bytes_eq, ⊤}
 use Rattle.std.specs.List.Sorted.{IsPermutation}
@@ -37,7 +37,7 @@ cond_true : {A : Type 0} (b : Bool) (x y : A) → b ≡ true → cond b x y ≡ 
 cond_true true x y is = refl
 cond_true false x y is = absurd (false≢true is)
 
--- the options behind one that extracts nothing
+-- the options after one that extracts nothing
 pub behind_plain : (o : Opt) (os : List Opt) → is_extract o ≡ false → behind_extraction (o ∷ os) ≡ behind_extraction os
 behind_plain o os plain = cond_false (is_extract o) os (behind_extraction os) plain
 
@@ -65,7 +65,7 @@ module _ (means : Means) (payload : List ℕ) where
       step : (MatchesFromOne means payload (o ∷ os) values places → MatchesFromOne means payload os values next) × (MatchesFromOne means payload os values next → MatchesFromOne means payload (o ∷ os) values places)
       step = walk_step means payload o os values places next plain found
 
-  -- no place
+  -- an extraction from no place leaves the states as they are
   pub leaves_nowhere : (os : List Opt) (values places : List ℕ) (states : States) → length places ≡ 0 → Leaves means payload os values places states states
   leaves_nowhere os values places states empty = record {
     sound = λ m. inl m;
@@ -74,7 +74,7 @@ module _ (means : Means) (payload : List ℕ) where
     have = λ lists listed each before. before;
   }
 
-  -- the same places in another order
+  -- some way leads through the options from the same places in another order
   pub one_same : (os : List Opt) (values xs ys : List ℕ) → ((q : ℕ) → Contains xs q → Contains ys q) → MatchesFromOne means payload os values xs → MatchesFromOne means payload os values ys
   one_same os values xs ys up m = (m.0, up m.0 m.1, m.2)
 
@@ -98,7 +98,7 @@ sorted_same xs sorted slice next same is deduped q = (
 abbrev pub IsLeft : States → States → Type 0
 IsLeft from left = (values places : List ℕ) → places_at left values ≡ Some places → places_at from values ≡ Some places
 
--- the states that were taken out were gone on from: those behind the extraction tell whether some way leads on
+-- the states that were taken out were gone on from: those after the extraction tell whether some way leads on
 pub record GoneOnFrom (means : Means) (payload : List ℕ) (options : List Opt) (from left behind : States) : Type 0 where
   pub sound : MatchesFromSome means payload (behind_extraction options) behind → MatchesFromSome means payload options from
   pub complete : MatchesFromSome means payload options from → MatchesFromSome means payload (behind_extraction options) behind ⊎ MatchesFromSome means payload options left
@@ -115,7 +115,7 @@ module _ (means : Means) (payload : List ℕ) (options : List Opt) (from : State
   pub some_here : (left : States) (values places : List ℕ) → IsLeft from left → places_at left values ≡ Some places → MatchesFromOne means payload options values places → MatchesFromSome means payload options from
   some_here left values places within was m = (values, places, within values places was, m.0, m.1, m.2)
 
-  -- from one state more
+  -- one state more was gone on from
   pub gone_next : (left left' now new : States) (values places : List ℕ) → IsLeft from left → places_at left values ≡ Some places
       → ((q : List ℕ) → places_at left' q ≡ cond (bytes_eq values q) None (places_at left q))
       → GoneOnFrom means payload options from left now → Leaves means payload options values places now new → GoneOnFrom means payload options from left' new
@@ -131,7 +131,7 @@ module _ (means : Means) (payload : List ℕ) (options : List Opt) (from : State
     have = λ lists listed each. next.have lists listed (λ p has. ((each values places (within values places was)).1 p has).1) (before.have lists listed each);
   }
 
-  -- from fewer states behind, where none leads on that is no longer there
+  -- with fewer states after the extraction, where none leads on that is no longer there
   pub gone_fewer : (left now new : States) → AreAmong new now → (MatchesFromSome means payload (behind_extraction options) now → MatchesFromSome means payload (behind_extraction options) new)
       → GoneOnFrom means payload options from left now → GoneOnFrom means payload options from left new
   gone_fewer left now new among keeps before = record {
@@ -140,7 +140,7 @@ module _ (means : Means) (payload : List ℕ) (options : List Opt) (from : State
     have = λ lists listed each. each_among new now among (Contains lists) (λ v p. IsListed listed v p × HasValues means payload lists listed (behind_extraction options) (standing v p)) (before.have lists listed each);
   }
 
-  -- from all
+  -- all states were gone on from
   pub gone_all : (left behind : States) → ((q : List ℕ) → places_at left q ≡ None) → GoneOnFrom means payload options from left behind
       → MatchesFromSome means payload options from → MatchesFromSome means payload (behind_extraction options) behind
   gone_all left behind none h m = ⊎_elim (λ (done : MatchesFromSome means payload (behind_extraction options) behind). done)
@@ -164,7 +164,7 @@ without (y ∷ xs) x (suc k, within, is) =
           (list_cases y xs z has),
     )
 
--- so many visits a value list: `rest` has the lists whose states are left
+-- `each` visits a value list: `rest` has the lists whose states are left
 abbrev pub Counted : ℕ → List (List ℕ) → States → ℕ → ℕ → Type 0
 Counted each lists left old now = (rest : List (List ℕ)) × EachState (Contains rest) (λ values p. ⊤) left × (now + length rest * each ≤ old + length lists * each)
 
@@ -187,7 +187,7 @@ counted_next each lists left left' values places old now new was taken more befo
 pub counted_end : (each : ℕ) (lists : List (List ℕ)) (left : States) (old now : ℕ) → Counted each lists left old now → now ≤ old + length lists * each
 counted_end each lists left old now h = omega (arith, h.2)
 
--- the visits up to the first extraction and behind it are those of all options
+-- the visits up to the first extraction and after it are those of all options
 pub visits_upto : (o : Opt) (os : List Opt) (size : ℕ) → is_extract o ≡ false → cond (is_payload_option o) (size + 1) 0 + visits_of (upto_extraction os) size ≡ visits_of (upto_extraction (o ∷ os)) size
 visits_upto o os size plain =
     visits_next o (upto_extraction os) size ∙ ap (λ (rest : List Opt). visits_of (o ∷ rest) size) (sym (cond_false (is_extract o) [] (upto_extraction os) plain))
@@ -211,7 +211,7 @@ visits_split (o ∷ os) size = step (is_extract o) (visits_split os size)
     step true behind = omega (arith, visits_next o [] size, visits_next o os size, none)
     step false behind = omega (arith, visits_next o (upto_extraction os) size, visits_next o os size)
 
--- the same where the options behind are tried from each value list apart
+-- the visits up to the first extraction, and those of the options after it from each value list apart, are all
 pub apart_split : (lists : ℕ) (os : List Opt) (size : ℕ) → visits_of (upto_extraction os) size + lists * visits_apart lists (behind_extraction os) size ≡ visits_apart lists os size
 apart_split lists [] size = omega arith
 apart_split lists (o ∷ os) size = step (is_extract o) (apart_split lists os size)
@@ -236,7 +236,7 @@ pub upto_nothing : (os : List Opt) → ExtractsNothing os → upto_extraction os
 upto_nothing [] h = refl
 upto_nothing (o ∷ os) h = ap (λ (rest : List Opt). o ∷ rest) (cond_false (is_extract o) [] (upto_extraction os) h.0 ∙ upto_nothing os h.1)
 
--- the sums
+-- the visits up to the first extraction and those after it, for each of some value lists, as a sum
 pub sum_of_lists : (lists upto behind whole old mid new : ℕ) → upto + behind ≡ whole → mid ≤ old + lists * upto → new ≤ mid + lists * behind → new ≤ old + lists * whole
 sum_of_lists lists upto behind whole old mid new split first second =
     let whole_is : lists * whole ≡ lists * upto + lists * behind = ap (λ (n : ℕ). lists * n) (sym split) ∙ parts in

@@ -10,7 +10,7 @@ use Rattle.std.proofs.lemmas.List.Elements.{Contains-push, Contains-push_cases, 
 use Rattle.option_eval.specs.Sets.{IsRising, IsAscending, Gathers, IsLedTo, LeadsOnlyTo, with_if}
 use Rattle.option_eval.proofs.Sets.Rising.{contains_cases, contains_first, contains_behind, got_of_contains, rising_push, rising_high, rising_length}
 
--- the part behind the first
+-- the part after the first
 pub later_of : (place : ℕ) (later : List ℕ) → take (length (place ∷ later) - 1) (drop 1 (place ∷ later)) ≡ later
 later_of place later = take_all (length (place ∷ later) - 1) later (omega arith)
 
@@ -130,7 +130,7 @@ deduped_none sorted = record {
   latest = inl refl;
 }
 
--- facts of a list's first element, and of what is behind
+-- facts of a list's first element, and of what follows
 pub contains_head : (rest : List ℕ) → 1 ≤ length rest → Contains rest (get_or rest 0 0)
 contains_head [] some = absurd (omega arith)
 contains_head (place ∷ later) some = contains_first place later

@@ -1,4 +1,4 @@
--- Where a content stands, as its reach from its origin; and where it leads from a set of places.
+-- Where a content occurs, as its reach from its origin; and where it leads from a set of places.
 use Rattle.std.proofs.Common.{◌≡◌, ℕ, ◌+◌, ◌<◌, ◌≤◌, ⊎_elim, min, ℤ, pos, ◌+ℤ◌, ◌≤ℤ◌, Bool, true, false, not, ◌&&◌, ◌||◌, cond, List, [], ◌∷◌, length, Option, Some, None, is_some, IfSome, IsTrue, MatchBool, Contains, refl, sym, ap, subst, ◌∙◌, arith, option_map, unwrap_or}
 use Rattle.std.proofs.lemmas.Bool.{false≢true}
 use Rattle.std.proofs.lemmas.Int.{ints}
@@ -87,7 +87,7 @@ cond_false true x y is = absurd (false≢true (sym is))
 cond_false false x y is = refl
 
 module _ (means : Means) (payload values : List ℕ) (content : Content) (plain : (content.negated ≡ false) × (is_only content.fast ≡ false)) (p q : ℕ) where
-  -- a content that isn't negated leads behind where it stands
+  -- a content that isn't negated leads to the end of where it occurs
   pub content_leads : LeadsFrom means payload values (opt.Content content) p q → (i : ℕ) × StandsAt content.bytes payload (sought content (standing values p)) i × (q ≡ i + length content.bytes)
   unfolding Leads
   content_leads h =
@@ -119,7 +119,7 @@ origin_is true relative p is = absurd (false≢true (sym is))
 origin_is false relative p is = refl
 
 module _ (every : Bool) (means : Means) (payload values : List ℕ) (content : Content) (plain : (content.negated ≡ false) × (is_only content.fast ≡ false)) (places : List ℕ) where
-  -- too few bytes
+  -- a content leads nowhere where the payload has too few bytes
   pub content_none : length payload < length content.bytes → Gathers every (IsLedTo (LeadsFrom means payload values (opt.Content content)) places) []
   content_none short = record {
     sound = λ q has. absurd (omega (arith, has.1));
@@ -179,7 +179,7 @@ module _ (means : Means) (payload values : List ℕ) (content : Content) (negate
   leads_absent led = λ reached.
       (match_true content.negated _ _ negated led).0 reached.0 (within_stands content values p payload reach from_is room_is reached.0 (subst (λ (x : ℕ). IsWithin reach (length content.bytes) x reached.0) (sym origin_here) reached.1) reached.2)
 
--- where they are
+-- a negated content, where the places within whose reach it occurs nowhere were gathered
 module _ (every : Bool) (means : Means) (payload values : List ℕ) (content : Content) (negated : content.negated ≡ true) (relative : (not (is_only content.fast) && content.relative) ≡ true)
     (reach : Reach) (from_is : reach.from ≡ reach_from content values) (room_is : reach.room ≡ reach_room content values) (places next : List ℕ) where
   pub absent_gathers : ((p q : ℕ) → LeadsFrom means payload values (opt.Content content) p q → q ≡ p) → (nocase : Bool) (bytes : List ℕ) → nocase ≡ folds_case content → bytes ≡ content.bytes

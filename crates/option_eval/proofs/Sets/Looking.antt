@@ -21,7 +21,7 @@ module _ (occurs : ℕ → Type 0) (low end from : ℕ) (seen : Seen) (from_is :
     stands = λ some. inl refl;
   }
 
-  -- the bytes stand nowhere there
+  -- the bytes occur nowhere there
   pub sees_none : (new : Seen) → new.done ≡ end → new.last ≡ seen.last → seen.last ≤ low → from < end → Nowhere occurs from end → SeesOn occurs low end seen new
   sees_none new done_is last_is before more none = record {
     found = λ i over under here noted. absurd (⊎_elim
@@ -35,7 +35,7 @@ module _ (occurs : ℕ → Type 0) (low end from : ℕ) (seen : Seen) (from_is :
     stands = λ some. inl last_is;
   }
 
-  -- or first at a place
+  -- the bytes occur first at a place there
   pub sees_some : (new : Seen) (start : ℕ) → new.done ≡ start + 1 → new.last ≡ start + 1 → from ≤ start → start < end → occurs start → SeesOn occurs low end seen new
   sees_some new start done_is last_is over under here = record {
     found = λ i from_low below at noted. omega arith;
@@ -87,7 +87,7 @@ module _ (nocase : Bool) (payload bytes : List ℕ) (reach : Reach) where
       stands = λ some_last. let last = last_stands some_last in (last.0, λ p has. room_later reach.room (get_or rest 0 0) p (new.last - 1 + length bytes) (least p (contains_later rest p some has)) last.1);
     }
 
-    -- and tells whether the bytes are reached from the first of them
+    -- what was seen tells whether the bytes are reached from the first of them
     pub tells : (holds : Bool) → holds ≡ nat_le new.last low → (IsTrue holds → ¬ IsReached nocase payload bytes reach (get_or rest 0 0)) × (¬ IsReached nocase payload bytes reach (get_or rest 0 0) → IsTrue holds)
     tells true is = (
       λ yes. λ reached.

@@ -1,4 +1,4 @@
--- Where bytes stand in a part of a payload, and in the payload; with case folded, and as they are.
+-- Where bytes occur in a part of a payload, and in the payload; with case folded, and as they are.
 use Rattle.std.proofs.Common.{◌≡◌, ℕ, ◌+◌, ◌-◌, ◌<◌, ◌≤◌, true, false, List, length, take, drop, get_or, Option, Some, None, option_map, sym, ap, subst, ◌∙◌, arith, length-drop, get_or-take, get_or-drop, ⊎_elim}
 use Rattle.std.specs.Char.{to_ascii_lowercase, to_ascii_uppercase}
 use Rattle.std.specs.Str.{str_to_ascii_lowercase}
@@ -86,7 +86,7 @@ first_byte lower upper hay low end order within (Some k) h =
     } in
     (bare, ap (is_byte2 lower upper) (sym (byte_of_part hay low end k (omega arith))) ∙ h.1)
 
--- bytes stand at a place with case folded where the part there is the same with case folded
+-- bytes are at a place with case folded where the part there is the same with case folded
 module _ (payload bytes : List ℕ) (at : ℕ) (fits : at + length bytes ≤ length payload) where
   same_part : take (length (str_to_ascii_lowercase bytes)) (drop at (str_to_ascii_lowercase payload)) ≡ str_to_ascii_lowercase (take (at + length bytes - at) (drop at payload))
   same_part =
@@ -107,7 +107,7 @@ module _ (payload bytes : List ℕ) (at : ℕ) (fits : at + length bytes ≤ len
 folded_byte : (x b : ℕ) → to_ascii_lowercase x ≡ to_ascii_lowercase b → is_byte2 (to_ascii_lowercase b) (to_ascii_uppercase (to_ascii_lowercase b)) x ≡ true
 folded_byte x b same = grind (arith, nat_tests)
 
--- where bytes stand with case folded, their first letter stands in either case
+-- where bytes occur with case folded, their first letter is there in either case
 pub folded_first : (payload bytes : List ℕ) (i : ℕ) → 1 ≤ length bytes → Occurs true payload bytes i
     → Passes (is_byte2 (to_ascii_lowercase (get_or bytes 0 0)) (to_ascii_uppercase (to_ascii_lowercase (get_or bytes 0 0)))) payload i
 folded_first payload bytes i some here =
@@ -118,7 +118,7 @@ folded_first payload bytes i some here =
     folded_byte (get_or payload i 0) (get_or bytes 0 0)
     (sym (get_or-map to_ascii_lowercase payload i 0 0 sizes.0) ∙ read ∙ get_or-map to_ascii_lowercase bytes 0 0 0 (omega arith))
 
--- so where no such letter stands the bytes don't
+-- where no such letter is, the bytes occur nowhere with case folded
 pub nowhere_folded : (payload bytes : List ℕ) (lower upper : ℕ) → lower ≡ to_ascii_lowercase (get_or bytes 0 0) → upper ≡ to_ascii_uppercase lower → 1 ≤ length bytes
     → (low high : ℕ) → Nowhere (Passes (is_byte2 lower upper) payload) low high → Nowhere (Occurs true payload bytes) low high
 nowhere_folded payload bytes lower upper is-lower is-upper some low high h =

@@ -18,7 +18,7 @@ pub rising_length : (xs : List ℕ) (low high : ℕ) → IsRising low xs high �
 rising_length [] low high h = omega arith
 rising_length (x ∷ xs) low high h = omega (arith, rising_length xs (x + 1) high h.1, h.0)
 
--- an element of a list is its first or one behind
+-- an element of a list is its first or one after that
 pub contains_cases : (x : ℕ) (xs : List ℕ) (p : ℕ) → Contains (x ∷ xs) p → (p ≡ x) ⊎ Contains xs p
 contains_cases x xs p (zero, within, is) = inl (sym is)
 contains_cases x xs p (suc k, within, is) = inr (k, omega arith, is)

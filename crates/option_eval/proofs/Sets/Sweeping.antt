@@ -12,12 +12,12 @@ use Rattle.option_eval.specs.Sets.{IsRising, IsGot, Adds, Gathers, Occurs, IsHit
 use Rattle.option_eval.specs.declared.reach.Reach.{Reach}
 use Rattle.option_eval.proofs.Sets.Rising.{contains_cases, contains_first, contains_behind, rising_least, got_kept, rising_push, rising_low, rising_high}
 
--- where a window goes on: behind a place, or at its end where one place is enough
+-- where a window goes on: after a place, or at its end where one place is enough
 abbrev pub on_from : Bool → ℕ → ℕ → ℕ
 on_from every start end = cond every (start + 1) end
 
 module _ (every nocase : Bool) (payload bytes : List ℕ) where
-  -- nothing yet
+  -- nothing was added of a window that is empty yet
   pub adds_none : (low : ℕ) (old : List ℕ) → Adds every (IsHitIn nocase payload bytes low low) old old
   adds_none low old = record {
     sound = λ q has. inl has;
@@ -57,7 +57,7 @@ module _ (every nocase : Bool) (payload bytes : List ℕ) where
         (cases_lt hit.0 start))
         (cases_lt hit.0 at)
 
-  -- no further place in the window
+  -- there is no further place in the window
   pub adds_all : (low at end : ℕ) (old new : List ℕ) → Adds every (IsHitIn nocase payload bytes low at) old new → at ≤ end → Nowhere (Occurs nocase payload bytes) at end
       → Adds every (IsHitIn nocase payload bytes low end) old new
   adds_all low at end old new h order no_more = record {
@@ -222,7 +222,7 @@ apart_rising xs done low from size apart risen = by_test (nat_lt done low) refl
     by_test true is = rising_high xs 0 (done + size) (low + size) (omega arith) risen
     by_test false is = let touches : low ≤ done = grind (arith, nat_tests) in absurd (omega arith)
 
--- the places that rise, behind the next place
+-- the places that rise, after the next place
 pub rising_next : (all : Bool) (new : List ℕ) (at start end size : ℕ) → at ≤ start → start < end → IsRising 0 new (at + size) → IsRising 0 (new ++ (start + size) ∷ []) (on_from all start end + size)
 rising_next true new at start end size from below h = rising_push new 0 (at + size) (start + size) (start + 1 + size) (omega arith) (omega arith) h
 rising_next false new at start end size from below h = rising_push new 0 (at + size) (start + size) (end + size) (omega arith) (omega arith) h

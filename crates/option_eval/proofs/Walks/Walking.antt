@@ -19,12 +19,12 @@ use Rattle.option_eval.proofs.Sets.Rising.{contains_cases, contains_first}
 use Rattle.option_eval.proofs.Sets.Asking.{later_of}
 use Rattle.option_eval.proofs.Walks.Staying.{test_stays, test_free, fetched_free, sought_free}
 
--- the first option of some, and those behind it
+-- the first option of some, and those after it
 pub behind_first : {X : Type 0} (xs : List X) (x : X) → 1 ≤ length xs → x ≡ get_or xs 0 x → xs ≡ x ∷ take (length xs - 1) (drop 1 xs)
 behind_first [] x some is = absurd (omega arith)
 behind_first (y ∷ xs) x some is = ap (λ z. z ∷ xs) (sym is) ∙ ap (λ zs. x ∷ zs) (sym (take_all (length (y ∷ xs) - 1) xs (omega arith)))
 
--- no option is left
+-- where no option is left, some way leads through from any place
 pub passed_none : (means : Means) (payload : List ℕ) (options : List Opt) (values places : List ℕ) → length options < 1 → 0 < length places → MatchesFromOne means payload options values places
 passed_none means payload (o ∷ os) values places empty some = absurd (omega arith)
 passed_none means payload [] values [] empty some = absurd (omega arith)
@@ -115,7 +115,7 @@ module _ (means : Means) (payload : List ℕ) where
           next_way o os (standing values p') (standing values p') (test_free means payload values o (sym is) fixed p p' here) (again rest (subst (λ (s : Standing). MatchesFrom means payload os s) back on))
 
   module _ (o : Opt) (os : List Opt) (values places next : List ℕ) (plain : is_extract o ≡ false) where
-    -- the places behind an option serve in its stead
+    -- the places after an option serve in its stead
     pub walk_step : Gathers (needs_place os) (IsLedTo (LeadsFrom means payload values o) places) next
         → (MatchesFromOne means payload (o ∷ os) values places → MatchesFromOne means payload os values next) × (MatchesFromOne means payload os values next → MatchesFromOne means payload (o ∷ os) values places)
     walk_step found = (
@@ -136,7 +136,7 @@ module _ (means : Means) (payload : List ℕ) where
           let head = Contains-get_or next 0 0 got in
           (get_or next 0 0, head, any_place os values q (get_or next 0 0) (sym is) on)
 
-  -- no place is left
+  -- where no place is left, no way leads through
   pub passed_nowhere : (os : List Opt) (values places : List ℕ) → length places ≡ 0 → ¬ MatchesFromOne means payload os values places
   passed_nowhere os values places empty m = omega (arith, m.1.1)
 
@@ -174,7 +174,7 @@ visits_next o os size = step (is_payload_option o) (count_by is_payload_option o
     step true count = omega arith
     step false count = omega arith
 
--- what serves the options behind the first, and what they mean
+-- what serves the options after the first, and what they mean
 pub ready_behind : {X Y : Type 0} (R : X → Y → Type 0) (xs xs' : List X) (ys ys' : List Y) (x : X) (y : Y) → xs ≡ x ∷ xs' → ys ≡ y ∷ ys' → AllZip R xs ys → R x y × AllZip R xs' ys'
 ready_behind R xs xs' ys ys' x y is-x is-y h =
     let first = subst (λ zs. AllZip R zs ys) is-x h in
@@ -190,7 +190,7 @@ ready_none R (x ∷ xs) (y ∷ ys) h some empty = omega arith
 pub extracts_nothing : (options options' : List Opt) (o : Opt) → options ≡ o ∷ options' → ExtractsNothing options → (is_extract o ≡ false) × ExtractsNothing options'
 extracts_nothing options options' o is h = subst (λ (os : List Opt). ExtractsNothing os) is h
 
--- a place that isn't the first is behind it
+-- a place that isn't the first is after it
 pub left_next : (rest : List ℕ) (p : ℕ) → 1 ≤ length rest → Contains rest p → (p ≡ get_or rest 0 0 → ⊥) → Contains (take (length rest - 1) (drop 1 rest)) p
 left_next [] p some has other = absurd (omega arith)
 left_next (x ∷ rest) p some has other =

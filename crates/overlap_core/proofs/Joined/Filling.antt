@@ -43,7 +43,7 @@ filling_more whole rest piece floor done len count later out more top now within
   ];
 }
 
--- the same where the bytes are appended
+-- filling goes on where the bytes of the next piece are appended
 pub filling_appended : (whole rest : List Piece) (piece : Piece) (floor done len count : ℕ) (bytes : List ℕ) (top : ℕ) → IsFilling whole (piece ∷ rest) floor done len bytes top → done ≡ length bytes → done < len → piece.start ≡ floor + done → count ≡ min (length piece.bytes) (len - done)
     → IsFilling whole rest floor (done + count) len (bytes ++ take count piece.bytes) top
 filling_appended whole rest piece floor done len count bytes top now passed within here counted =

@@ -51,7 +51,7 @@ joined_run byte low from start bytes run is meets holds = record {
   ends = inl (omega (arith, meets, length-append run.bytes bytes));
 }
 
--- where a run of its own begins behind the last
+-- where a run of its own begins after the last
 apart_none : (byte : ℕ → Option ℕ) (low from start : ℕ) (run : Run) → IsFirstRun byte low from run → from ≤ start → NoByte byte from start → NoByte byte (end_of_run run) from → (end_of_run run ≡ start → ⊥) → byte (end_of_run run) ≡ None
 apart_none byte low from start run is order none after apart = elim (cases_lt (end_of_run run) from) as (λ _. byte (end_of_run run) ≡ None) [
   | inl before ↦ after (end_of_run run) (omega arith) before
@@ -109,7 +109,7 @@ AreRuns-wider byte low from high (run ∷ runs) order none are = (
   AreRuns-wider byte (run.start + length run.bytes) from high runs order none are.1,
 )
 
--- the same runs of bytes that are the same
+-- the runs of one source of bytes are those of another that has the same byte at each place from `low` on
 pub AreRuns-along : (f g : ℕ → Option ℕ) (low high : ℕ) (runs : List Run) → ((place : ℕ) → low ≤ place → f place ≡ g place) → AreRuns f low high runs → AreRuns g low high runs
 AreRuns-along f g low high [] same are = λ place from below. sym (same place from) ∙ are place from below
 AreRuns-along f g low high (run ∷ runs) same are = (
@@ -200,7 +200,7 @@ pub with_run-first : (runs left : List Run) (start : ℕ) (bytes : List ℕ) →
 with_run-first runs [] start bytes is none = ap (λ rs. with_run rs start bytes) (sym is)
 with_run-first runs (run ∷ left) start bytes is none = absurd (omega (arith, none))
 
--- at the end of the pieces, and at a piece that begins behind the limit
+-- at the end of the pieces, and at a piece that begins after the limit
 pub joining_out : (whole rest : List Piece) (runs : List Run) (floor below top : ℕ) → IsJoining whole rest runs floor below top → rest ≡ [] → AreRuns (byte_in whole) floor below runs
 joining_out whole rest runs floor below top now none = joining_ends whole rest runs floor below top now (λ place under low row from. ap (λ ps. kept_in ps place) none)
 

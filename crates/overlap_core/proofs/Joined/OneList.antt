@@ -47,7 +47,7 @@ one_start byte low high run other is that =
       ]
     ]
 
--- and are as long
+-- two first runs that begin at one place are equally long
 one_length : (byte : ℕ → Option ℕ) (low high : ℕ) (run other : Run) → IsFirstRun byte low high run → IsFirstRun byte low high other → run.start ≡ other.start → length run.bytes ≡ length other.bytes
 one_length byte low high run other is that same =
     elim (cases_lt (length run.bytes) (length other.bytes)) as (λ _. length run.bytes ≡ length other.bytes) [
@@ -58,7 +58,7 @@ one_length byte low high run other is that same =
       ]
     ]
 
--- and hold the same bytes
+-- two first runs that begin at one place hold the same bytes
 one_byte : (byte : ℕ → Option ℕ) (low high : ℕ) (run other : Run) → IsFirstRun byte low high run → IsFirstRun byte low high other → run.start ≡ other.start → (k : ℕ) → k < length run.bytes → k < length other.bytes → get_or run.bytes k 0 ≡ get_or other.bytes k 0
 one_byte byte low high run other is that same k within beyond =
     let place : run.start + k ≡ other.start + k = ap (λ n. n + k) same in

@@ -10,7 +10,7 @@ use Rattle.overlap_core.specs.Rows.{raised, right_part}
 use Rattle.overlap_core.specs.Runs.{AppendsRuns, AreRuns}
 use Rattle.overlap_core.proofs.Joined.Joining.{IsJoining, joining-begins, joining_more, joining_out, joining_past, make_run}
 
--- where the pieces that are left begin at the limit or behind it, or there are none
+-- where the pieces that are left begin at the limit or after it, or there are none
 joining_stops : (whole rest : List Piece) (runs : List Run) (floor below top : ℕ) → IsJoining whole rest runs floor below top → FirstFrom below rest → AreRuns (byte_in whole) floor below runs
 joining_stops whole [] runs floor below top now from = joining_out whole [] runs floor below top now refl
 joining_stops whole (piece ∷ rest) runs floor below top now from = joining_past whole (piece ∷ rest) rest piece runs floor below top now refl from
@@ -22,7 +22,7 @@ first-run piece rest floor below top row order ends from =
     let added : run_of piece ∷ [] ≡ with_run [] piece.start (take (below - piece.start) piece.bytes) = ap (λ bs. make_run piece.start bs ∷ []) (sym whole) in
     joining_stops (piece ∷ rest) rest (run_of piece ∷ []) floor below top (joining_more (piece ∷ rest) rest piece [] (run_of piece ∷ []) floor below top (joining-begins (piece ∷ rest) floor below top row order) under added) from
 
--- the runs, where the first piece ends at the limit or before it and the next begins there or behind
+-- the runs, where the first piece ends at the limit or before it and the next begins there or after
 pub first-runs : (pieces : List Piece) (piece : Piece) (rest : List Piece) (below : ℕ) (old new : List Run) → pieces ≡ piece ∷ rest → piece_end piece ≤ below → FirstFrom below rest → new ≡ old ++ run_of piece ∷ []
     → (floor top : ℕ) → IsRow floor pieces top → floor ≤ below → AppendsRuns (byte_in pieces) floor below old new
 first-runs pieces piece rest below old new is ends from added floor top row order = (
@@ -31,7 +31,7 @@ first-runs pieces piece rest below old new is ends from added floor top row orde
   subst (λ ps. AreRuns (byte_in ps) floor below (run_of piece ∷ [])) (sym is) (first-run piece rest floor below top (subst (λ ps. IsRow floor ps top) is row) order ends from),
 )
 
--- and what is left of the pieces is left of those behind it
+-- where the first piece ends at the limit or before it, what is left of all pieces is left of those after it
 pub first-raised : (below : ℕ) (pieces : List Piece) (piece : Piece) (rest : List Piece) → pieces ≡ piece ∷ rest → piece_end piece ≤ below → raised below pieces ≡ raised below rest
 first-raised below pieces piece rest is ends =
     let test : nat_le (piece_end piece) below ≡ true = grind (arith, nat_tests) in
@@ -47,12 +47,12 @@ first-out pieces front left taken piece rest n m is at found out =
     let same : taken ≡ piece = cc in
     (same, ap (λ (p : Pieces Piece). p.list) out ∙ ap (λ ps. remove ps front.place) list ∙ ap (remove (piece ∷ rest)) place)
 
--- no runs stand before those that are appended
+-- where there are no old runs, the new ones are all runs
 pub no_runs : (old runs : List Run) → length old ≡ 0 → runs ≡ old ++ runs
 no_runs [] runs none = refl
 no_runs (run ∷ old) runs none = absurd (omega (arith, none))
 
--- the first of the pieces behind
+-- where the first of the pieces that are left begins at the limit or after it, or there is none
 pub first-none : (below : ℕ) (rest : List Piece) → rest ≡ [] → FirstFrom below rest
 first-none below rest none = subst (FirstFrom below) (sym none) tt
 

@@ -1,4 +1,4 @@
--- A segment behind all pieces, and the room that stands for a segment.
+-- A segment after all pieces, and the room that there is for a segment.
 use Rattle.std.proofs.Common.{◌≡◌, ℕ, ◌<◌, ◌≤◌, List, [], ◌∷◌, ◌++◌, Option, Some, true, cond, nat_lt, length, max, ap, sym, subst, ◌∙◌, append-nil, arith}
 use Rattle.std.specs.Option.{ForSome, option_map}
 use Rattle.std.proofs.lemmas.Bool.Decides.{nat_tests}
@@ -36,7 +36,7 @@ filled : (new : Segment) (low : ℕ) → low ≡ new.start → 0 < length new.by
 filled new low here some =
     ap (λ n. gap_piece new n (end_of new)) here ∙ ap (λ b. cond b (part_of new new.start (end_of new) ∷ []) []) (less new.start (end_of new) (omega (arith, some)))
 
--- laying a segment behind all pieces appends it
+-- laying a segment after all pieces appends it
 pub laid_behind : (preference : Preference) (new : Segment) (floor top : ℕ) (old laid_over : List Piece) → IsRow floor old top → top ≤ new.start → 0 < length new.bytes → laid_over ≡ old ++ part_of new new.start (end_of new) ∷ []
     → IsLaidOver preference new floor old laid_over
 laid_behind preference new floor top old laid_over row behind some is =
@@ -57,7 +57,7 @@ laid_behind preference new floor top old laid_over row behind some is =
 pub room_behind : (floor top : ℕ) (bounds : Bounds) (pieces : Pieces Piece) (buffers : Buffers) (buffer : List ℕ) → buffers ≡ Behind buffer → IsRoomFor floor top bounds pieces buffers → IsRoomBehind top bounds pieces buffer
 room_behind floor top bounds pieces buffers buffer is room = subst (λ (b : Buffers). IsRoomFor floor top bounds pieces b) is room
 
--- the room that stands is for the segment that was asked for
+-- the room that there is was made for the segment that comes
 pub asked : (queue : Inside) (now : QueueState) (room : Room) (new : Segment) → state_of queue ≡ now → queue.room ≡ Some room → now.room ≡ Some (bounds_of new) → room.bounds ≡ bounds_of new
 asked queue now room new view is wanted =
     let seen : option_map (λ (r : Room). r.bounds) queue.room ≡ now.room = ap (λ (s : QueueState). s.room) view in

@@ -17,7 +17,7 @@ gap_size-none low high order = let fails : nat_lt low high ≡ false = grind (ar
 gap_piece-none : (new : Segment) (low high : ℕ) → high ≤ low → gap_piece new low high ≡ []
 gap_piece-none new low high order = let fails : nat_lt low high ≡ false = grind (arith, nat_tests) in ap (λ b. cond b (part_of new low high ∷ []) []) fails
 
--- behind the limit there is no gap
+-- at the limit and after it there is no gap
 gap_sizes-none : (low high top : ℕ) (rest : List Piece) → high ≤ low → IsRow low rest top → gap_sizes low high rest ≡ []
 gap_sizes-none low high top [] order row = gap_size-none low high order
 gap_sizes-none low high top (piece ∷ rest) order row =
@@ -40,7 +40,7 @@ overlaid-past preference new piece past =
     not_all true false c is = refl
     not_all false b c is = refl
 
--- behind its end a segment changes nothing
+-- after its end a segment changes nothing
 pub laid-past : (preference : Preference) (new : Segment) (low top : ℕ) (rest : List Piece) → end_of new ≤ low → IsRow low rest top → laid preference new low rest ≡ rest
 laid-past preference new low top [] order row = gap_piece-none new low (end_of new) order
 laid-past preference new low top (piece ∷ rest) order row =
@@ -78,7 +78,7 @@ buffers_more low high top pieces on moved next old new whole walk is tells goes 
 pub buffers_end : (low high top : ℕ) (pieces : Pieces Piece) (old new whole : List ℕ) (walk : IsWalk pieces low top (λ later. old ++ gap_sizes low high later ≡ whole)) → NextBelow walk.rest high None → new ≡ old ++ gap_size low high → new ≡ whole
 buffers_end low high top pieces old new whole walk is sized = sized ∙ ap (λ s. old ++ s) (sym (gap_sizes-end low high top walk.rest is walk.row)) ∙ walk.holds
 
--- a list stands between two parts only
+-- where a list is between two parts, only its list and its place count
 pub stands-front : (pieces : Pieces Piece) (front rest other later : List Piece) → StandsAt pieces front rest → StandsAt pieces other later → front ≡ other
 stands-front pieces front rest other later one two = sym (take_at front rest pieces.place (sym one.place)) ∙ ap (take pieces.place) (sym one.list ∙ two.list) ∙ take_at other later pieces.place (sym two.place)
 

@@ -58,7 +58,7 @@ gap-row new low high top pieces from to row = elim (cases_lt low high) as (λ _.
       subst (λ b. IsRow low (cond b (part_of new low high ∷ []) [] ++ pieces) top) (sym test) (IsRow-lower (max low high) low top pieces (omega arith) row)
 ]
 
--- the piece that stands where both have bytes, by cases
+-- the piece that is kept where both have bytes, by cases
 abbrev IsOverlaid : Preference → Segment → Piece → Piece → Type 0
 IsOverlaid preference new piece over = (over.start ≡ piece.start) × (length over.bytes ≡ length piece.bytes)
     × ((place : ℕ) → piece.start ≤ place → place < piece_end piece → Some (kept_of place over) ≡ kept_after preference place (Some (kept_of place piece)) new)
@@ -129,7 +129,7 @@ laid-row preference new low top (piece ∷ rest) from row cut =
     gap-row new low (min piece.start (end_of new)) (max top (end_of new)) (over ∷ laid preference new (piece_end piece) rest) from (omega arith)
     (omega (arith, is.0, row.0), omega (arith, is.1, row.1), subst (λ n. IsRow n (laid preference new (piece_end piece) rest) (max top (end_of new))) ends later)
 
--- and tell what stands once the segment has come
+-- the pieces with a segment laid over them tell what is kept once it has come
 pub laid-tells : (preference : Preference) (new : Segment) (low top : ℕ) (rest : List Piece) (place : ℕ) → new.start ≤ low → IsRow low rest top → IsCutAt (end_of new) rest → low ≤ place
     → kept_in (laid preference new low rest) place ≡ kept_after preference place (kept_in rest place) new
 laid-tells preference new low top [] place from row cut here =

@@ -1,4 +1,4 @@
--- Moves and edits of a list that stands between two parts of it.
+-- Moves and edits of a list whose place is between two parts of it.
 use Rattle.std.proofs.Common.{◌≡◌, ℕ, ◌+◌, ◌-◌, ◌<◌, ◌≤◌, List, [], ◌∷◌, ◌++◌, Option, Some, None, Bool, true, false, IsTrue, ◌↔◌, ◌&&◌, cond, nat_lt, zero, length, drop, suc, insert, remove, slice_get, OnErr, OnOk, OnSome, Result, Ok, Err, if◌then◌else◌, refl, ap, sym, subst, ◌∙◌, append_assoc, length-append, arith, inl, inr, ◌⊎◌}
 use Rattle.std.proofs.lemmas.Bool.{cases_lt}
 use Rattle.std.proofs.lemmas.List.{take_at, drop_at}
@@ -32,7 +32,7 @@ remove-stands pieces front rest piece stands = ap (λ xs. remove xs pieces.place
 pub insert-stands : (pieces : Pieces Piece) (front rest : List Piece) (piece : Piece) → StandsAt pieces front rest → insert pieces.list pieces.place piece ≡ front ++ piece ∷ rest
 insert-stands pieces front rest piece stands = ap (λ xs. insert xs pieces.place piece) stands.list ∙ ap (λ n. insert (front ++ rest) n piece) stands.place ∙ insert-at front piece rest
 
--- one piece is on the other side of the place
+-- after a step back one piece is on the other side of the place
 pub stands-back : (pieces back : Pieces Piece) (front rest : List Piece) (last : Piece) → StandsAt pieces (front ++ last ∷ []) rest → back.list ≡ pieces.list → back.place ≡ pieces.place - 1 → StandsAt back front (last ∷ rest)
 stands-back pieces back front rest last stands list place = record {
   list = list ∙ stands.list ∙ append_assoc front (last ∷ []) rest;
@@ -52,11 +52,11 @@ parts-behind at piece behind = let fails : (nat_lt piece.start at && nat_lt at (
 pub parts-before : (at : ℕ) (piece : Piece) → piece_end piece ≤ at → parts at piece ≡ piece ∷ []
 parts-before at piece before = let fails : (nat_lt piece.start at && nat_lt at (piece_end piece)) ≡ false = grind (arith, nat_tests) in ap (λ b. cond b (left_part at piece ∷ right_part at piece ∷ []) (piece ∷ [])) fails
 
--- and one that it does
+-- a piece that a place parts
 pub parts-inside : (at : ℕ) (piece : Piece) → piece.start < at → at < piece_end piece → parts at piece ≡ left_part at piece ∷ right_part at piece ∷ []
 parts-inside at piece from to = let holds : (nat_lt piece.start at && nat_lt at (piece_end piece)) ≡ true = grind (arith, nat_tests) in ap (λ b. cond b (left_part at piece ∷ right_part at piece ∷ []) (piece ∷ [])) holds
 
--- pieces that begin behind a place are not cut there
+-- pieces that begin at a place or after it are not cut there
 pub cut_row-behind : (at : ℕ) (pieces : List Piece) → BeginFrom at pieces → cut_row at pieces ≡ pieces
 cut_row-behind at [] begin = refl
 cut_row-behind at (piece ∷ pieces) begin = ap (λ ps. ps ++ cut_row at pieces) (parts-behind at piece begin.0) ∙ ap (λ ps. piece ∷ ps) (cut_row-behind at pieces begin.1)
@@ -114,7 +114,7 @@ index_from at [] rest k piece below found from = omega arith
 index_from at (first ∷ front) rest zero piece below found from = let same : first ≡ piece = cc in absurd (omega (arith, ap (λ (p : Piece). p.start) same, below.0))
 index_from at (first ∷ front) rest (suc k) piece below found from = omega (arith, index_from at front rest k piece below.1 found from)
 
--- a walk that stands before pieces in a row, of which a fact holds
+-- a walk whose place is before pieces in a row, of which a fact holds
 pub record IsWalk (pieces : Pieces Piece) (low top : ℕ) (fact : List Piece → Type 0) : Type 0 where
   pub front : List Piece
   pub rest : List Piece
@@ -187,14 +187,14 @@ uncut at pieces back front rest last piece stands is found whole =
     let last_whole : parts at last ≡ last ∷ [] = subst (λ (p : Piece). parts at p ≡ p ∷ []) same whole in
     here.list ∙ ap (λ ps. front ++ (ps ++ rest)) (sym last_whole)
 
--- there is a piece before the place
+-- with pieces before the place, a step back finds one
 pub some_before : (pieces back : Pieces Piece) (front rest : List Piece) (last : Piece) (found : Option Piece) → StandsAt pieces (front ++ last ∷ []) rest → back ≡ listed pieces.list (pieces.place - 1) pieces.spare
     → found ≡ slice_get back.list back.place → found ≡ None → ⊥
 some_before pieces back front rest last found stands is value none =
     let here = stands-back pieces back front rest last stands (ap (λ (p : Pieces Piece). p.list) is) (ap (λ (p : Pieces Piece). p.place) is) in
     let clash : None ≡ Some last = sym none ∙ value ∙ slice_get-stands back front rest last here in cc
 
--- where it is cut
+-- the list where the piece before the place is cut
 pub cut_last : (at : ℕ) (pieces back removed once twice : Pieces Piece) (taken : Option Piece) (piece left right : Piece) (front rest : List Piece) (last : Piece) (m n : ℕ) → StandsAt pieces (front ++ last ∷ []) rest
     → back ≡ listed pieces.list (pieces.place - 1) pieces.spare → Some piece ≡ slice_get back.list back.place → taken ≡ slice_get back.list back.place
     → OnSome taken (removed ≡ listed (remove back.list back.place) back.place (back.spare + 1)) → once ≡ listed (insert removed.list removed.place right) removed.place m → twice ≡ listed (insert once.list once.place left) once.place n

@@ -26,7 +26,7 @@ kept_in-ahead piece pieces place ahead = let fails : has_place piece place ≡ f
 pub kept_in-behind : (piece : Piece) (pieces : List Piece) (place : ℕ) → piece_end piece ≤ place → kept_in (piece ∷ pieces) place ≡ kept_in pieces place
 kept_in-behind piece pieces place behind = let fails : has_place piece place ≡ false = grind (arith, nat_tests) in ap (λ b. cond b (Some (kept_of place piece)) (kept_in pieces place)) fails
 
--- nothing before and behind a row
+-- a row tells nothing of places before it and after it
 pub kept_in-before_row : (low high : ℕ) (pieces : List Piece) (place : ℕ) → IsRow low pieces high → place < low → kept_in pieces place ≡ None
 kept_in-before_row low high [] place row before = refl
 kept_in-before_row low high (piece ∷ pieces) place row before =
@@ -41,7 +41,7 @@ kept_in-behind_row low high [] place row behind = refl
 kept_in-behind_row low high (piece ∷ pieces) place row behind =
     kept_in-behind piece pieces place (let later = end-below (piece_end piece) high pieces row.2 in omega (arith, later)) ∙ kept_in-behind_row (piece_end piece) high pieces place row.2 behind
 
--- two rows, one behind the other
+-- two rows, one after the other
 pub IsRow-append : (low mid high : ℕ) (front rest : List Piece) → IsRow low front mid → IsRow mid rest high → IsRow low (front ++ rest) high
 IsRow-append low mid high [] rest before behind = IsRow-lower mid low high rest before behind
 IsRow-append low mid high (piece ∷ front) rest before behind = (before.0, before.1, IsRow-append (piece_end piece) mid high front rest before.2 behind)
@@ -123,7 +123,7 @@ cut_row-tells at (piece ∷ pieces) place = elim (data_inside at piece) as (λ _
   | inr whole ↦ ap (λ ps. kept_in (ps ++ cut_row at pieces) place) whole ∙ kept_in-cons piece (cut_row at pieces) pieces place (cut_row-tells at pieces place)
 ]
 
--- and keeps a row
+-- pieces in a row are in a row when they are cut
 pub cut_row-row : (at low high : ℕ) (pieces : List Piece) → IsRow low pieces high → IsRow low (cut_row at pieces) high
 cut_row-row at low high [] row = row
 cut_row-row at low high (piece ∷ pieces) row = elim (data_inside at piece) as (λ _. IsRow low (parts at piece ++ cut_row at pieces) high) [
@@ -140,7 +140,7 @@ cut_row-row at low high (piece ∷ pieces) row = elim (data_inside at piece) as 
 pub cut_row-recut : (at low high : ℕ) (pieces : List Piece) → IsRow low pieces high → IsRecut low high pieces (cut_row at pieces)
 cut_row-recut at low high pieces row = record { row = cut_row-row at low high pieces row; same = cut_row-tells at pieces }
 
--- it is cut there
+-- pieces that are cut at a place are cut there
 pub cut_row-cut : (at : ℕ) (pieces : List Piece) → IsCutAt at (cut_row at pieces)
 cut_row-cut at [] = tt
 cut_row-cut at (piece ∷ pieces) = elim (cases_lt piece.start at) as (λ _. IsCutAt at (parts at piece ++ cut_row at pieces)) [
@@ -154,7 +154,7 @@ cut_row-cut at (piece ∷ pieces) = elim (cases_lt piece.start at) as (λ _. IsC
   | inr behind ↦ let same : IsCutAt at (piece ∷ cut_row at pieces) = (λ below. absurd (omega (arith, below, behind)), cut_row-cut at pieces) in subst (λ ps. IsCutAt at (ps ++ cut_row at pieces)) (sym (parts-behind at piece behind)) same
 ]
 
--- and stays cut elsewhere
+-- pieces that are cut at one place stay cut there when they are cut at another
 pub cut_row-keeps : (at other : ℕ) (pieces : List Piece) → IsCutAt other pieces → IsCutAt other (cut_row at pieces)
 cut_row-keeps at other [] is = tt
 cut_row-keeps at other (piece ∷ pieces) is = elim (data_inside at piece) as (λ _. IsCutAt other (parts at piece ++ cut_row at pieces)) [

@@ -20,7 +20,7 @@ use Rattle.overlap_core.proofs.Segments.Choosing.{chosen_segment-first, chosen_s
 
 -- ---- what is kept came
 
--- what holds of two segments holds of the one that stands
+-- what holds of two segments holds of the stronger
 stronger-holds : (P : Segment → Type 0) (preference : Preference) (old new : Segment) → P old → P new → P (stronger preference old new)
 stronger-holds P preference old new this that = elim (wins preference (bounds_of old) (bounds_of new)) as (λ b. P (cond b new old)) [ true ↦ that | false ↦ this ]
 
@@ -132,7 +132,7 @@ pub first-kept : (segments : List Segment) (place : ℕ) → chosen_byte First s
 unfolding chosen_byte
 first-kept segments place = ap (option_map (byte_at place)) (chosen_segment-first segments place)
 
--- under Last, of segments that are given latest first, the first that covers the place stands
+-- under Last, of segments that are given latest first, the first that covers the place is kept there
 latest : (recent : List Segment) (place : ℕ) → chosen_segment Last (reverse recent) place ≡ find (λ segment. covers segment place) recent
 latest [] place = chosen_segment-none Last place
 latest (new ∷ earlier) place =

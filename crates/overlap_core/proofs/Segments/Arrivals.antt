@@ -8,7 +8,7 @@ use Rattle.overlap_core.specs.Segments.{Segment}
 use Rattle.overlap_core.specs.Pieces.{Kept, kept_at}
 use Rattle.overlap_core.specs.Overlap.{bounds_of, byte_at, chosen_byte, chosen_segment, covers, is_covered, standing, stronger, wins}
 
--- what is kept of the one of two that stands, where there may be no older one
+-- what is kept of the stronger of two, where there may be no older one
 abbrev pub stronger_kept : Preference → Option Kept → Kept → Kept
 stronger_kept preference None new = new
 stronger_kept preference (Some old) new = if wins preference old.whole new.whole then new else old
@@ -17,7 +17,7 @@ stronger_kept preference (Some old) new = if wins preference old.whole new.whole
 abbrev pub kept_after : Preference → ℕ → Option Kept → Segment → Option Kept
 kept_after preference place kept segment = if covers segment place then Some (stronger_kept preference kept (kept_at place segment)) else kept
 
--- the one of two segments that stands, where there may be no older one
+-- the stronger of two segments, where there may be no older one
 abbrev pub standing_after : Preference → Option Segment → Segment → Segment
 standing_after preference None new = new
 standing_after preference (Some old) new = stronger preference old new
@@ -37,14 +37,14 @@ filter-snoc_left_out : {A : Type 0} (test : A → Bool) (xs : List A) (x : A) �
 filter-snoc_left_out test [] x fails = ap (λ b. cond b (x ∷ []) []) fails
 filter-snoc_left_out test (y ∷ ys) x fails = ap (λ rest. cond (test y) (y ∷ rest) rest) (filter-snoc_left_out test ys x fails)
 
--- a new segment that covers the place is measured against the one that stands there
+-- a new segment that covers the place is measured against the one that is chosen there
 pub chosen_segment-covered : (preference : Preference) (segments : List Segment) (new : Segment) (place : ℕ) → covers new place ≡ true → chosen_segment preference (segments ++ new ∷ []) place ≡ Some (standing_after preference (chosen_segment preference segments place) new)
 unfolding chosen_segment
 chosen_segment-covered preference segments new place covered =
     ap (standing preference) (filter-snoc_kept (λ segment. covers segment place) segments new covered)
     ∙ standing-snoc preference (filter (λ segment. covers segment place) segments) new
 
--- one that doesn't cover the place changes nothing there
+-- a segment that doesn't cover the place changes nothing there
 pub chosen_segment-uncovered : (preference : Preference) (segments : List Segment) (new : Segment) (place : ℕ) → covers new place ≡ false → chosen_segment preference (segments ++ new ∷ []) place ≡ chosen_segment preference segments place
 unfolding chosen_segment
 chosen_segment-uncovered preference segments new place uncovered =
@@ -89,7 +89,7 @@ kept-by_cases preference segments new place true covered =
 kept-by_cases preference segments new place false uncovered =
     ap (option_map (kept_at place)) (chosen_segment-uncovered preference segments new place uncovered)
 
--- what is kept of the segment that stands, once one more segment has come
+-- what is kept of the chosen segment, once one more segment has come
 pub kept_after-snoc : (preference : Preference) (segments : List Segment) (new : Segment) (place : ℕ) →
     option_map (kept_at place) (chosen_segment preference (segments ++ new ∷ []) place) ≡ kept_after preference place (option_map (kept_at place) (chosen_segment preference segments place)) new
 kept_after-snoc preference segments new place = kept-by_cases preference segments new place (covers new place) refl

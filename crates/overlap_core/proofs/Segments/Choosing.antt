@@ -1,4 +1,4 @@
--- Laws of the chosen bytes, for the crates that stand on them.
+-- Laws of the chosen bytes, for the crates that build on them.
 use Rattle.std.proofs.Common.{◌≡◌, ℕ, ◌<◌, Bool, true, false, cond, ◌||◌, List, [], ◌∷◌, ◌++◌, Option, Some, None, IsSome, filter, fold, find, get_or, refl, ap, sym, ◌∙◌, arith}
 use Rattle.std.specs.Option.{option_map}
 use Rattle.std.proofs.lemmas.Bool.Decides.{nat_tests}
@@ -34,7 +34,7 @@ standing-first test (segment ∷ later) =
       | false ↦ standing-first test later
     ]
 
--- under First the first segment that covers a place stands there
+-- under First the first segment that covers a place is chosen there
 pub chosen_segment-first : (segments : List Segment) (place : ℕ) → chosen_segment First segments place ≡ find (λ segment. covers segment place) segments
 unfolding chosen_segment
 chosen_segment-first segments place = standing-first (λ segment. covers segment place) segments
@@ -43,7 +43,7 @@ after_last : (old : Option Segment) (new : Segment) → standing_after Last old 
 after_last None new = refl
 after_last (Some old) new = refl
 
--- under Last the newest segment stands at every place that it covers
+-- under Last the newest segment is chosen at every place that it covers
 pub chosen_segment-last : (segments : List Segment) (new : Segment) (place : ℕ) → covers new place ≡ true → chosen_segment Last (segments ++ new ∷ []) place ≡ Some new
 chosen_segment-last segments new place covered = chosen_segment-covered Last segments new place covered ∙ ap Some (after_last (chosen_segment Last segments place) new)
 

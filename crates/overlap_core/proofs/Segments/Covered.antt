@@ -22,7 +22,7 @@ none_from_test : {A : Type 0} (found : Option A) → is_some found ≡ false →
 none_from_test None is = refl
 none_from_test (Some x) is = cc
 
--- no byte stands at a place that is not covered
+-- no byte is chosen at a place that is not covered
 pub chosen_byte-uncovered : (preference : Preference) (segments : List Segment) (place : ℕ) → is_covered segments place ≡ false → chosen_byte preference segments place ≡ None
 chosen_byte-uncovered preference segments place uncovered =
     none_from_test (chosen_byte preference segments place) (chosen_byte-is_some preference segments place ∙ uncovered)

@@ -21,7 +21,7 @@ Any-cons P x xs found = (suc found.0, found.1, omega (arith, found.2), found.3, 
 from_max : (place floor end : ℕ) → place ≡ max floor end → (place ≡ floor) ⊎ (end ≡ place)
 from_max place floor end is = grind arith
 
--- the same by recursion
+-- the greatest end is that of the folded segments, by recursion
 greatest : (floor : ℕ) (segments : List Segment) → IsCoveredEnd floor segments (fold (λ most segment. max most (end_of segment)) floor segments)
 greatest floor [] = record { from_floor = omega arith; from_ends = All-nil (λ segment. end_of segment ≤ floor); reached = inl refl }
 greatest floor (first ∷ later) =
@@ -39,12 +39,12 @@ greatest floor (first ∷ later) =
       ];
     }
 
--- it is the greatest of the floor and the ends
+-- the covered end is the greatest of the floor and the ends
 pub covered_end-is_greatest : (floor : ℕ) (segments : List Segment) → IsCoveredEnd floor segments (covered_end floor segments)
 unfolding covered_end
 covered_end-is_greatest floor segments = greatest floor segments
 
--- the same of a number that is this end
+-- a number that is the covered end is the greatest of the floor and the ends
 pub covered_end-is : (floor : ℕ) (segments : List Segment) (place : ℕ) → place ≡ covered_end floor segments → IsCoveredEnd floor segments place
 covered_end-is floor segments place is = subst (λ (n : ℕ). IsCoveredEnd floor segments n) (sym is) (covered_end-is_greatest floor segments)
 

@@ -1,4 +1,4 @@
--- A capture that is made, as a savefile: its head, so many records, and a clean ending.
+-- A capture that is made, as a savefile: its head, as many records as are asked for, and a clean ending.
 use Rattle.std.proofs.Common.{◌≡◌, ℕ, zero, suc, ◌+◌, ◌^◌, ◌<◌, ◌≤◌, Bool, true, false, List, [], ◌++◌, Ok, length, drop, refl, ap, subst, sym, ◌∙◌, arith, append_assoc, length-append, ◌==◌}
 use Rattle.std.specs.Prelude.{codes, if◌then◌else◌}
 use Rattle.std.proofs.lemmas.List.{length-drop, drop_at}
@@ -13,7 +13,7 @@ use Rattle.pcap_input.proofs.Laws.{bytes_stand, head_of-append, next_of_header, 
 use Rattle.pcap_input.proofs.Made.Making.{text-short}
 use Rattle.pcap_input.proofs.Records.{records_left-ends, records_left-stands}
 
--- ---- its head
+-- ---- the head of a made capture
 
 head_of_header : head_of header_bytes ≡ Ok made_head
 unfolding head_of head_behind head_with number_at
@@ -74,7 +74,7 @@ made_short traffic = by_draw (draw 4 traffic.draws.state == 0) refl
     by_draw true is = rw is (datagram_short (with_state traffic (step traffic.draws.state)))
     by_draw false is = rw is (segment_short (with_state traffic (step traffic.draws.state)))
 
--- ---- their records stand
+-- ---- the records of a made capture are whole
 
 captured : (millis size : ℕ) → size < 2 ^ 32 → captured_length made_head (record_fields millis size) ≡ size
 unfolding captured_length number_at record_fields
@@ -109,7 +109,7 @@ records_whole (suc count) number place millis traffic few =
       clean = ap (λ (cut : Cut Record CaptureFault). cut.ending) is ∙ later.clean;
     }
 
--- behind the file header so many records stand, up to a clean ending
+-- after the file header come as many records as were asked for, up to a clean ending
 pub made_cut-whole : (seed count : ℕ) → count ≤ most_records → IsWhole count (made_cut seed count)
 unfolding generated capture_of
 made_cut-whole seed count few =

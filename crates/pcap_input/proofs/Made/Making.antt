@@ -94,7 +94,7 @@ made-datagram traffic behind drawn first frame drawn_is first_is none is =
     let zero_drawn : (draw 4 traffic.draws.state == 0) ≡ true = eq-eqb _ _ (sym drawn_is ∙ none) in
     rw zero_drawn (ap (λ s. made_datagram (with_state traffic s)) (sym first_is) ∙ is)
 
--- and the others are segments
+-- the frames that are no datagrams are segments
 pub made-segment : (traffic behind : Traffic) (drawn first : ℕ) (frame : List ℕ)
     → drawn ≡ draw 4 traffic.draws.state
     → first ≡ step traffic.draws.state

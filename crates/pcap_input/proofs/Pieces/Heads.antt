@@ -74,7 +74,7 @@ not_failed_by (Err TooMany) is failed = absurd is
 not_failed_by (Err Failed) is failed = absurd is
 not_failed_by (Err NoMemory) is failed = absurd is
 
--- and never that the host failed
+-- a head is never refused because the host failed
 pub head_of_not_failed : (bytes : List ℕ) → head_of bytes ≡ Err Failed → ⊥
 head_of_not_failed bytes = not_failed_by (head_of bytes) (head_of_refuses bytes)
 
@@ -109,7 +109,7 @@ on_ok : (answer : Result CaptureHead CaptureFault) (P : Type 0) → P → OnOk a
 on_ok (Ok head) P holds = holds
 on_ok (Err why) P holds = tt
 
--- and leave what stands behind them
+-- 24 taken bytes leave what follows them
 pub header_leaves : (header : List ℕ) (answer : Result CaptureHead CaptureFault) (old new : Option (List ℕ)) → length header ≡ 24 → old ≡ before header new
     → (bytes : List ℕ) → old ≡ Some bytes → OnOk answer (new ≡ Some (drop 24 bytes))
 header_leaves header answer old new whole took bytes told =

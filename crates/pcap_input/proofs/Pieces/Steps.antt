@@ -15,7 +15,7 @@ use Rattle.pcap_input.specs.Pieces.{GivesOne, TakesBytes, TakesFewer, TakesLess}
 use Rattle.pcap_input.proofs.Told.{split_told, all_taken, none_taken}
 use Rattle.pcap_input.proofs.Laws.{bytes_stand, behind_too_long, behind_truncated, next_of_header, next_of_nothing, next_of_too_many, next_of_truncated}
 
--- behind a header that says too much, nothing is taken
+-- after a header that says too much, nothing is taken
 pub too_long_fewer : (head : CaptureHead) (number place : ℕ) (header : List ℕ) (old : Option (List ℕ)) → 262144 < captured_length head header
     → TakesFewer head number place header (TooLong place (captured_length head header)) old old
 too_long_fewer head number place header old long =
@@ -74,7 +74,7 @@ whole_takes head number place header bytes given old new is short made holds too
   goes = λ more. bytes_stand head number place header bytes more is short ∙ ap (λ r. Stands r more) (sym made);
 }
 
--- behind a header that was taken stands what stands behind it: the told answer
+-- after a header that was taken comes what `next_behind` says: the told answer
 pub header_next : (head : CaptureHead) (number place : ℕ) (header : List ℕ) (old mid : Option (List ℕ))
     → length header ≡ 16 → number < 4294967295 → old ≡ before header mid → (rest : List ℕ) → old ≡ Some rest
     → (bytes : List ℕ) × (mid ≡ Some bytes) × (next_of head number place rest ≡ next_behind head number place header bytes)
@@ -140,7 +140,7 @@ none_gives head number place old (Some left) same nothing rest told =
     let empty : rest ≡ [] = cc in
     ap (next_of head number place) empty ∙ next_of_nothing head number place
 
--- a byte was there behind the last record that may be
+-- a byte was there after the last record that may be
 pub too_many_gives : (head : CaptureHead) (number place : ℕ) (taken : List ℕ) (old new : Option (List ℕ)) → 0 < length taken → 4294967295 ≤ number → old ≡ before taken new
     → (rest : List ℕ) → old ≡ Some rest → next_of head number place rest ≡ Ends (Refused TooMany)
 too_many_gives head number place taken old new some many took rest told =

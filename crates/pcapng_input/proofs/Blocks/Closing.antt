@@ -1,4 +1,4 @@
--- What the bytes behind a fixed front show: the block is whole and ends with its total length, or not.
+-- What the bytes after a fixed front show: the block is whole and ends with its total length, or not.
 use Rattle.std.proofs.Common.{◌≡◌, ℕ, ◌+◌, ◌≤◌, Bool, true, false, List, [], ◌++◌, Option, Some, None, Ok, Err, length, take, drop, refl, sym, ap, subst, append_assoc, ◌∙◌, arith}
 use Rattle.std.specs.Prelude.{if◌then◌else◌, nat_lt, ◌==◌}
 use Rattle.std.proofs.lemmas.List.{append-nil, length-append, take_at, drop_at}
@@ -66,7 +66,7 @@ closing_less walk new_walk block told len why old new fits less =
     shows_cut (closing walk block told) new_walk walk.at (inner_length block + 4) why old new (closing_cuts walk block told)
     (less_within walk.at len (inner_length block + 4) why old new fits less)
 
--- its last four bytes are another number
+-- a block is refused whose last four bytes are another number
 pub closing_differs : (walk new_walk : Walk) (block : Block) (told : Content) (inner : List ℕ) (old new : Option (List ℕ))
     → Whole walk block told false inner old new → Shows (closing walk block told) new_walk (Err (bad_block walk)) old new
 closing_differs walk new_walk block told inner old new all = shows_refused (closing walk block told) new_walk (bad_block walk) all.taken old new all.took all.is
@@ -108,7 +108,7 @@ pub given-no_resolution : (walk : Walk) (block : Block) (link snaplen : ℕ) (in
 unfolding given_by
 given-no_resolution walk block link snaplen inner more is = rw (given_by, is) refl
 
--- a packet, whose captured bytes stand first
+-- a packet, whose captured bytes come first
 pub given-packet : (walk : Walk) (block : Block) (packet : Packet) (bytes passed more : List ℕ) → length bytes ≡ packet.captured
     → given_by walk block (content.Packet packet) (bytes ++ passed) more ≡ Gives (record_of walk packet bytes) (behind_packet walk block packet) more
 unfolding given_by

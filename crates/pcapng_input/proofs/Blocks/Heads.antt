@@ -40,7 +40,7 @@ closing_head walk swapped first behind start =
     (either (number_at walk.section.swapped 0 4 (drop (inner_length block) behind) == block.total)
     (given_by walk block content.Skipped (take (inner_length block) behind) (drop (inner_length block + 4) behind)) (refused (bad_block walk)) tt start)
 
--- its fixed front tells nothing, or is bad
+-- the fixed front of a section header tells nothing, or is bad
 section_told : (walk : Walk) (swapped : Bool) (first front : List ℕ) (one : Bool) → (number_at walk.section.swapped 0 2 front == 1) ≡ one
     → content_of walk (section_block swapped first) front ≡ (if one then Ok content.Skipped else Err (bad_block walk))
 unfolding content_of section_of
@@ -148,7 +148,7 @@ pub ok_takes : (contents : Option Files) (name : List ℕ) (walk : Walk) (block 
 ok_takes contents name walk block old new kind shown opened =
     record { whole = old; opened = opened; taken = shown.taken; took = shown.took; shows = ok_taken walk block old new kind shown }
 
--- it was refused
+-- an opening was refused
 told_refused : (why : NgFault) (taken rest bytes : List ℕ) (new : Option (List ℕ)) → bytes ≡ taken ++ rest → new ≡ Some rest → EndsBy opening (refused why) taken new → opening bytes ≡ refused why
 told_refused why taken rest bytes new joined still ends = ap opening joined ∙ ends.told rest still
 

@@ -17,7 +17,7 @@ opening_short bytes fewer =
     let test : nat_le 4 (length bytes) ≡ false = grind (arith, nat_tests) in
     rw test refl
 
--- another type
+-- a file that begins with another type is refused
 pub opening_other : (front : List ℕ) → 4 ≤ length front → (number_at false 0 4 front ≡ section_type → ⊥) → IsRefused opening fault.NotPcapng front
 unfolding opening
 opening_other front long differs more =
@@ -35,7 +35,7 @@ opening_cut bytes long is fewer =
     let three : nat_lt (length bytes) 12 ≡ true = grind (arith, nat_tests) in
     rw (one, two, three) refl
 
--- behind the first eight bytes, fewer than a magic
+-- after the first eight bytes, fewer than a magic
 pub magic_cuts : (first : List ℕ) → length first ≡ 8 → number_at false 0 4 first ≡ section_type → CutsBelow (λ more. opening (first ++ more)) 0 4
 magic_cuts first size is bytes fewer =
     opening_cut (first ++ bytes) (omega (arith, length-append first bytes)) (number_at-append false 0 4 first bytes (omega arith) ∙ is) (omega (arith, length-append first bytes))

@@ -1,4 +1,4 @@
--- What each step of reading a block shows, from what it took and what the steps behind it show.
+-- What each step of reading a block shows, from what it took and what the steps after it show.
 use Rattle.std.proofs.Common.{◌≡◌, ℕ, ◌+◌, ◌<◌, ◌≤◌, Bool, true, false, List, [], ◌++◌, Option, Some, None, Result, Ok, Err, length, refl, ap, subst, ◌∙◌, arith}
 use Rattle.std.specs.Prelude.{nat_lt, nat_le, ◌==◌, ◌&&◌}
 use Rattle.std.proofs.lemmas.List.{append-nil, length-append, nil_from_length}
@@ -55,7 +55,7 @@ known_closing walk new_walk block front told answer old mid new is size is_told 
     shows_behind (known walk block) (closing walk block told) new_walk answer front old mid new
     (λ more. known_fronted walk block front is size more ∙ fronted-ok walk block front told is_told more) took shown
 
--- the same for an equal walk and block
+-- what a step shows of a known block it shows of an equal walk and block
 pub known_at : (walk like new_walk : Walk) (block other : Block) (answer : Result BlockRead NgFault) (old new : Option (List ℕ)) → walk ≡ like → block ≡ other
     → Shows (known walk block) new_walk answer old new → Shows (known like other) new_walk answer old new
 known_at walk like new_walk block other answer old new same_walk same_block shown =
@@ -74,7 +74,7 @@ pub section_on : (walk new_walk : Walk) (first magic : List ℕ) (swapped : Bool
 section_on walk new_walk first magic swapped answer old mid new size is took shown =
     shows_behind (section_begun walk first) (known (new_section walk swapped) (section_block swapped first)) new_walk answer magic old mid new (section_known walk first magic swapped size is) took shown
 
--- a block behind its first eight bytes
+-- a block after its first eight bytes
 pub begun_on_section : (walk new_walk : Walk) (first : List ℕ) (answer : Result BlockRead NgFault) (old new : Option (List ℕ)) → number_at false 0 4 first ≡ section_type
     → Shows (section_begun walk first) new_walk answer old new → Shows (begun walk first) new_walk answer old new
 begun_on_section walk new_walk first answer old new is shown = shows_same (begun walk first) (section_begun walk first) new_walk answer old new (begun_section walk first is) shown
@@ -84,7 +84,7 @@ pub begun_on_other : (walk new_walk : Walk) (first : List ℕ) (answer : Result 
 begun_on_other walk new_walk first answer old new differs shown =
     shows_same (begun walk first) (known walk (other_block walk.section.swapped first)) new_walk answer old new (begun_other walk first differs) shown
 
--- the block that stands next
+-- the block that comes next
 pub step_failed : (walk new_walk : Walk) (taken : List ℕ) (old new : Option (List ℕ)) → length taken < 8 → old ≡ before taken new → Shows (step_of walk) new_walk (Err fault.Failed) old new
 step_failed walk new_walk taken old new fewer took = record { taken = taken; took = took; shows = step_few walk taken fewer }
 

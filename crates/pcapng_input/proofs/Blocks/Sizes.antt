@@ -20,7 +20,7 @@ middle true true c is = refl
 middle true false c is = cc
 middle false b c is = cc
 
--- so has each total length that a block may have
+-- each total length that a block may have has room for the fixed front and the last four bytes
 pub sized_fits : (block : Block) → IsTrue (is_sized block) → fixed_front block.kind + 4 ≤ block.total
 unfolding is_sized
 sized_fits block is =

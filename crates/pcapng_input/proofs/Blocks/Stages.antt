@@ -1,4 +1,4 @@
--- What a step shows of a stage: by a piece that was cut short, a refusal, or a whole block, and behind
+-- What a step shows of a stage: by a piece that was cut short, a refusal, or a whole block, and after
 -- bytes that were taken before.
 use Rattle.std.proofs.Common.{◌≡◌, ℕ, ◌<◌, List, [], ◌++◌, Option, Result, Ok, Err, length, sym, ap, subst, append_assoc, ◌∙◌}
 use Rattle.std.proofs.lemmas.List.{append-nil}
@@ -13,7 +13,7 @@ use Rattle.pcapng_input.specs.Blocks.{Step, Skips, Gives, refused}
 use Rattle.pcapng_input.specs.Steps.{TakesLess, HoldsNone, EndsBy, ShowsBy, Shows}
 use Rattle.pcapng_input.proofs.Blocks.Taking.{took_behind, nothing_rest}
 
--- one stage behind bytes is another
+-- one stage after bytes is another
 abbrev pub IsBehind : (List ℕ → Step) → List ℕ → (List ℕ → Step) → Type 0
 IsBehind stage front next = (more : List ℕ) → stage (front ++ more) ≡ next more
 
@@ -42,7 +42,7 @@ by_behind stage next walk (Err (fault.LinkType at link)) front taken new is show
 by_behind stage next walk (Err (fault.TooLong at len)) front taken new is shows = ends_behind stage next _ front taken new is shows
 by_behind stage next walk (Err fault.TooMany) front taken new is shows = ends_behind stage next _ front taken new is shows
 
--- what a step shows of the stage behind bytes that were taken before it
+-- what a step shows of the stage after bytes that were taken before it
 pub shows_behind : (stage next : List ℕ → Step) (walk : Walk) (answer : Result BlockRead NgFault) (front : List ℕ) (old mid new : Option (List ℕ))
     → IsBehind stage front next → old ≡ before front mid → Shows next walk answer mid new → Shows stage walk answer old new
 shows_behind stage next walk answer front old mid new is took shown = record {
@@ -78,7 +78,7 @@ pub shows_cut : (stage : List ℕ → Step) (walk : Walk) (place len : ℕ) (why
 shows_cut stage walk place len why old new cuts less =
     record { taken = less.taken; took = less.took; shows = cut_by stage walk place len why old new cuts less }
 
--- behind these bytes the stage is refused, whatever follows
+-- after these bytes the stage is refused, whatever follows
 abbrev pub IsRefused : (List ℕ → Step) → NgFault → List ℕ → Type 0
 IsRefused stage why front = (more : List ℕ) → stage (front ++ more) ≡ refused why
 
@@ -112,7 +112,7 @@ pub shows_given : (stage : List ℕ → Step) (walk : Walk) (given : NgRecord) (
     → old ≡ before front new → ((more : List ℕ) → stage (front ++ more) ≡ Gives given walk more) → Shows stage walk (Ok (read.Record given)) old new
 shows_given stage walk given front old new took is = record { taken = front; took = took; shows = is }
 
--- memory lacked behind bytes that hold no record
+-- memory lacked after bytes that hold no record
 pub shows_lacking : (stage : List ℕ → Step) (walk : Walk) (front : List ℕ) (old new : Option (List ℕ))
     → old ≡ before front new → HoldsNone (stage front) → Shows stage walk (Err fault.NoMemory) old new
 shows_lacking stage walk front old new took none = record { taken = front; took = took; shows = none }

@@ -1,4 +1,4 @@
--- What pieces of bytes that were taken say, one behind the other.
+-- What pieces of bytes that were taken say, one after the other.
 use Rattle.std.proofs.Common.{◌≡◌, ℕ, ◌+◌, ◌-◌, ◌≤◌, Bool, List, [], ◌++◌, Option, Some, None, length, sym, ap, ◌∙◌, arith}
 use Rattle.std.specs.Prelude.{◌==◌}
 use Rattle.std.proofs.lemmas.List.{length-append}
@@ -10,11 +10,11 @@ use Rattle.pcapng_input.specs.declared.capture.NgFault.{NgFault}
 use Rattle.pcapng_input.specs.declared.capture.NgFault.TheVariants as fault
 use Rattle.pcapng_input.specs.Steps.{TakesLess, TakesBytes, TakesLast}
 
--- bytes behind bytes
+-- bytes after bytes
 pub took_behind : (front back : List ℕ) (old mid new : Option (List ℕ)) → old ≡ before front mid → mid ≡ before back new → old ≡ before (front ++ back) new
 took_behind front back old mid new one two = one ∙ ap (before front) two ∙ before-before front back new
 
--- a piece that was cut short, behind bytes that were taken
+-- a piece that was cut short, after bytes that were taken
 pub less_behind : (place len more : ℕ) (why : NgFault) (front : List ℕ) (old mid new : Option (List ℕ))
     → old ≡ before front mid → TakesLess place len why mid new → length front + len ≤ more → TakesLess place more why old new
 less_behind place len more why front old mid new took less fits = record {
@@ -33,7 +33,7 @@ less_within place len more why old new fits less =
 pub lacking_less : (place len : ℕ) (old : Option (List ℕ)) → (len ≡ 0 → ⊥) → TakesLess place len fault.NoMemory old old
 lacking_less place len old some = record { taken = []; took = none_taken old; less = omega (arith, some); cut = tt }
 
--- no bytes yet, and a piece behind others
+-- no bytes yet, and a piece after others
 pub bytes_start : (count left : ℕ) (old : Option (List ℕ)) → left ≡ count → TakesBytes (count - left) old old
 bytes_start count left old same = record { taken = []; took = none_taken old; size = omega arith }
 
@@ -44,7 +44,7 @@ bytes_more len total piece old mid new so_far took is = record {
   size = omega (arith, length-append so_far.taken piece, so_far.size);
 }
 
--- a piece, and the four bytes behind it
+-- a piece, and the four bytes after it
 pub last_behind : (swapped : Bool) (total len number : ℕ) (last : List ℕ) (old mid new : Option (List ℕ)) → TakesBytes len old mid → mid ≡ before last new
     → length last ≡ 4 → number ≡ number_at swapped 0 4 last → TakesLast swapped total len (number == total) old new
 last_behind swapped total len number last old mid new passed took four is = record {

@@ -33,7 +33,7 @@ local_by stage next front rest whole (Skips walk more) is joined local =
 local_by stage next front rest whole (Gives given walk more) is joined local =
     (front ++ local.0, (joined ∙ ap (λ xs. front ++ xs) local.1.0 ∙ sym (append_assoc front local.0 more), λ m. ap stage (append_assoc front local.0 m) ∙ is (local.0 ++ m) ∙ local.1.1 m))
 
--- a stage behind bytes
+-- a stage after bytes
 local_behind : (stage next : List ℕ → Step) (front rest whole : List ℕ) → IsBehind stage front next → whole ≡ front ++ rest → IsLocal next rest (next rest) → IsLocal stage whole (stage whole)
 local_behind stage next front rest whole is joined local =
     subst (IsLocal stage whole) (sym (ap stage joined ∙ is rest)) (local_by stage next front rest whole (next rest) is joined local)
@@ -41,7 +41,7 @@ local_behind stage next front rest whole is joined local =
 local_ends : (stage : List ℕ → Step) (whole : List ℕ) (ending : Ending NgFault) → stage whole ≡ Stops ending → IsLocal stage whole (stage whole)
 local_ends stage whole ending is = subst (IsLocal stage whole) (sym is) tt
 
--- where a stage gives this behind its own bytes, whatever follows
+-- where a stage gives this after its own bytes, whatever follows
 local_skips : (stage : List ℕ → Step) (walk : Walk) (own more whole : List ℕ) → whole ≡ own ++ more → ((m : List ℕ) → stage (own ++ m) ≡ Skips walk m) → IsLocal stage whole (stage whole)
 local_skips stage walk own more whole joined is = subst (IsLocal stage whole) (sym (ap stage joined ∙ is more)) (own, (joined, is))
 
@@ -134,7 +134,7 @@ step_local : (walk : Walk) (whole : List ℕ) → IsLocal (step_of walk) whole (
 step_local walk [] = local_ends (step_of walk) [] Clean (step_nothing walk)
 step_local walk (byte ∷ rest) = step_by walk (byte ∷ rest) (is_full walk) (nat_lt (length (byte ∷ rest)) 8) (omega arith) refl refl
 
--- a record that stands: its blocks' own bytes, and that it stands there whatever follows them
+-- a record that is there: its blocks' own bytes, and that it is there whatever follows them
 pub record Parts (walk : Walk) (bytes : List ℕ) (given : NgRecord) (behind : Walk) (rest : List ℕ) : Type 0 where
   pub own : List ℕ
   pub joined : bytes ≡ own ++ rest

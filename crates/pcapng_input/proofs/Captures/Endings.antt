@@ -16,7 +16,7 @@ pub below_limit : (limit : Option ℕ) (cut : Cut NgRecord NgFault) → IsBelow 
 below_limit None cut below = first_records-none cut
 below_limit (Some limit) cut below = first_records-below limit cut below
 
--- a first block that is skipped: the records are those behind it
+-- a first block that is skipped: the records are those after it
 pub ng_records-skips : (bytes : List ℕ) (limit : Option ℕ) (walk : Walk) (more : List ℕ) → opening bytes ≡ Skips walk more
     → ng_records bytes limit ≡ Ok (first_records limit (records_left walk more))
 unfolding ng_records
@@ -24,7 +24,7 @@ ng_records-skips bytes limit walk more is =
     let same = records_left-same first_walk walk bytes more (next_of-skips first_walk bytes walk more (opening_section bytes walk more is).step) in
     rw (is, ng_records) (ap (λ (cut : Cut NgRecord NgFault). Ok (first_records limit cut)) same)
 
--- one that is refused
+-- a first block that is refused
 pub ng_records-refused : (bytes : List ℕ) (limit : Option ℕ) (why : NgFault) → opening bytes ≡ refused why
     → ng_records bytes limit ≡ Err why
 unfolding ng_records

@@ -1,4 +1,4 @@
--- Each block lies behind the one before, and leaves fewer bytes.
+-- Each block lies after the one before, and leaves fewer bytes.
 use Rattle.std.proofs.Common.{◌≡◌, ℕ, ◌+◌, ◌<◌, ◌≤◌, Bool, true, false, List, length, take, drop, Option, Some, None, Result, Ok, Err, refl, sym, subst, arith}
 use Rattle.std.specs.Prelude.{if◌then◌else◌, nat_lt, ◌==◌, ⊤}
 use Rattle.std.proofs.lemmas.List.{length-drop}
@@ -18,7 +18,7 @@ use Rattle.pcapng_input.specs.Blocks.{last_place, section_type, Step, Stops, Ski
 use Rattle.pcapng_input.proofs.Blocks.Sizes.{sized_fits}
 use Rattle.pcapng_input.proofs.Blocks.Begins.{fronted-err, fronted-ok}
 
--- the walk lies behind this place, and fewer than so many bytes are left
+-- the walk lies after this place, and fewer than `count` bytes are left
 abbrev pub Moves : ℕ → ℕ → Step → Type 0
 Moves place count (Stops ending) = ⊤
 Moves place count (Skips walk more) = (place < walk.at) × (length more < count)
@@ -82,7 +82,7 @@ begun_moves walk first count body fewer =
     (λ _. section_by walk first count body _ refl fewer)
     (λ _. known_moves walk (other_block walk.section.swapped first) count body fewer)
 
--- the block that stands next leaves fewer bytes
+-- the block that comes next leaves fewer bytes
 pub step_moves : (walk : Walk) (rest : List ℕ) → Moves walk.at (length rest) (step_of walk rest)
 unfolding step_of
 step_moves walk rest =
@@ -98,7 +98,7 @@ skips_on walk rest behind more is = subst (Moves walk.at (length rest)) is (step
 pub gives_on : (walk : Walk) (rest : List ℕ) (given : NgRecord) (behind : Walk) (more : List ℕ) → step_of walk rest ≡ Gives given behind more → (walk.at < behind.at) × (length more < length rest)
 gives_on walk rest given behind more is = subst (Moves walk.at (length rest)) is (step_moves walk rest)
 
--- where a test that ends the capture stands before a block that is skipped, it doesn't hold
+-- where a test that would end the capture is made before a block that is skipped, it doesn't hold
 not_ended : (test : Bool) (ending : Ending NgFault) (step : Step) (behind : Walk) (more : List ℕ) → (if test then Stops ending else step) ≡ Skips behind more → (test ≡ false) × (step ≡ Skips behind more)
 not_ended true ending step behind more is = cc
 not_ended false ending step behind more is = (refl, is)

@@ -1,4 +1,4 @@
--- What stands next behind blocks that are skipped.
+-- What comes next after blocks that are skipped.
 use Rattle.std.proofs.Common.{◌≡◌, ℕ, zero, suc, ◌+◌, ◌<◌, List, [], length, refl, sym, ap, ◌∙◌, arith}
 use Rattle.pcapng_input.specs.declared.capture.NgRecord.{NgRecord}
 use Rattle.pcapng_input.specs.declared.walk.Walk.{Walk}
@@ -9,7 +9,7 @@ use Rattle.pcapng_input.specs.Steps.{HoldsNone}
 use Rattle.pcapng_input.proofs.Blocks.Begins.{step_nothing}
 use Rattle.pcapng_input.proofs.Captures.Moving.{skips_on}
 
--- one more block
+-- what comes next after one more block
 next_on : ℕ → Step → Next
 next_on most (Stops ending) = Ends ending
 next_on most (Skips behind more) = next_along most behind more
@@ -62,7 +62,7 @@ next_of-skips walk rest behind more is =
     let on = skips_on walk rest behind more is in
     next_of-on walk rest (Skips behind more) is ∙ enough (length rest) (length more + 1) behind more (omega arith) (omega arith)
 
--- where the next block gives the same, the same stands next
+-- where the next block gives the same, the same comes next
 same_by : (one other : Walk) (xs ys : List ℕ) (step : Step) → step_of one xs ≡ step → step_of other ys ≡ step → next_of one xs ≡ next_of other ys
 same_by one other xs ys (Stops ending) first second = next_of-stops one xs ending first ∙ sym (next_of-stops other ys ending second)
 same_by one other xs ys (Skips behind more) first second = next_of-skips one xs behind more first ∙ sym (next_of-skips other ys behind more second)

@@ -18,7 +18,7 @@ use Rattle.pcap_input.specs.Cut.{Ending, Clean, Refused}
 use Rattle.pcapng_input.specs.Blocks.{section_type, Step, Stops, Skips, Gives, refused, truncated, bad_block, front_length, is_sized, inner_length, order_of, first_walk, new_section, content_of, given_by, closing, fronted, known, section_block, other_block, section_begun, begun, is_full, step_of, opening, Ends, Stands, next_along, next_of}
 use Rattle.pcapng_input.proofs.Blocks.Begins.{fronted-err, fronted-ok, begun_section, number_front}
 
--- the number of records behind a step from this number
+-- the number of records after a step from this number
 abbrev pub Counts : ℕ → Step → Type 0
 Counts number (Stops ending) = ⊤
 Counts number (Skips walk more) = walk.number ≡ number
@@ -87,7 +87,7 @@ step_counts walk rest =
     (either walk.number (is_full walk) (refused fault.TooMany) _ tt
     (either walk.number (nat_lt (length rest) 8) (truncated walk) _ tt (begun_counts walk (take 8 rest) (drop 8 rest))))
 
--- where a test that ends the capture stands before a record, it doesn't hold
+-- where a test that would end the capture is made before a record, it doesn't hold
 not_ended : (test : Bool) (ending : Ending NgFault) (step : Step) (given : NgRecord) (behind : Walk) (more : List ℕ)
     → (if test then Stops ending else step) ≡ Gives given behind more → (test ≡ false) × (step ≡ Gives given behind more)
 not_ended true ending step given behind more is = cc
@@ -102,12 +102,12 @@ gives_few walk rest given behind more is =
     let two = not_ended (is_full walk) _ _ given behind more one.1 in
     grind (arith, nat_tests, two.0)
 
--- a record that stands adds one to the number, which was below the most
+-- a record that is given adds one to the number, which was below the most
 pub record IsCounted (walk behind : Walk) : Type 0 where
   pub one : behind.number ≡ walk.number + 1
   pub few : walk.number < most_records
 
--- the same, where the numbers of two walks are equal
+-- a record adds one to a number, where it adds one to an equal number of another walk
 counted_from : (walk other behind : Walk) → other.number ≡ walk.number → IsCounted other behind → IsCounted walk behind
 counted_from walk other behind same counted = record {
   one = counted.one ∙ ap_suc other.number walk.number same;
@@ -150,7 +150,7 @@ stands_counted walk rest given behind more is = counted_along (length rest + 1) 
 
 -- ---- the first block
 
--- where the first block is skipped, a section header begins the file, and it is the block that stands there
+-- where the first block is skipped, a section header begins the file, and it is the block that is there
 pub record IsSection (bytes : List ℕ) (behind : Walk) (more : List ℕ) : Type 0 where
   pub begins : number_at false 0 4 bytes ≡ section_type
   pub step : step_of first_walk bytes ≡ Skips behind more

@@ -1,4 +1,4 @@
--- The laws of a capture's records that callers use: how what is left goes on with what stands next.
+-- The laws of a capture's records that callers use: how what is left goes on with what comes next.
 use Rattle.std.proofs.Common.{◌≡◌, ℕ, zero, suc, ◌+◌, ◌<◌, List, length, refl, sym, ap, ◌∙◌, arith}
 use Rattle.pcapng_input.specs.declared.capture.NgRecord.{NgRecord}
 use Rattle.pcapng_input.specs.declared.walk.Walk.{Walk}
@@ -33,7 +33,7 @@ pub next_of-shrinks : (walk : Walk) (rest : List ℕ) (given : NgRecord) (behind
 unfolding next_of
 next_of-shrinks walk rest given behind more is = shrinks (length rest + 1) walk rest given behind more is
 
--- one more step of a cut
+-- a cut after one more step
 cut_on : ℕ → Next → Cut NgRecord NgFault
 cut_on most (Ends ending) = no_more ending
 cut_on most (Stands first behind more) = with_first first (cut_up most behind more)
@@ -62,14 +62,14 @@ enough (suc some) (suc others) walk rest fits fits_others =
     ∙ enough_by some others walk rest (λ w more f o. enough some others w more f o) fits fits_others (next_of walk rest) refl
     ∙ sym (cut_up-suc others walk rest (next_of walk rest) refl)
 
--- what is left is the ending where that stands next
+-- what is left is the ending where that comes next
 pub records_left-ends : (walk : Walk) (rest : List ℕ) (ending : Ending NgFault) → next_of walk rest ≡ Ends ending → records_left walk rest ≡ no_more ending
 unfolding records_left cut_on
 records_left-ends walk rest ending is =
     let step : length rest + 1 ≡ suc (length rest) = omega arith in
     ap (λ (n : ℕ). cut_up n walk rest) step ∙ cut_up-suc (length rest) walk rest (Ends ending) is
 
--- what is left is the record that stands next, and then what is left behind it
+-- what is left is the record that comes next, and then what is left after it
 pub records_left-stands : (walk : Walk) (rest : List ℕ) (first : NgRecord) (behind : Walk) (more : List ℕ) → next_of walk rest ≡ Stands first behind more
     → records_left walk rest ≡ with_first first (records_left behind more)
 unfolding records_left cut_on
@@ -79,7 +79,7 @@ records_left-stands walk rest first behind more is =
     ap (λ (n : ℕ). cut_up n walk rest) step ∙ cut_up-suc (length rest) walk rest (Stands first behind more) is
     ∙ ap (with_first first) (enough (length rest) (length more + 1) behind more (omega arith) (omega arith))
 
--- where the same stands next, the same is left
+-- where the same comes next, the same is left
 same_by : (one other : Walk) (xs ys : List ℕ) (next : Next) → next_of one xs ≡ next → next_of other ys ≡ next → records_left one xs ≡ records_left other ys
 same_by one other xs ys (Ends ending) first second = records_left-ends one xs ending first ∙ sym (records_left-ends other ys ending second)
 same_by one other xs ys (Stands given behind more) first second = records_left-stands one xs given behind more first ∙ sym (records_left-stands other ys given behind more second)

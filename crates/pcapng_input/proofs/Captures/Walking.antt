@@ -1,4 +1,4 @@
--- What blocks that were read, one behind the other, show of what stands next.
+-- What blocks that were read, one after the other, show of what comes next.
 use Rattle.std.proofs.Common.{◌≡◌, ℕ, ◌<◌, List, [], ◌++◌, Option, Some, None, Result, Ok, Err, refl, sym, ap, subst, append_assoc, ◌∙◌}
 use Rattle.std.specs.Prelude.{IfSome, IfNone}
 use Rattle.edge_io.specs.Told.{before}
@@ -21,7 +21,7 @@ use Rattle.pcapng_input.proofs.Captures.Nexts.{next_of-stops, next_of-gives, nex
 pub passed_start : (walk : Walk) (left : Option (List ℕ)) → HasPassed walk walk left left
 passed_start walk left = record { taken = []; took = none_taken left; goes = λ more. refl }
 
--- what stands next for the first walk, behind what the two took
+-- what comes next for the first walk, after what the two took
 on_behind : (first walk : Walk) (left_first left : Option (List ℕ)) (passed : HasPassed first walk left_first left) (taken more : List ℕ)
     → next_of first ((passed.taken ++ taken) ++ more) ≡ next_of walk (taken ++ more)
 on_behind first walk left_first left passed taken more = ap (next_of first) (append_assoc passed.taken taken more) ∙ passed.goes (taken ++ more)
@@ -88,7 +88,7 @@ goes_refused first walk behind why left_first left left_behind passed shown = re
   goes = refused_by first walk behind why left_first left left_behind passed shown;
 }
 
--- where the bytes that were left are told, the answer is what stands next in them
+-- where the bytes that were left are told, the answer is what comes next in them
 answers_by : (old new : Walk) (answer : Result (Option NgRecord) NgFault) (taken rest whole : List ℕ) (left : Option (List ℕ))
     → whole ≡ taken ++ rest → left ≡ Some rest → GoesBy old new answer taken left → Answers answer (next_of old whole)
 answers_by old new (Ok None) taken rest whole left joined still goes = ap (next_of old) joined ∙ goes.1 rest still
@@ -132,7 +132,7 @@ pub goes_none : (old : Reading) (new : Walk) (why : NgFault) (left_old left_new 
 goes_none old new why left_old left_new goes =
     record { taken = goes.taken; took = goes.took; shows = shows_by old.walk new why goes.taken left_new goes.goes }
 
--- a block that is skipped lies below the last place, and the next one behind it
+-- a block that is skipped lies below the last place, and the next one after it
 pub skipped_moves : (walk behind : Walk) (left left_behind : Option (List ℕ)) → Shows (step_of walk) behind (Ok read.Skipped) left left_behind → (walk.at < behind.at) × (walk.at < last_place)
 skipped_moves walk behind left left_behind shown =
     ((skips_on walk (shown.taken ++ []) behind [] (shown.shows [])).0, skips_near walk (shown.taken ++ []) behind [] (shown.shows []))

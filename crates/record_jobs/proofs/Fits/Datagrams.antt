@@ -196,7 +196,7 @@ mapped_fit {X} {Y} P Q h each (x ∷ later) all = by_value (h x) refl (each x (A
 fragments_fit : (way : Way) (config : FragConfig) (records : List LinkedRecord) → All HoldsBytes records → All FitsPart (fragments way config records)
 fragments_fit way config records all = mapped_fit HoldsBytes FitsPart (fragment_in way config) (λ r fits. part_fits way config r fits) records all
 
--- what waits behind records
+-- what waits after records
 abbrev FitsWaiting : Option Frag3State → Type 0
 FitsWaiting waiting = IfSome waiting (λ (frag3 : Frag3State). FitTrackers frag3.trackers)
 

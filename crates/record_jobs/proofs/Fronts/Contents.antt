@@ -1,4 +1,4 @@
--- What a record brings: by what it says, and behind the records before it.
+-- What a record brings: by what it says, and after the records before it.
 use Rattle.std.proofs.Common.{◌≡◌, Bool, true, false, cond, List, Option, Some, None, Ok, Err, refl, ap}
 use Rattle.std.specs.Prelude.{is_some, option_and_then}
 use Rattle.std.specs.Option.{option_map, option_or}
@@ -43,7 +43,7 @@ content_from-skip way waiting moment reason = refl
 
 pub ruleset contents = (content_from-fragment, content_from-packet, content_from-skip)
 
--- ---- behind the records before
+-- ---- after the records before
 
 pub content-packet : (way : Way) (before : List LinkedRecord) (r : LinkedRecord) → (record_content way (frag3_behind way before) r).packet ≡ packet_in way before r
 unfolding record_content content_from packet_in datagram_in

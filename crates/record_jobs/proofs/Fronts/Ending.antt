@@ -43,7 +43,7 @@ stands_none way frag3 flows waiting seen most = record {
   short = All-from_recursion HasShortData [] tt;
 }
 
--- the ends of these flows are those behind the records
+-- the ends of these flows are those after the records
 pub finishes-are : (way : Way) (front : FrontState) (before : List LinkedRecord) (jobs_old jobs_new : List Job) (flows : List ℕ) → StandsFor way front before → flows ≡ live_flows front.flows.max (touches way before)
     → jobs_new ≡ jobs_old ++ numbered front.next front.last (map (λ flow. work.Finish flow) flows) → jobs_new ≡ jobs_old ++ finishes way before
 unfolding finishes

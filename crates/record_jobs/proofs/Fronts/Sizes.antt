@@ -54,7 +54,7 @@ short_added : (ts : Trackers) (key : DatagramKey) (t : TrackerState) → AreShor
 short_added [] key t short h = (h, tt)
 short_added (entry ∷ rest) key t short h = (short.0, short_added rest key t short.1 h)
 
--- the length behind one fragment more
+-- the length after one fragment more
 short_joined : (end : Option ℕ) (more : Bool) (place : ℕ) → IsShortEnd end → place ≤ 65535 → IsShortEnd (option_or end (cond more None (Some place)))
 short_joined None true place short h = tt
 short_joined None false place short h = h
@@ -98,7 +98,7 @@ short_state : (most : ℕ) (fs : List Fragment) → AreShortEnds (state_after mo
 unfolding state_after
 short_state most fs = short_fold fs (record { max_frags = most; trackers = [] }) tt
 
--- so many places have so many bytes
+-- places have as many bytes, if each has one
 length-bytes_at : (byte : ℕ → Option ℕ) (places : List ℕ) → IfSome (bytes_at byte places) (λ bytes. length bytes ≡ length places)
 length-bytes_at byte [] = refl
 length-bytes_at byte (place ∷ later) = go (byte place) (bytes_at byte later) (length-bytes_at byte later)

@@ -83,7 +83,7 @@ by_content way old new r content touch jobs_old jobs_new is found sees most frag
   short = λ bytes. subst HasShortPacket is (short bytes);
 }
 
--- and so is what is done for a packet of version 4 that is no fragment
+-- what is done for a packet of version 4 that is no fragment is what the definitions say of it
 pub straight : (way : Way) (old new : FrontState) (r : LinkedRecord) (fields : Fields) (touch : Option Touch) (jobs_old jobs_new : List Job)
     → said_by way r ≡ Ok fields → is_fragment fields.body ≡ false → length fields.payload ≤ 65535
     → FindsTouch old.flows (tracked_key way.stream fields.ip fields.body) touch

@@ -1,4 +1,4 @@
--- All jobs of a capture's records, one behind another: they are sound, and numbered by their places.
+-- All jobs of a capture's records, one after another: they are sound, and numbered by their places.
 use Rattle.std.proofs.Common.{◌≡◌, ℕ, ◌+◌, ◌^◌, ◌<◌, ◌≤◌, List, [], ◌∷◌, ◌++◌, length, map, Option, Some, None, refl, sym, ap, ◌∙◌, subst, suc, zero, IfSome, append_assoc, length-append, arith}
 use Rattle.std.specs.Bool.{⊤}
 use Rattle.std.specs.Prelude.{All, filter, option_and_then}
@@ -248,7 +248,7 @@ run_numbers way before (r ∷ records) =
     rest : List Job
     rest = trail_from (jobs way) (before ++ r ∷ []) records
 
--- so many jobs as there is to do
+-- there are as many jobs as there is to do
 run_count : (way : Way) (before records : List LinkedRecord) → job_count way before + length (trail_from (jobs way) before records) ≡ job_count way (before ++ records)
 run_count way before [] = let e : job_count way before + 0 ≡ job_count way before = omega arith in e ∙ ap (job_count way) (sym (append-nil before))
 run_count way before (r ∷ records) =

@@ -1,4 +1,4 @@
--- Jobs of a capture are sound behind the earlier jobs of their flows.
+-- Jobs of a capture are sound after the earlier jobs of their flows.
 use Rattle.std.proofs.Common.{◌≡◌, ℕ, ◌+◌, ◌^◌, ◌<◌, ◌≤◌, Bool, true, false, cond, eqb, List, [], ◌∷◌, ◌++◌, length, Option, Some, None, refl, sym, ap, ◌∙◌, subst, IfSome, append_assoc, arith, inl, inr, ◌⊎◌, ◌&&◌}
 use Rattle.std.specs.Bool.{⊤}
 use Rattle.std.specs.Prelude.{filter}
@@ -144,7 +144,7 @@ ends_are way time item key e =
 
 -- ---- what is known of each flow
 
--- of the flow of a key: the ends are the key's, and there were at most so many packets
+-- what is known of the flow of a key: the ends are the key's, and there were at most `packets` packets
 pub record KnowsFlow (way : Way) (touches : List Key) (packets flow : ℕ) (facts : FlowFacts) : Type 0 where
   pub key : Key
   pub had : HadFlow (most_flows way.stream) touches key flow
@@ -155,11 +155,11 @@ abbrev Knows : Way → List Key → ℕ → ℕ → Option FlowFacts → Type 0
 Knows way touches packets flow None = ⊤
 Knows way touches packets flow (Some facts) = KnowsFlow way touches packets flow facts
 
--- what is known of a flow behind these jobs
+-- what is known of a flow after these jobs
 abbrev pub known : List Job → ℕ → Option FlowFacts
 known jobs flow = facts_after None (filter (is_of_flow flow) jobs)
 
--- of each flow
+-- what is known of each flow after these jobs
 abbrev pub KnowsAll : Way → List Key → ℕ → List Job → Type 0
 KnowsAll way touches packets jobs = (flow : ℕ) → Knows way touches packets flow (known jobs flow)
 
@@ -186,7 +186,7 @@ later_all way key touches packets jobs knows flow = later_knows way key touches 
 
 -- ---- jobs one by one
 
--- each of these jobs is sound behind the earlier ones
+-- each of these jobs is sound after the earlier ones
 abbrev pub Sounds : ℕ → List Job → List Job → Type 0
 Sounds engines earlier [] = ⊤
 Sounds engines earlier (job ∷ jobs) = IsSoundFor engines (facts_after None (filter (same_flow job) earlier)) job × Sounds engines (earlier ++ job ∷ []) jobs
@@ -196,7 +196,7 @@ Sounds-append engines earlier [] ys first then = subst (λ (front : List Job). S
 Sounds-append engines earlier (x ∷ xs) ys first then =
     (first.0, Sounds-append engines (earlier ++ x ∷ []) xs ys first.1 (subst (λ (front : List Job). Sounds engines front ys) (sym (append_assoc earlier (x ∷ []) xs)) then))
 
--- jobs are sound, and what is known behind them
+-- jobs are sound, and what is known after them
 pub record Goes (way : Way) (touches : List Key) (packets : ℕ) (earlier jobs : List Job) : Type 0 where
   pub sounds : Sounds (length way.stream.engines) earlier jobs
   pub knows : KnowsAll way touches packets (earlier ++ jobs)

@@ -78,7 +78,7 @@ flat_map-same {X} {A} f g (x ∷ xs) all =
     ap (λ (front : List A). front ++ flat_map f xs) (All-head (λ (y : X). f y ≡ g y) x xs all)
     ∙ ap (λ (back : List A). g x ++ back) (flat_map-same f g xs (All-tail (λ (y : X). f y ≡ g y) x xs all))
 
--- of what is made of each that is kept
+-- what is made of the elements that are kept is what a test keeps of what is made of all
 flat_map-filter : {X A : Type 0} (kept : X → Bool) (test : A → Bool) (f g : X → List A) → ((x : X) → kept x ≡ true → f x ≡ g x) → ((x : X) → All (λ (a : A). test a ≡ kept x) (g x))
     → (xs : List X) → flat_map f (filter kept xs) ≡ filter test (flat_map g xs)
 flat_map-filter kept test f g same each [] = refl
@@ -95,9 +95,9 @@ flat_map-filter {X} {A} kept test f g same each (x ∷ xs) = by_test (kept x) re
         ∙ sym (split ∙ ap (λ (c : Bool). cond c (g x) [] ++ filter test (flat_map g xs)) is)
     by_test false isnt rest = rest ∙ sym (split ∙ ap (λ (c : Bool). cond c (g x) [] ++ filter test (flat_map g xs)) isnt)
 
--- ---- the flows that live behind all records
+-- ---- the flows that live after all records
 module _ (d : Detection) (way : Way) (records : List LinkedRecord) (room : HasRoomFor way records) where
-  -- all of them, by the packets of their keys alone
+  -- the last items of a capture, by the packets of their keys alone
   last-plain : last_items d way records ≡ flat_map (ends_of d way records) (first_keys (touches way records))
   unfolding finishes
   last-plain =
@@ -180,7 +180,7 @@ module _ (d : Detection) (way : Way) (pairs : Pairs) (part : Part) (records : Li
               ∙ sym (own-push before r true is)
           by_part false isnt = ap (touches way) (filter-left part before r isnt) ∙ same ∙ sym (own-push before r false isnt)
 
-  -- so are its last items
+  -- the last items of a flow of the part are those of the whole
   same-ends : (key : Key) → own_key key ≡ true → ends_of d way (filter part records) key ≡ ends_of d way records key
   same-ends key is =
       let owns : (earlier : List LinkedRecord) (s : LinkedRecord) (item : Item) → packet_in way earlier s ≡ Some item → item_key way item ≡ Some key → part s ≡ true =
@@ -199,7 +199,7 @@ module _ (d : Detection) (way : Way) (pairs : Pairs) (part : Part) (records : Li
       ∙ flat_map-filter own_key own_item (ends_of d way (filter part records)) (ends_of d way records) same-ends each (first_keys (touches way records))
       ∙ sym (ap between (last-plain d way records whole.split.room))
 
-  -- and those of its records
+  -- the items of a record are the part's own exactly where the record is the part's
   tells : (before : List LinkedRecord) (r : LinkedRecord) (rest : List LinkedRecord) → before ++ r ∷ rest ≡ records → All (λ (hits : Hits). own_item hits ≡ part r) (items before r)
   tells before r rest are =
       subst (All (λ (hits : Hits). own_item hits ≡ part r))

@@ -69,7 +69,7 @@ module _ (ip : IpHead) where
       (choose HasHead (ip.protocol == 17) (udp_at ip bytes start stop checks.udp) _ (udp_head bytes start stop checks.udp)
       (choose HasHead (ip.protocol == icmp_protocol (version_of ip.src)) (icmp_at ip bytes start stop checks.icmp) _ (icmp_head bytes start stop checks.icmp) refl))
 
-  -- nor do extension headers change its addresses
+  -- extension headers don't change a packet's addresses
   abbrev HasEnds : Walk → Type 0
   HasEnds walk = HaveSameEnds walk.head ip
 
@@ -89,7 +89,7 @@ module _ (ip : IpHead) where
       choose HasEnds (is_at_header walk) (behind_header walk bytes >>= (λ next. walk_end left next bytes)) (Ok walk)
       (bind-with HasEnds HasEnds (behind_header walk bytes) (λ next. walk_end left next bytes) (header_ends walk bytes has) (λ next more. walk_ends left next bytes more)) has
 
--- the same of fields
+-- what is read of a packet has the same ends as a header
 abbrev IsBetween : IpHead → Fields → Type 0
 IsBetween ip fields = HaveSameEnds fields.ip ip
 

@@ -46,7 +46,7 @@ abbrev pub first_keys : List Key → List Key
 first_keys [] = []
 first_keys (key ∷ earlier) = cond (is_touched earlier key) (first_keys earlier) (first_keys earlier ++ key ∷ [])
 
--- those of which a test is true are the first keys of such touches
+-- the first keys of the touches of which a test is true are the first keys of which it is true
 pub first-filtered : (test : Key → Bool) (touches : List Key) → first_keys (filter test touches) ≡ filter test (first_keys touches)
 first-filtered test [] = refl
 first-filtered test (key ∷ earlier) = by_test (test key) refl (first-filtered test earlier)
@@ -71,7 +71,7 @@ first-filtered test (key ∷ earlier) = by_test (test key) refl (first-filtered 
         rest ∙ sym (by_touched (is_touched earlier key) false isnt ∙ either (is_touched earlier key) (filter test (first_keys earlier)))
 
 module _ (max : MaxFlows) where
-  -- no more keys of either protocol than may live
+  -- there are no more keys of either protocol than may live
   abbrev pub Room : List Key → Type 0
   Room touches = (tcp : Bool) → distinct_count (filter (is_of tcp) touches) ≤ max_for max tcp
 

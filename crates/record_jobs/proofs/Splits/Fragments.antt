@@ -123,7 +123,7 @@ module _ (frag3 : Frag3State) (f : Fragment) (are : AreTrackers frag3.trackers) 
   unfolding taken
   taken-own = ap (λ (t : TrackerState). option_map_or answer.Ignored (ignored f.ip f.part f.rules) (answer_of f.ip (datagram_of t))) own-joined
 
-  -- the trackers behind it
+  -- the trackers after a fragment
   pub record IsBehind (new : Frag3State) : Type 0 where
     pub max : new.max_frags ≡ frag3.max_frags
     pub few : held_count new.trackers ≤ held_count ts + 1

@@ -79,7 +79,7 @@ module _ (way : Way) (key : Key) where
   all-packets : (records : List LinkedRecord) → All OfKey (trail (of_key way key) records)
   all-packets records = All-trail OfKey (of_key way key) packets-of [] records
 
-  -- the items of its flow, behind a packet and at the end
+  -- the items of a key's flow, of a packet and at the end
   tracked-items : (d : Detection) (before : List LinkedRecord) (time : Time) (moment : Moment) (item : Item) → item_key way item ≡ Some key
       → All (OfHits (HeadBetween key.low.addr key.high.addr)) (behind d (trail (of_key way key) before) (packet_job d way time moment item))
   tracked-items d before time moment item tracked =
@@ -127,7 +127,7 @@ module _ (way : Way) (pairs : Pairs) (part : Part) (of_pairs : IsOfPairs way pai
       by_said (Err why) is found = absurd cc
       by_said (Ok fields) is found = by_fragment fields (is_fragment fields.body) is found
 
-  -- so do the items of a record
+  -- the items of a record go between the pairs exactly where the record is of the part
   pub record-tells : (d : Detection) (before : List LinkedRecord) (r : LinkedRecord) → All (λ (hits : Hits). is_between pairs hits.head ≡ part r) (plain_items d way before r)
   record-tells d before r =
       All-append Tells (plain_fragment d way r (fragment_item way r)) (plain_packet d way before r (packet_in way before r))

@@ -59,7 +59,7 @@ fold-alike f g same s [] = refl
 fold-alike f g same s (x ∷ xs) = ap (λ state. fold f state (map g xs)) (same s x) ∙ fold-alike f g same (f s x) xs
 
 module _ (d : Detection) where
-  -- the items of a job behind the earlier ones of its flow
+  -- the items of a job after the earlier ones of its flow
   abbrev pub behind : List Job → Job → List Hits
   behind earlier job = (hits d earlier job).items
 
@@ -236,7 +236,7 @@ module _ (way : Way) (records : List LinkedRecord) (room : HasRoomFor way record
         by_packet None found = subst Told (sym found) (chosen-none way time moment number (job_count way before) (fragment_item way r) None)
         by_packet (Some item) found = subst Told (sym found) (by_key item (item_key way item) found refl)
 
-    -- those of the flow of this key
+    -- the jobs of the flow of this key, without their numbers
     pub flow-of_key : (before rest : List LinkedRecord) → before ++ rest ≡ records
         → map nameless (filter (λ job. same_number (Some number) (flow_of job)) (trail (jobs way) before)) ≡ trail (of_key way key) before
     flow-of_key = along_all Same records refl step
@@ -267,11 +267,11 @@ module _ (d : Detection) (way : Way) where
   plain_fragment r None = []
   plain_fragment r (Some item) = behind d [] (alone_job d r.captured.moment item)
 
-  -- by the packets of its key alone
+  -- the items of a record, by the packets of its key alone
   abbrev pub plain_items : List LinkedRecord → LinkedRecord → List Hits
   plain_items before r = plain_fragment r (fragment_item way r) ++ plain_packet before r (packet_in way before r)
 
-  -- as the jobs of all records give them
+  -- the items of a record, as the jobs of all records give them
   abbrev pub items_of_record : List LinkedRecord → LinkedRecord → List Hits
   items_of_record before r = trail_from (items_of_job d) (trail (jobs way) before) (jobs way before r)
 
@@ -290,7 +290,7 @@ module _ (d : Detection) (way : Way) where
     abbrev Passed : List Job → Type 0
     Passed more = (flow : ℕ) → filter (of_number d flow) more ≡ []
 
-    -- behind the fragment, if there is one
+    -- what is done after the fragment, if there is one
     behind_fragment : (fragment : Option Item) (todo : List Work) (last : List Hits)
         → ((number : ℕ) (more : List Job) → Passed more → given number (earlier ++ more) todo ≡ last)
         → given (job_count way before) earlier (option_to_list (option_map alone fragment) ++ todo) ≡ plain_fragment r fragment ++ last

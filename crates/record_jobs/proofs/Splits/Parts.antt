@@ -73,7 +73,7 @@ one-pair key a b (inl (low, high)) (inr (low_too, high_too)) = inr (sym low ∙ 
 one-pair key a b (inr (low, high)) (inl (low_too, high_too)) = inr (sym high ∙ high_too, sym low ∙ low_too)
 one-pair key a b (inr (low, high)) (inr (low_too, high_too)) = inl (sym high ∙ high_too, sym low ∙ low_too)
 
--- the same addresses
+-- packets with the addresses of two that go between one pair go between one pair
 same-pair : (a b c e : IpHead) → AreOfOnePair a b → (a.src ≡ c.src) × (a.dst ≡ c.dst) → (b.src ≡ e.src) × (b.dst ≡ e.dst) → AreOfOnePair c e
 same-pair a b c e (inl (src, dst)) first second = inl (sym first.0 ∙ src ∙ second.0, sym first.1 ∙ dst ∙ second.1)
 same-pair a b c e (inr (src, dst)) first second = inr (sym first.0 ∙ src ∙ second.1, sym first.1 ∙ dst ∙ second.0)
@@ -140,7 +140,7 @@ module _ (way : Way) (part : Part) (records : List LinkedRecord) (by_pair : IsBy
         by_packet None there = subst (λ (o : Option Item). own_packet way (time_of earlier s) s.captured.moment key o ≡ []) (sym there) refl
         by_packet (Some more) there = subst (λ (o : Option Item). own_packet way (time_of earlier s) s.captured.moment key o ≡ []) (sym there) (by_key more (item_key way more) there refl)
 
-    -- so the part has all packets of the key
+    -- the part has all packets of the key
     pub same-key_packets : (before rest : List LinkedRecord) → before ++ rest ≡ records → trail (of_key way key) (filter part before) ≡ trail (of_key way key) before
     same-key_packets = along_all Same records refl step
       where

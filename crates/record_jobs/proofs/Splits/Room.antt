@@ -55,7 +55,7 @@ fewer-distinct keys others among =
     let less = few-among (recent keys) (recent others) (Apart-recent keys) (λ key is. is_touched-recent others key ∙ among key (sym (is_touched-recent keys key) ∙ is)) in
     omega (arith, less, length-recent keys, length-recent others)
 
--- those of one protocol
+-- a key among those of one protocol is of that protocol, and among all keys
 abbrev Passes : Bool → Key → List Key → Type 0
 Passes tcp key keys = is_touched (filter (is_of tcp) keys) key ≡ true → (is_of tcp key ≡ true) × (is_touched keys key ≡ true)
 
@@ -94,7 +94,7 @@ fewer-of tcp keys others among =
     fewer-distinct (filter (is_of tcp) keys) (filter (is_of tcp) others)
     (λ key is. let own = filtered-touched tcp key keys is in touched-filtered tcp key others own.0 (among key own.1))
 
--- so there is room for those of a part
+-- there is room for the flows of a part
 module _ (way : Way) (part : Part) (records : List LinkedRecord)
     (packets : (before : List LinkedRecord) (r : LinkedRecord) (rest : List LinkedRecord) → before ++ r ∷ rest ≡ records → part r ≡ true
     → packet_in way (filter part before) r ≡ packet_in way before r) where

@@ -40,7 +40,7 @@ option_len-end at text i count h = at_drop_all (λ rest. shifted count (option_l
 
 pub ruleset option_lens = (option_len-step, option_len-here, option_len-end, shifted-zero)
 
--- the first text and those behind it, where so many bytes stand before its end
+-- the first text and those after it, where this many bytes come before its end
 abbrev pub texts_at : List ℕ → Option ℕ → List (List ℕ)
 texts_at text None = text ∷ []
 texts_at text (Some len) = take len text ∷ option_texts outside (drop (len + 1) text)

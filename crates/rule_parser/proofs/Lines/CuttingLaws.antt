@@ -37,7 +37,7 @@ options-written [] rest are closed = option-whole outside rest closed
 options-written (option ∷ more) rest (is, are) closed =
     option-cut outside option (options_text more rest) is ∙ ap (λ (texts : List (List ℕ)). option ∷ texts) (options-written more rest are closed)
 
--- a word ends at the blank behind it
+-- a word ends at the blank after it
 front-word : (depth : ℕ) (word rest : List ℕ) → IsUncut depth word → front_len is_blank depth (word ++ 32 ∷ rest) ≡ length word
 unfolding front_len
 front-word depth [] rest closed = rw closed refl
@@ -59,7 +59,7 @@ filled-append : (word rest : List ℕ) → BeginsFilled word → BeginsFilled (w
 filled-append [] rest never = absurd never
 filled-append (byte ∷ word) rest no_blank = no_blank
 
--- the first word of a text that begins with a word, and what stands behind it
+-- the first word of a text that begins with a word, and what comes after it
 first-written : (word rest : List ℕ) → IsUncut 0 word → BeginsFilled word → first_word (word ++ 32 ∷ rest) ≡ word
 unfolding first_word
 first-written word rest uncut begins =
@@ -88,7 +88,7 @@ unfolding words_text
 begins-words [] rest are next = next
 begins-words (word ∷ more) rest (uncut, begins, are) next = filled-append word (32 ∷ words_text more rest) begins
 
--- a line from each of its first words on, and behind them
+-- a line from each of its first words on, and after them
 texts_from : ℕ → List ℕ → List (List ℕ)
 texts_from zero line = []
 texts_from (suc count) line = line ∷ texts_from count (behind_word line)
@@ -134,7 +134,7 @@ header-written texts line cut words rest count are next written = record {
       ∙ rest-written words rest are next;
 }
 
--- so the fold over the options of a text is the one over the options that it is written of
+-- the fold over the options of a text is the one over the options that it is written of
 pub options-read : (classes : List Class) (names later : List (List ℕ)) (draft : Draft) (left : ℕ) (inside : List ℕ) (answer : Result Draft (Stop Fault))
     → GivesWith answer later (rule_options classes names draft left (option_texts outside inside))
     → (options : List (List ℕ)) (rest : List ℕ) → AreOptionTexts options → IsClosed outside rest → inside ≡ options_text options rest

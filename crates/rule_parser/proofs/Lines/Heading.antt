@@ -1,4 +1,4 @@
--- The header of a line word by word: what stands behind its words that are right, and at the first that is wrong.
+-- The header of a line word by word: what comes after its words that are right, and at the first that is wrong.
 use Rattle.std.proofs.Common.{◌≡◌, ℕ, Bool, Result, Ok, Err, List, refl, ap, subst, ◌∙◌, inl, inr}
 use Rattle.net_lists.specs.declared.part.AddrBounds.{AddrBounds}
 use Rattle.net_lists.specs.declared.part.Bounds.{Bounds}
@@ -14,7 +14,7 @@ use Rattle.rule_types.specs.declared.rule.Proto.{Proto}
 use Rattle.rule_parser.specs.Headers.{IsGiven, IsAddressWord, IsPortWord, IsHeader, action_of, proto_of, direction_of}
 use Rattle.rule_parser.specs.HeaderTexts.{AreTexts}
 
--- an answer of a word's reader, at the text where the word stands
+-- an answer of a word's reader, at the text where the word is
 abbrev pub AtWord : {X : Type 0} → (List ℕ → Result X Fault) → List ℕ → Result X Fault → Type 0
 AtWord reads word answer = answer ≡ reads word
 

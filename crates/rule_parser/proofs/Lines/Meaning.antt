@@ -26,7 +26,7 @@ IsOne {X} IsMeant = (a b : Result X Fault) → IsMeant a → IsMeant b → a ≡
 equal : {X : Type 0} (value : Result X Fault) → IsOne (λ answer. answer ≡ value)
 equal value a b first second = first ∙ sym second
 
--- one step behind another
+-- one step after another
 after : {X Y : Type 0} (first : Result X Fault → Type 0) (next : X → Result Y Fault → Type 0) → IsOne first → ((x : X) → IsOne (next x)) → IsOne (After first next)
 after {X} first next one ones a b (inl (x, f, n)) (inl (y, g, m)) =
     let ok : Ok x ≡ Ok y = one (Ok x) (Ok y) f g in
@@ -85,7 +85,7 @@ line-one : (variables : Variables) (classes : List Class) (names : List (List �
 unfolding IsRuleLine
 line-one variables classes names line = after (IsHeader variables line) _ (header-one variables line) (λ header. equal _)
 
--- so what a reader answers is what any meaning of the line says
+-- what a reader answers is what any meaning of the line says
 pub answers-as : (variables : Variables) (classes : List Class) (names : List (List ℕ)) (line : List ℕ) (answer : Result Rule RuleFault) (later : List (List ℕ))
     → IsAnswered (length line) answer later (IsRuleLine variables classes names line)
     → (meant : Result (Rule × List (List ℕ)) Fault) → IsRuleLine variables classes names line meant → AnswersAs (length line) answer later meant

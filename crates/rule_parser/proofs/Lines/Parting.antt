@@ -43,14 +43,14 @@ texts_at-has text (Some len) = refl
 option_texts-has : (text : List ℕ) → has_text (option_texts outside text) ≡ true
 option_texts-has text = ap has_text (option_texts-at outside text) ∙ texts_at-has text (option_len outside text)
 
--- a step of the fold, where texts are left behind
+-- a step of the fold, where texts are left after it
 options-more : (classes : List Class) (names : List (List ℕ)) (draft : Draft) (left : ℕ) (text : List ℕ) (texts : List (List ℕ)) → has_text texts ≡ true
     → rule_options classes names draft left (text ∷ texts) ≡ (rule_option classes names draft left text >>= λ behind. rule_options classes behind.1 behind.0 (left - (length text + 1)) texts)
 unfolding rule_options has_text
 options-more classes names draft left text [] h = cc
 options-more classes names draft left text (next ∷ more) h = refl
 
--- the fold over a text's options is the first option and the fold over those behind it
+-- the fold over a text's options is the first option and the fold over those after it
 pub options-step : (classes : List Class) (names : List (List ℕ)) (draft : Draft) (text option behind : List ℕ) (left : ℕ) → left ≡ length text + 1 → IsFirstOption text option behind
     → rule_options classes names draft (length text + 1) (option_texts outside text)
     ≡ (rule_option classes names draft left option >>= λ next. rule_options classes next.1 next.0 (length behind + 1) (option_texts outside behind))
@@ -61,7 +61,7 @@ options-step classes names draft text option behind left is cut =
     ∙ options-more classes names draft left option (option_texts outside behind) (option_texts-has behind)
     ∙ ap (λ (n : ℕ). rule_option classes names draft left option >>= λ next. rule_options classes next.1 next.0 n (option_texts outside behind)) less
 
--- behind an option that is read
+-- after an option that is read
 pub options-next : (classes : List Class) (whole : Result (Draft × List (List ℕ)) Fault) (names later : List (List ℕ)) (draft next : Draft) (text option behind : List ℕ) (left : ℕ)
     → whole ≡ rule_options classes names draft (length text + 1) (option_texts outside text) → left ≡ length text + 1 → IsFirstOption text option behind
     → rule_option classes names draft left option ≡ Ok (next, later)
@@ -76,7 +76,7 @@ pub options-stop : (classes : List Class) (stop : Stop Fault) (whole : Result (D
 options-stop classes NoMemory whole names later draft text option behind left so_far is cut read = tt
 options-stop classes (Wrong why) whole names later draft text option behind left so_far is cut read = so_far ∙ options-step classes names draft text option behind left is cut ∙ rw read refl
 
--- behind the last option only blanks may stand
+-- after the last option only blanks may come
 abbrev pub at_end : Bool → Draft → List (List ℕ) → Result (Draft × List (List ℕ)) Fault
 at_end blank draft names = cond blank (Ok (draft, names)) (Err OptionSyntax)
 

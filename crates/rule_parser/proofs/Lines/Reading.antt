@@ -38,7 +38,7 @@ options-class classes names later draft inside few read =
     let sound = rule_options-sound classes (option_texts outside inside) names empty_draft (length inside + 1) few (empty-sound (length classes)) in
     known-there (length classes) draft.class (rw read at sound).0.class
 
--- behind a header that is right, and at one that is wrong
+-- after a header that is right, and at one that is wrong
 pub line-body : (variables : Variables) (classes : List Class) (names later : List (List ℕ)) (line : List ℕ) (header : Header) (answer : Result Rule (Stop Fault))
     → IsHeader variables line (Ok header) → GivesWith answer later (rule_body classes names header (behind_header line))
     → IsGivenWith answer later (IsRuleLine variables classes names line)
@@ -77,7 +77,7 @@ unfolding IsPortWord
 port-short variables text parts (inl (word, whole, read)) = read.1
 port-short variables text parts (inr (why, is, never)) = cc
 
--- so have the lists of a header that is read
+-- the lists of a header that is read have 1024 parts at most
 header-short : (variables : Variables) (line : List ℕ) (header : Header) → IsHeader variables line (Ok header) → AreShort header
 unfolding IsHeader
 header-short variables line header (inl (action, a, inl (proto, b, inl (src, c, inl (sports, d, inl (both, e, inl (dst, f, inl (dports, g, made)))))))) =

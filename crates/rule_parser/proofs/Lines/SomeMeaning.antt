@@ -26,7 +26,7 @@ use Rattle.rule_parser.specs.RuleLine.{HasMeaning, IsRuleLine, rule_body}
 
 -- ---- headers
 
--- one step behind another
+-- one step after another
 after : {X Y : Type 0} (first : Result X Fault → Type 0) (next : X → Result Y Fault → Type 0) → ((given : Result X Fault) × first given)
     → ((x : X) → (answer : Result Y Fault) × next x answer) → (answer : Result Y Fault) × After first next answer
 after first next (Ok x, is) more = let behind = more x in (behind.0, inl (x, is, behind.1))
@@ -59,7 +59,7 @@ port_word variables text =
     after (λ (given : Result (List ℕ) Fault). given ≡ expanded_word variables text) (IsReadAs port_bounds fault.Port) (expanded_word variables text, refl)
     (read_as port_bounds port_parts fault.Port)
 
--- what is left of a header behind some of its words
+-- what is left of a header after some of its words
 module _ (variables : Variables) (line : List ℕ) where
   abbrev AddressAt : ℕ → Result (List (Part AddrBounds)) Fault → Type 0
   AddressAt place = IsAddressWord variables (from_word place line)

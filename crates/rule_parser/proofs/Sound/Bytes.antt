@@ -162,7 +162,7 @@ module _ (classes : ℕ) (draft : Draft) (sound : IsSoundDraft classes draft) wh
       then_ok (λ _. Unit {0}) IsCompared (next_part operator) _ (any_ok (next_part operator)) (λ against _.
       then_ok (IsNumBelow (length draft.names) (pos 0) (pos 4294967295)) IsCompared (number_or_named 0 4294967295 draft.names against.left against.text) _ (number_or_named-below 0 4294967295 draft.names against.left against.text) (λ number below. (below, tests)))))
 
-  -- an option that stands behind the names of the draft, and is kept
+  -- an option that may come after the names of the draft, and is kept
   Stands : Opt → Type 0
   Stands option = IsOption (names_after [] draft.opts) option × IsPlain option
 
@@ -204,7 +204,7 @@ module _ (classes : ℕ) (draft : Draft) (sound : IsSoundDraft classes draft) wh
   unfolding byte_jump_option
   byte_jump-sound left value = then_ok Stands (IsSoundDraft classes) (byte_jump draft.names left value) (kept draft) (byte_jump-stands left value) stands-sound
 
-  -- the names behind one more: each is one of those before, or the new one
+  -- the names after one more: each is one of those before, or the new one
   name_ok : (name : List ℕ) → IfOk (with_name draft.names name (place_among name draft.names)) (λ found. (length found.0 ≤ 2) × (found.1 < 2) × ((k : ℕ) → k < length found.0 → (k < length draft.names) ⊎ (found.1 ≡ k)))
   name_ok name = go (place_among name draft.names) (place_among-below name draft.names)
     where
@@ -230,7 +230,7 @@ module _ (classes : ℕ) (draft : Draft) (sound : IsSoundDraft classes draft) wh
   named_more names place k (inl h) named = Contains-append_right (place ∷ []) names k (named k h)
   named_more names place k (inr e) named = (0, omega arith, e)
 
-  -- a byte_extract whose bytes stand behind the names of the draft
+  -- a byte_extract whose bytes are told after the names of the draft
   record IsExtraction (found : Extraction) : Type 0 where
     fetch : IsFetch (names_after [] draft.opts) found.fetch
     words : AreWords found.words

@@ -29,7 +29,7 @@ use Rattle.rule_parser.proofs.Sound.Drafts.{AreNamed, AreKept, IsHeld, IsSoundDr
 use Rattle.rule_parser.proofs.Sound.Steps.{then_ok, any_ok, kind_ok, if_ok}
 use Rattle.rule_parser.proofs.Sound.Values.{IsIn, IsNumBelow, number_in-within, signed_or_named-below, named-below, num-named}
 
--- a new content stands behind all options that stand
+-- a new content comes after all options that there are
 held-new : (classes : ℕ) (draft : Draft) (content : Content) → IsSoundDraft classes draft → ((names : List ℕ) → IsContent names content) → content.fast ≡ fast.No → IsHeld (settled draft) (record { content = content; place = length (settled draft); known = length draft.names; raw = false; placeless = false })
 unfolding settled
 held-new classes draft content sound is_content plain =
@@ -103,7 +103,7 @@ apart_ok draft = then_ok (λ held. draft.held ≡ Some held) (IsApart draft) (or
     go None = tt
     go (Some held) = refl
 
--- what a modifier makes of the last content stands where that stands, and is a fast pattern where that is one
+-- what a modifier makes of the last content is held as that is, and is a fast pattern where that is one
 record IsModified (opts : List Opt) (held next : Held) : Type 0 where
   keeps : IsHeld opts held → IsHeld opts next
   same : is_chosen next.content.fast ≡ is_chosen held.content.fast
@@ -157,7 +157,7 @@ rawbytes-sound classes draft sound value = modified-sound classes draft sound (�
     if_ok (IsModified draft.opts held) (is_some value) (Err OptionValue) _ (λ _. tt) (λ _.
     record { keeps = λ h. record { place = h.place; known = h.known; content = h.content; placeless = h.placeless }; same = refl })))
 
--- a place stands with any fast pattern but `only`
+-- a place goes with any fast pattern but `only`
 fast-placed : (content : Content) (relative : Bool) (from room : Option Num) (mode : FastMode) → is_only mode ≡ false → IsFast content mode → IsFast (record content { relative = relative; from = from; room = room }) mode
 fast-placed content relative from room fast.No other h = tt
 fast-placed content relative from room fast.Yes other h = h
@@ -167,7 +167,7 @@ fast-placed content relative from room fast.Only other h = absurd (true≢ other
     true≢ e = cc
 fast-placed content relative from room (fast.Part start len) other h = h
 
--- the value of a modifier that tells a place stands where a fast pattern excludes none
+-- the value of a modifier that tells a place is read only where a fast pattern excludes none
 place_text-ok : (bars placeless : Bool) (value : Option (List ℕ)) → IfOk (place_text bars placeless value) (λ _. placeless ≡ false)
 place_text-ok true placeless value = tt
 place_text-ok false true value = tt
@@ -219,7 +219,7 @@ room-sound classes relative draft sound left value = modified-sound classes draf
       same = refl;
     })))
 
--- a form of fast pattern for a content of so many bytes: its part lies within them
+-- a form of fast pattern for a content of `size` bytes: its part lies within them
 abbrev IsMode : ℕ → FastMode → Type 0
 IsMode size fast.No = Unit {0}
 IsMode size fast.Yes = Unit {0}
@@ -250,7 +250,7 @@ unplaced None None e = (refl, refl)
 unplaced None (Some room) e = cc
 unplaced (Some from) room e = cc
 
--- a fast pattern that may stand on a content
+-- a fast pattern that may be given for a content
 fast-on : (content : Content) (mode : FastMode) (negated : Bool) → content.negated ≡ negated → IsMode (length content.bytes) mode → ((is_only mode && negated) || ((is_only mode || negated) && has_room content)) ≡ false → IsFast (record content { fast = fast_on negated mode }) (fast_on negated mode)
 fast-on content mode true e h bars = tt
 fast-on content fast.No false e h bars = tt

@@ -18,7 +18,7 @@ use Rattle.rule_parser.specs.Contents.{is_only}
 use Rattle.rule_parser.specs.Drafts.{empty_draft, kept_count, kept, with_held}
 use Rattle.rule_types.specs.Sound.{IsContent, IsOption, AreOptions, names_behind, is_chosen, is_fast}
 
--- the names that stand behind these options
+-- the names that are extracted after these options
 abbrev pub names_after : List ℕ → List Opt → List ℕ
 names_after names [] = names
 names_after names (option ∷ rest) = names_after (names_behind names option) rest
@@ -42,27 +42,27 @@ names_after-insert names xs zero content = refl
 names_after-insert names [] (suc place) content = refl
 names_after-insert names (x ∷ xs) (suc place) content = names_after-insert (names_behind names x) xs place content
 
--- each of the first so many names is extracted
+-- each of the first `count` names is extracted
 abbrev pub AreNamed : List ℕ → ℕ → Type 0
 AreNamed names count = (k : ℕ) → k < count → Contains names k
 
--- the last content, which stands apart
+-- the last content, which is kept apart
 pub record IsHeld (opts : List Opt) (held : Held) : Type 0 where
   pub place : held.place ≤ length opts
   pub known : AreNamed (names_after [] (take held.place opts)) held.known
   pub content : IsContent (names_after [] (take held.place opts)) held.content
   pub placeless : held.placeless ≡ false → is_only held.content.fast ≡ false
 
--- how many of the last content are a fast pattern
+-- how many fast patterns the last content is, one or none
 abbrev pub fast_held : Option Held → ℕ
 fast_held None = 0
 fast_held (Some held) = cond (is_chosen held.content.fast) 1 0
 
--- how many contents stand apart
+-- how many contents are kept apart
 abbrev pub count_held : Option Held → ℕ
 count_held held = cond (is_some held) 1 0
 
--- the options that are kept, with the names that were extracted; whether a fast pattern stands
+-- the options that are kept, with the names that were extracted; whether there is a fast pattern
 pub record AreKept (opts : List Opt) (last : Option Held) (names : List (List ℕ)) (fast : Bool) : Type 0 where
   pub options : AreOptions [] opts
   pub named : AreNamed (names_after [] opts) (length names)
@@ -71,12 +71,12 @@ pub record AreKept (opts : List Opt) (last : Option Held) (names : List (List �
   pub count : length opts + count_held last ≤ 64
   pub chosen : count_by is_fast opts + fast_held last ≤ cond fast 1 0
 
--- a class that is there, among so many
+-- a class that is there, among `classes` classes
 abbrev pub IsKnown : ℕ → ClassName → Type 0
 IsKnown classes (class.Known place) = place < classes
 IsKnown classes class.Unknown = Unit {0}
 
--- a draft is sound for so many classes
+-- a draft is sound for `classes` classes
 pub record IsSoundDraft (classes : ℕ) (draft : Draft) : Type 0 where
   pub kept : AreKept draft.opts draft.held draft.names draft.fast
   pub msg : IfSome draft.msg (λ msg. length msg ≤ 1024)
@@ -106,7 +106,7 @@ empty-sound classes = record {
 abbrev pub IsPlain : Opt → Type 0
 IsPlain option = (is_fast option ≡ false) × ((names : List ℕ) → names_behind names option ≡ names)
 
--- the last content behind one more option
+-- the last content after one more option
 held-kept : (opts : List Opt) (option : Opt) (held : Option Held) → IfSome held (IsHeld opts) → IfSome held (IsHeld (opts ++ option ∷ []))
 held-kept opts option None h = tt
 held-kept opts option (Some held) h =
@@ -165,7 +165,7 @@ kept-sound classes draft option sound is_option plain = if_ok (IsSoundDraft clas
     At : List ℕ → Type 0
     At found = AreNamed found (length draft.names)
 
--- all options that stand
+-- all options of a draft, the last content in its place
 pub settled-options : (opts : List Opt) (held : Option Held) → AreOptions [] opts → IfSome held (IsHeld opts) → AreOptions [] (with_held opts held)
 settled-options opts None h k = h
 settled-options opts (Some held) h k = AreOptions-insert [] opts held.place held.content h k.content

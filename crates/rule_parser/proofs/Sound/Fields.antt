@@ -20,7 +20,7 @@ use Rattle.rule_parser.proofs.Sound.Drafts.{IsSoundDraft, IsPlain, names_after, 
 use Rattle.rule_parser.proofs.Sound.Steps.{then_ok, kind_ok, if_ok, some_weaken}
 use Rattle.rule_parser.proofs.Sound.Values.{IsIn, number_in-within}
 
--- an option that stands anywhere, and is no fast pattern
+-- an option that may come anywhere, and is no fast pattern
 pub IsAnywhere : Opt → Type 0
 IsAnywhere option = ((names : List ℕ) → IsOption names option) × IsPlain option
 

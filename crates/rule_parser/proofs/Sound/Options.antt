@@ -114,7 +114,7 @@ module _ (classes : List Class) (draft : Draft) (sound : IsSoundDraft (length cl
       then_ok (λ _. Unit {0}) (IsSoundBeside (length classes)) (or_kind (no_name option.name) (option_name option.name)) _ (any_ok (or_kind (no_name option.name) (option_name option.name))) (λ n _.
       named-sound names few option.left option.value n)
 
--- all options keep it so
+-- all options keep what is read sound, beside at most 1024 flowbit names
 pub rule_options-sound : (classes : List Class) (texts : List (List ℕ)) (names : List (List ℕ)) (draft : Draft) (left : ℕ) → length names ≤ 1024 → IsSoundDraft (length classes) draft → IfOk (rule_options classes names draft left texts) (IsSoundBeside (length classes))
 unfolding rule_options
 rule_options-sound classes [] names draft left few sound = (sound, few)
@@ -168,7 +168,7 @@ finished-sound classes header draft short_lists sound =
     first None h = omega arith
     first (Some gid) h = h
 
--- what stands behind a header with short lists gives a sound rule, beside at most 1024 flowbit names
+-- what comes after a header with short lists gives a sound rule, beside at most 1024 flowbit names
 pub rule_body-sound : (classes : List Class) (names : List (List ℕ)) (header : Header) (body : List ℕ) → AreShort header → length names ≤ 1024 → IfOk (rule_body classes names header body) (λ found. IsSound classes found.0 × (length found.1 ≤ 1024))
 unfolding rule_body
 rule_body-sound classes names header body short_lists few =

@@ -14,14 +14,14 @@ use Rattle.rule_types.specs.Sound.{IsNum}
 use Rattle.rule_parser.proofs.Sound.Steps.{if_ok}
 use Rattle.rule_parser.proofs.Sound.Drafts.{AreNamed}
 
--- from `least` to `most`
+-- a number from `least` to `most`
 abbrev pub IsIn : ℕ → ℕ → ℕ → Type 0
 IsIn least most number = (least ≤ number) × (number ≤ most)
 
 abbrev pub IsSignedIn : ℤ → ℤ → ℤ → Type 0
 IsSignedIn least most number = (least ≤ℤ number) × (number ≤ℤ most)
 
--- what stands where a test holds
+-- a value that is given where a test holds
 pub some_if : {A : Type 0} (P : A → Type 0) (test : Bool) (x : A) → (test ≡ true → P x) → IfSome (cond test (Some x) None) P
 some_if P true x h = h refl
 some_if P false x h = tt
@@ -48,12 +48,12 @@ signed_in-within least most text = go (signed_number text)
     go None = tt
     go (Some number) = some_if (IsSignedIn least most) (int_le least number && int_le number most) number (within number)
 
--- a number from `least` to `most`, or one of the first so many names
+-- a number from `least` to `most`, or one of the first `count` names
 abbrev pub IsNumBelow : ℕ → ℤ → ℤ → Num → Type 0
 IsNumBelow count least most (Value number) = IsSignedIn least most number
 IsNumBelow count least most (Name place) = place < count
 
--- the first so many names are extracted
+-- the first `count` names are extracted
 pub num-named : (names : List ℕ) (count : ℕ) (least most : ℤ) (number : Num) → AreNamed names count → IsNumBelow count least most number → IsNum names least most number
 num-named names count least most (Value number) named h = h
 num-named names count least most (Name place) named h = named place h

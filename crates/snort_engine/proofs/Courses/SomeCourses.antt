@@ -41,7 +41,7 @@ some_course (Some (run wanted)) here =
     let setup = some_setup (setup_words wanted) here.files here.refused in
     (course_by here.matches wanted setup.0, (setup.0, setup.1, refl))
 
--- and an answer, whatever the maker means
+-- words and files have an answer, whatever the maker means
 pub some_answer : (asked : Option Asked) (files : Files) (means : Means) (refused : List ℕ) → HasSomeAnswer asked files means refused
 some_answer asked files means refused =
     let matches = test_of means in

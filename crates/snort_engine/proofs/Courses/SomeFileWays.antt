@@ -23,7 +23,7 @@ use Rattle.unified2_out.proofs.Walks.{IsWalk, front-no_frame, front-no_record, f
 
 -- ---- numbers
 
--- so many numbers of so many bytes each
+-- this many numbers of `width` bytes each
 abbrev words_of : ℕ → ℕ → List ℕ → List ℕ
 words_of width zero bytes = []
 words_of width (suc count) bytes = big_number width bytes ∷ words_of width count (drop width bytes)
@@ -90,7 +90,7 @@ event_by-read words tail src dst small small_tail size tail_size =
       octets_are = refl;
     }
 
--- the parts of a body, with addresses of so many bytes
+-- the parts of a body, with addresses of this many bytes
 abbrev src_of : ℕ → List ℕ → ℕ
 src_of width body = big_number width (take width (take (width + width) (drop 36 body)))
 
@@ -255,7 +255,7 @@ frame_at bytes small = by_length (cases_lt (length bytes) (8 + size))
     by_length (inl few) = inr (λ kind body front. let long = frame-long bytes kind body front in let is = frame-size bytes kind body front in omega (arith, few, long, is))
     by_length (inr long) = by_size long (cases_lt most_body_bytes size)
 
--- a record stands at the front, and is one more; or none does
+-- a record is at the front, and is one more; or none is
 abbrev AddsOrNot : List ℕ → List U2 → Type 0
 AddsOrNot bytes old = ((new : List U2) × (size : ℕ) × AddsFront bytes old new size) ⊎ HasNoRecord bytes
 
@@ -277,7 +277,7 @@ front_at bytes old small = by_frame (frame_at bytes small)
 abbrev pub AreOrBad : List ℕ → Type 0
 AreOrBad bytes = ((entries : List U2) × AreRecordsOf bytes entries) ⊎ ((place : ℕ) × IsBadAt bytes place)
 
--- a reading that stands at a place goes on
+-- a reading that has come to a place goes on
 abbrev StepsOrEnds : List ℕ → List U2 → ℕ → Type 0
 StepsOrEnds bytes entries place = ((new : List U2) × (size : ℕ) × (8 ≤ size) × IsWalk bytes [] new (place + size)) ⊎ AreOrBad bytes
 

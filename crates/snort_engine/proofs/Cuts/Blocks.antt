@@ -17,7 +17,7 @@ use Rattle.pcapng_input.proofs.Captures.Nexts.{next_of-stops}
 use Rattle.pcapng_input.proofs.Captures.Records.{records_left-ends, records_left-stands}
 use Rattle.pcapng_input.proofs.Captures.Beginnings.{stands_parts}
 
--- these records, and a clean ending
+-- what a capture of blocks is cut to: these records, and a clean ending
 abbrev pub clean_cut : List NgRecord → Cut NgRecord NgFault
 clean_cut records = clean_with records
 
@@ -25,7 +25,7 @@ clean_cut records = clean_with records
 abbrev pub records_at : Walk → List ℕ → List NgRecord
 records_at walk rest = (records_left walk rest).records
 
--- the bytes of so many records that stand first, and that no shorter beginning holds as many
+-- the bytes of the first `count` records; no shorter beginning holds as many
 pub record Front (walk : Walk) (count : ℕ) (rest : List ℕ) : Type 0 where
   pub own : List ℕ
   pub left : List ℕ
@@ -33,7 +33,7 @@ pub record Front (walk : Walk) (count : ℕ) (rest : List ℕ) : Type 0 where
   pub exact : records_left walk own ≡ clean_cut (take count (records_at walk rest))
   pub shortest : (xs ys : List ℕ) → rest ≡ xs ++ ys → count ≤ length (records_at walk xs) → length own ≤ length xs
 
--- where nothing stands next, there is no record
+-- where nothing comes next, there is no record
 none_at : (walk : Walk) (count : ℕ) (rest : List ℕ) (ending : Ending NgFault) → next_of walk rest ≡ Ends ending → suc count ≤ length (records_at walk rest) → ⊥
 none_at walk count rest ending is enough =
     let none = ap (λ (cut : Cut NgRecord NgFault). length cut.records) (records_left-ends walk rest ending is) in
@@ -186,7 +186,7 @@ step_magic bytes behind more is skips =
     let own = number_front 8 bytes (omega arith) ∙ is in
     section_magic first_walk (take 8 bytes) (drop 8 bytes) behind more _ refl (sym (begun_section first_walk (take 8 bytes) own (drop 8 bytes)) ∙ two.1)
 
--- so the file begins with it
+-- the opening of a file that begins with a section header is its first step
 opening_is : (bytes : List ℕ) → number_at false 0 4 bytes ≡ section_type → IsBegun (drop 8 bytes) → opening bytes ≡ step_of first_walk bytes
 unfolding opening
 opening_is bytes is begun_here =

@@ -1,4 +1,4 @@
--- A capture cut behind one of its records: that it can be cut so, and what is read of the cut.
+-- A capture cut after one of its records: that it can be cut so, and what is read of the cut.
 use Rattle.std.proofs.Common.{◌≡◌, ℕ, ◌+◌, ◌-◌, ◌<◌, ◌≤◌, Bool, true, false, List, [], ◌∷◌, ◌++◌, Option, Some, None, Result, Ok, Err, length, map, take, drop, refl, sym, ap, ◌∙◌, append_assoc, length-append, arith}
 use Rattle.std.proofs.lemmas.List.{length-map, length-take-le, take-append-drop, take_at, drop_at, drop-append-le, take-map}
 use Rattle.std.proofs.lemmas.Bool.Decides.{nat_tests}
@@ -26,7 +26,7 @@ use Rattle.snort_engine.proofs.Records.Opening.{long_enough, other_head}
 use Rattle.snort_engine.proofs.Cuts.Savefiles as of_savefiles
 use Rattle.snort_engine.proofs.Cuts.Blocks as of_walks
 
--- these records, and a clean ending
+-- a recording of these records, with a clean ending
 abbrev clean : List LinkedRecord → Recording
 clean records = clean_with records
 
@@ -56,7 +56,7 @@ blocks_front front back is long =
     let own : number_at false 0 4 front ≡ section_type = sym (number_at-append false 0 4 front back (omega arith)) ∙ begins in
     grind (arith, nat_tests, own, long)
 
--- and what begins with blocks is of blocks
+-- what begins with the beginning of blocks is of blocks
 pub blocks_more : (front back : List ℕ) → is_of_blocks front ≡ true → is_of_blocks (front ++ back) ≡ true
 blocks_more front back is =
     let begins : number_at false 0 4 front ≡ section_type = grind (arith, nat_tests, is) in
@@ -156,7 +156,7 @@ limited_by limit bytes true is some holds =
 
 -- ---- the cut
 
--- the beginning of a capture that ends with the last of so many records
+-- the beginning of a capture that ends with the last of this many records
 pub record Beginning (count : ℕ) (bytes : List ℕ) : Type 0 where
   pub front : List ℕ
   pub left : List ℕ
@@ -169,7 +169,7 @@ bytes_of-linked : (link : Link) (records : List Record) → bytes_of (map (linke
 bytes_of-linked link [] = refl
 bytes_of-linked link (first ∷ later) = ap (λ (n : ℕ). (16 + length first.bytes) + n) (bytes_of-linked link later)
 
--- another beginning of a savefile that holds as many is as long
+-- another beginning of a savefile that holds as many records is at least as long
 savefile_shortest : (count : ℕ) (bytes : List ℕ) (head : CaptureHead) (f : of_savefiles.Front head 0 24 count (drop 24 bytes)) → head_of bytes ≡ Ok head → 0 < count
     → (xs ys : List ℕ) (test : Bool) → is_of_blocks xs ≡ test → bytes ≡ xs ++ ys → Holds xs count → 24 + length f.own ≤ length xs
 savefile_shortest count bytes head f is some xs ys true blocks_are split holds =
@@ -221,7 +221,7 @@ savefile_cut count bytes head is some holds =
           omega (arith, less, size, first_size);
     }
 
--- another beginning of blocks that holds as many is as long
+-- another beginning of blocks that holds as many records is at least as long
 blocks_shortest : (count : ℕ) (bytes : List ℕ) (f : of_walks.Front first_walk count bytes) → is_of_blocks bytes ≡ true → 0 < count
     → (xs ys : List ℕ) (test : Bool) → is_of_blocks xs ≡ test → bytes ≡ xs ++ ys → Holds xs count → length f.own ≤ length xs
 blocks_shortest count bytes f is some xs ys false other split holds =
@@ -277,7 +277,7 @@ cut_is count bytes cut holds = record {
   shortest = λ other begins few. cut.shortest other begins.0 (sym begins.1) few;
 }
 
--- a capture is cut behind its records in one way
+-- a capture is cut after its records in one way
 pub cut_one : (count : ℕ) (bytes front : List ℕ) (cut : Beginning count bytes) → Holds bytes count → IsCutBehind count bytes front → front ≡ cut.front
 cut_one count bytes front cut holds is =
     let here = cut_is count bytes cut holds in

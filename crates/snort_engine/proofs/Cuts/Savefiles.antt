@@ -13,7 +13,7 @@ abbrev pub size_of : List Record → ℕ
 size_of [] = 0
 size_of (first ∷ later) = (record_header + length first.bytes) + size_of later
 
--- these records, and a clean ending
+-- what a savefile is cut to: these records, and a clean ending
 abbrev pub clean_cut : List Record → Cut Record CaptureFault
 clean_cut records = clean_with records
 
@@ -21,7 +21,7 @@ clean_cut records = clean_with records
 abbrev pub records_at : CaptureHead → ℕ → ℕ → List ℕ → List Record
 records_at head number place rest = (records_left head number place rest).records
 
--- the bytes of so many records that stand first, and that no shorter beginning holds as many
+-- the bytes of the first `count` records; no shorter beginning holds as many
 pub record Front (head : CaptureHead) (number place count : ℕ) (rest : List ℕ) : Type 0 where
   pub own : List ℕ
   pub left : List ℕ
@@ -30,7 +30,7 @@ pub record Front (head : CaptureHead) (number place count : ℕ) (rest : List �
   pub size : length own ≡ size_of (take count (records_at head number place rest))
   pub shortest : (xs ys : List ℕ) → rest ≡ xs ++ ys → count ≤ length (records_at head number place xs) → length own ≤ length xs
 
--- where nothing stands next, there is no record
+-- where nothing comes next, there is no record
 none_at : (head : CaptureHead) (number place count : ℕ) (rest : List ℕ) (ending : Ending CaptureFault) → next_of head number place rest ≡ Ends ending
     → suc count ≤ length (records_at head number place rest) → ⊥
 none_at head number place count rest ending is enough =

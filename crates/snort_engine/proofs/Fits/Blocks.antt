@@ -141,7 +141,7 @@ step_fits walk rest all =
     either (length rest == 0) _ _ tt (either (is_full walk) _ _ tt (either (nat_lt (length rest) 8) _ _ tt
     (begun_fits walk (take 8 rest) (drop 8 rest) (All-drop IsByte 8 rest all))))
 
--- and so does what stands next
+-- what comes next fits
 abbrev FitsNext : Next → Type 0
 FitsNext (Ends ending) = ⊤
 FitsNext (Stands given walk more) = FitsCaptured given.item × AllFit 1 more

@@ -15,7 +15,7 @@ use Rattle.snort_engine.specs.Course.{Plan}
 use Rattle.snort_engine.specs.ReadBack.{FitsRecord}
 use Rattle.snort_engine.specs.Trace.{closing_items, detection_of, items_of, job_items, jobs_of, jobs_way}
 
--- all answers along a list fit, where each does behind inputs that fit
+-- all answers along a list fit, where each does after inputs that fit
 all_trail : {X A : Type 0} (P : X → Type 0) (Q : A → Type 0) (f : List X → X → List A) (before xs : List X)
     → ((earlier : List X) (x : X) → All P earlier → P x → All Q (f earlier x)) → All P before → All P xs → All Q (trail_from f before xs)
 all_trail {X} {A} P Q f before [] each earlier all = All-nil Q

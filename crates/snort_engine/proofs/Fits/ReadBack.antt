@@ -89,7 +89,7 @@ unfolding item_events
 item_fits plan before hits rules fits =
     all_flat FitsEvent (event_at plan.rules hits.head) (kept plan.config plan.rules (map filtered_item before) (filtered_item hits)) (λ place. rule_fits plan.rules hits.head place _ refl rules fits)
 
--- the events of items behind others
+-- the events of items after others
 events_fit : (plan : Plan) (before items : List Hits) → All FitsRule plan.rules → All FitsHits items
     → All FitsEvent (trail_from (item_events plan.config plan.rules) before items)
 events_fit plan before items rules all =
@@ -140,7 +140,7 @@ last_fits start (r ∷ later) first all = last_fits r later (All-head FitsRecord
 no_record_fits : FitsRecord no_record
 no_record_fits = record { short = omega arith; bytes = All-nil (λ value. value < 256 ^ 1) }
 
--- those of the flows that end with a capture
+-- the alerts of the flows that end with a capture
 closing_fit : (plan : Plan) (records : List LinkedRecord) → All FitsRule plan.rules → All FitsRecord records → All FitsAlert (closing_alerts plan records)
 unfolding closing_alerts closing_events
 closing_fit plan records rules captured =
@@ -274,7 +274,7 @@ pub answer_entries : (plan : Plan) (bytes warnings : List ℕ) → plan.form ≡
 unfolding capture_answer
 answer_entries plan bytes warnings is rules all = are_entries plan (records_of plan bytes).records Closed is rules (records_fit plan bytes all)
 
--- and so are its beginnings that end with a record
+-- the first of the records of bytes are the records of a beginning of these bytes
 pub first_entries : (bytes : List ℕ) (written : List U2) (count : ℕ) → AreRecordsOf bytes written
     → AreRecordsOf (joined_text (take count written)) (take count written) × IsPrefix (joined_text (take count written)) bytes
 first_entries bytes written count are =

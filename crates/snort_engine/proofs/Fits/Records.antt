@@ -23,7 +23,7 @@ use Rattle.snort_engine.specs.ReadBack.{FitsRecord}
 use Rattle.snort_engine.proofs.Fits.Savefiles.{FitsCaptured, savefile_fits}
 use Rattle.snort_engine.proofs.Fits.Blocks.{FitsGiven, blocks_fit}
 
--- with their link layers
+-- records with their link layers fit
 linked_fit : (link : Link) (records : List Record) → All FitsCaptured records → All FitsRecord (map (linked link) records)
 linked_fit link records all =
     All-map FitsRecord (linked link) records

@@ -28,7 +28,7 @@ IsPlain status.HostFault = ⊥
 IsPlain status.WriteFault = ⊥
 IsPlain status.NoMemory = ⊥
 
--- it ended as its answer says
+-- a run ended as its answer says
 pub ends_met : (files : Files) (course : Course) (before after : Work) (ended : Status) (alerts message : List ℕ) → IsPlain ended
     → after.alerts ≡ behind before.alerts alerts → IsAnswered (answer_of files course) ended alerts message → ReadsAhead files course before after ended
     → Ends files course before after ended message
@@ -43,7 +43,7 @@ ends_met files course before after ended alerts message plain wrote answered ahe
   read_ahead = ahead;
 }
 
--- it ended at a fault of the host, or at a file that is lacking
+-- a run ended at a fault of the host, or at a file that is lacking
 pub ends_unread : (files : Files) (course : Course) (before after : Work) (alerts message : List ℕ)
     → after.alerts ≡ behind before.alerts alerts → IsPrefix alerts (answer_of files course).alerts
     → ((¬ Rose before.host_faults after.host_faults) → IsAnswered (answer_of files course) status.HostFault alerts message)
@@ -61,7 +61,7 @@ ends_unread files course before after alerts message wrote prefix stated how ahe
   read_ahead = ahead;
 }
 
--- it ended at a file that is lacking
+-- a run ended at a file that is lacking
 pub ends_answered : (files : Files) (course : Course) (before after : Work) (alerts message : List ℕ)
     → after.alerts ≡ behind before.alerts alerts → IsAnswered (answer_of files course) status.HostFault alerts message
     → ReadsAhead files course before after status.HostFault
@@ -69,7 +69,7 @@ pub ends_answered : (files : Files) (course : Course) (before after : Work) (ale
 ends_answered files course before after alerts message wrote answered ahead =
     ends_unread files course before after alerts message wrote (subst (λ (x : List ℕ). IsPrefix alerts x) answered.alerts_are (IsPrefix-same alerts)) (λ still. answered) (inl answered) ahead
 
--- writing failed
+-- a run ended where writing failed
 pub ends_unwritten : (files : Files) (course : Course) (before after : Work) → WritesPart before.alerts (answer_of files course).alerts after.alerts
     → ReadsAhead files course before after status.WriteFault → Ends files course before after status.WriteFault (concat course.warnings ++ cannot_write_text)
 unfolding WritesPart
@@ -88,7 +88,7 @@ ends_unwritten files course before after (part, prefix, wrote) ahead = record {
 all_of : (xs : List (List ℕ)) → IsPrefix xs xs
 all_of xs = ([], append-nil xs)
 
--- the message of want of memory, behind all warnings or behind none
+-- the message of want of memory, after all warnings or after none
 memory_message : (course : Course) → IsNoMemoryMessage course (concat course.warnings ++ no_memory_text)
 memory_message course = (course.warnings, all_of course.warnings, refl)
 
@@ -110,7 +110,7 @@ ends_lacking_so files course before after message says (part, prefix, wrote) ahe
   read_ahead = ahead;
 }
 
--- memory was lacking, behind all warnings
+-- memory was lacking, after all warnings
 pub ends_lacking : (files : Files) (course : Course) (before after : Work) → WritesPart before.alerts (answer_of files course).alerts after.alerts
     → ReadsAhead files course before after status.NoMemory → Ends files course before after status.NoMemory (concat course.warnings ++ no_memory_text)
 ends_lacking files course before after part ahead = ends_lacking_so files course before after (concat course.warnings ++ no_memory_text) (memory_message course) part ahead
@@ -129,7 +129,7 @@ unfolding ReadsAhead
 ahead_goes files course plan before after ended goes read =
     subst (λ (way : Way). ReadsAheadOn files way before after ended) (sym goes) (inl read)
 
--- or was cut off before
+-- a run whose course goes on was cut off before its capture was read
 pub ahead_cut : (files : Files) (course : Course) (plan : Plan) (before after : Work) (ended : Status) → course.way ≡ Goes plan → IsCutStatus ended → IsUntouched before after ⊎ IsShut before after → ReadsAhead files course before after ended
 unfolding ReadsAhead
 ahead_cut files course plan before after ended goes cut how =

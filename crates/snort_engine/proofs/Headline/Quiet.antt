@@ -63,7 +63,7 @@ setup_uncut A holds (setup.Refused message) so uncut = so
 setup_uncut A holds (setup.CannotRead name) so uncut = absurd cc
 setup_uncut A holds setup.NoMemory so uncut = absurd cc
 
--- nor at a Unified2 file
+-- where the host failed at a Unified2 file, the run was cut short
 failed_uncut : (name : List ℕ) (why : Stop) → StopsAtFile name load.Failed why → is_uncut (stop_status why) ≡ true → ⊥
 failed_uncut name (stop.CannotReadFile file) so uncut = cc
 failed_uncut name stop.NoMemory so uncut = cc
@@ -93,7 +93,7 @@ uncut_unfailed A why uncut is =
     let never : false ≡ true = subst (λ (f : ReadFault). is_uncut (fault_status f) ≡ true) same uncut in
     cc
 
--- it went well, and no count rose
+-- the work went well, and no count rose
 pub caused_done : (cause : Type 0) (old new : Faults) → new.host ≡ old.host → new.alerts ≡ old.alerts → HasCauses cause old new status.Done
 caused_done cause old new same same_alerts =
     record { write_fault = λ is. absurd cc; read_fault = λ is. absurd cc; quiet = λ uncut. same; quiet_alerts = λ written. same_alerts; later_alerts = omega (arith, same_alerts) }

@@ -1,7 +1,7 @@
--- Runs that the headline refuses: one line short, one record too far ahead, one after a write fault, one behind the
+-- Runs that the headline refuses: one line short, one record too far ahead, one after a write fault, one after the
 -- limit, flows ended after a read fault, one opening too many.
 --
--- The first and the last ones speak of any capture, the second of one whose first batch has a line, and behind
+-- The first and the last ones speak of any capture, the second of one whose first batch has a line, and after
 -- which a record was taken. They show that the relations say something of such runs by themselves,
 -- whatever a body's proof looks like.
 use Rattle.std.proofs.Common.{◌≡◌, ℕ, ◌+◌, ◌-◌, ◌≤◌, List, [], ◌∷◌, ◌++◌, Option, Some, None, length, take, refl, sym, ap, subst, append_assoc, ◌∙◌, arith, inl, inr, ⊎_elim}
@@ -28,7 +28,7 @@ use Rattle.snort_engine.specs.Ending.{Ends, IsAnswered, IsCutShort, IsTakenOf, l
 use Rattle.snort_engine.specs.Headline.{HasOther, Headline}
 use Rattle.snort_engine.proofs.Lines.Laws.{lines_join}
 
--- behind what is told, a text and no text differ
+-- after what is told, a text and no text differ
 behind_apart : (old text : List ℕ) (byte : ℕ) (rest : List ℕ) → behind (Some old) text ≡ behind (Some old) (text ++ byte ∷ rest) → ⊥
 unfolding behind
 behind_apart old text byte rest same =
@@ -50,7 +50,7 @@ front_past count first others past =
     let count_is : count ≡ length first + (count - length first) = omega (arith, past) in
     ap (λ (n : ℕ). take n (first ++ others)) count_is ∙ take-append-add first others (count - length first)
 
--- a batch lies before the last record's, if some records stand behind it
+-- a batch lies before the last record's, if some records follow it
 past_first : (first others : List LinkedRecord) → length first ≡ batch → 1 ≤ length others → length first ≤ before_last_batch (length (first ++ others))
 past_first first others size some = omega (arith, size, some, length-append first others)
 
@@ -91,7 +91,7 @@ pub record IsTakenBeyond (plan : Plan) (held left : Option (List ℕ)) (text : L
   pub line : List ℕ
   pub shown : lines plan [] first Open ≡ text ++ byte ∷ line
 
--- then no more than this text was written: that is too little
+-- where a record was taken after a batch that has a line, and no more than this text was written, that is too little
 due_unwritten : (plan : Plan) (held : Option (List ℕ)) (before after : Work) (ended : Status) (old text : List ℕ) → IsTakenBeyond plan held after.left text
     → before.alerts ≡ Some old → after.alerts ≡ behind (Some old) text → IsReadAhead plan held before after ended → ⊥
 due_unwritten plan held before after ended old text beyond told wrote read =
@@ -109,7 +109,7 @@ due_unwritten plan held before after ended old text beyond told wrote read =
     ∙ ap (λ (x : List ℕ). behind (Some old) (x ++ read.more)) all
     ∙ ap (behind (Some old)) (append_assoc text (beyond.byte ∷ (beyond.line ++ more)) read.more))
 
--- a batch that has a line was taken and a record behind it, and no line was written: no run ends so at a write fault
+-- a batch that has a line was taken and a record after it, and no line was written: no run ends so at a write fault
 pub one_record_too_far : (files : Files) (course : Course) (plan : Plan) (before after : Work) (message old : List ℕ)
     → course.way ≡ Goes plan → IsTakenBeyond plan (get files plan.source) after.left []
     → before.alerts ≡ Some old → after.alerts ≡ Some old → Ends files course before after status.WriteFault message → ⊥
@@ -136,7 +136,7 @@ rest_read_after_the_fault files course plan before after ended message old text 
     cut.1)
     (subst (λ (way : Way). ReadsAheadOn files way before after ended) goes ends.read_ahead)
 
--- a batch and a record behind it were taken of a capture that has more, and the host did not fail: no run ends so at a
+-- a batch and a record after it were taken of a capture that has more, and the host did not fail: no run ends so at a
 -- write fault
 pub one_record_after_the_fault : (files : Files) (course : Course) (plan : Plan) (before after : Work) (message taken rest : List ℕ)
     → course.way ≡ Goes plan → get files plan.source ≡ Some (taken ++ rest) → after.left ≡ Some rest
@@ -160,7 +160,7 @@ one_record_after_the_fault files course plan before after message taken rest goe
     refuted (inr (inl out)) = let sizes : length (records_of plan (taken ++ rest)).records ≡ length (records_of plan taken).records = ap length out in absurd (omega (arith, sizes, size, more))
     refuted (inr (inr rose)) = still rose
 
--- a record behind the limit was read, whatever was written: no run ends so as Done
+-- a record after the limit was read, whatever was written: no run ends so as Done
 pub one_record_past_the_limit : (files : Files) (course : Course) (plan : Plan) (before after : Work) (message taken rest : List ℕ) (limit : ℕ)
     → course.way ≡ Goes plan → get files plan.source ≡ Some (taken ++ rest) → after.left ≡ Some rest
     → plan.limit ≡ Some limit → limit + 1 ≤ length (records_in None taken).records → Ends files course before after status.Done message → ⊥
@@ -178,7 +178,7 @@ one_record_past_the_limit files course plan before after message taken rest limi
     (λ cut. ⊎_elim (λ is. absurd cc) (λ is. absurd cc) cut.0)
     (subst (λ (way : Way). ReadsAheadOn files way before after status.Done) goes ends.read_ahead)
 
--- behind the lines of the records that are whole within the bytes taken, more was written, as by flows that were ended: no
+-- after the lines of the records that are whole within the bytes taken, more was written, as by flows that were ended: no
 -- run of a capture that is there ends so as a host fault
 pub flows_ended_after_a_read_fault : (files : Files) (course : Course) (plan : Plan) (before after : Work) (message old taken rest : List ℕ) (byte : ℕ) (more : List ℕ)
     → course.way ≡ Goes plan → get files plan.source ≡ Some (taken ++ rest) → after.left ≡ Some rest

@@ -34,7 +34,7 @@ tells_part text old new rose part failed = record { part = part; whole = tt; fai
 pub tells_none : (old : Option (List ℕ)) (rose : Type 0) → TellsOn [] true old old rose true
 tells_none old rose = record { part = WritesPart-none old []; whole = sym (behind-nil old); failed = tt; silent = tt }
 
--- ---- one text behind another
+-- ---- one text after another
 
 -- the texts so far, and one text more
 pub concat-more : (texts : List (List ℕ)) (i : ℕ) (d : List ℕ) → i < length texts → concat (take (i + 1) texts) ≡ concat (take i texts) ++ get_or texts i d

@@ -87,7 +87,7 @@ on_course asked here warnings message ended before after has early unopened = re
   ends = subst (λ (w : List (List ℕ)). Ends here.files has.course before after ended (concat w ++ message)) has.warnings_are (stops_ends here.files has.course message ended before after has.way_is early unopened);
 }
 
--- the same, where memory was lacking for the message
+-- a course of this way, where memory was lacking for the message
 on_course_untold : (asked : Option Asked) (here : Given) (warnings : List (List ℕ)) (message : List ℕ) (ended : Status) (before after : Work) → HasWay asked here warnings (Stops message ended) → IsEarlyStatus ended → IsUntouched before after
     → EndsOnCourse asked here before after status.NoMemory (concat warnings ++ no_memory_text)
 on_course_untold asked here warnings message ended before after has early unopened = record {
@@ -116,7 +116,7 @@ module _ {A : Type 0} (view : A → Way) (asked : Option Asked) (here : Given) (
   stop_ends host stop.NoMemory cause has = inr (record { unopened = unopened; why = inr (refl, record { warnings = warnings; before_one = inl has; says = refl }) })
   stop_ends host why cause has = absurd cause
 
-  -- and where memory was lacking for its message
+  -- how a stop ends a run where memory was lacking for its message
   stop_untold : (host : Option Files) (why : Stop) → HasCause (Rose before.host_faults after.host_faults) host why → Prepares view asked here (Rose before.host_faults after.host_faults) (Err why) warnings
       → EndsRun asked here before after status.NoMemory (concat warnings ++ no_memory_text)
   stop_untold host stop.Usage cause has = inl (on_course_untold asked here warnings _ _ before after has (inl tt) unopened)
@@ -288,7 +288,7 @@ uncut_by_outcome warnings text outcome before after ended told uncut =
     (λ untold. let never : false ≡ true = ap is_uncut (sym untold.0) ∙ status_uncut ended uncut in absurd cc)
     told.reports
 
--- so it met no fault of the host and none of the alert sink, where the work met none
+-- a run that isn't cut short met no fault of the host and none of the alert sink, where the work met none
 quiet_run : (warnings : List (List ℕ)) (text : List ℕ) (outcome : Result (Unit {0}) Stop) (before after : Outside) (ended : Status) → IsTold warnings text outcome before after ended
     → ReadsQuietly outcome before.host_faults after.host_faults → WritesQuietly outcome before.alert_faults after.alert_faults
     → IsUncut ended → (after.host_faults ≡ before.host_faults) × (after.alert_faults ≡ before.alert_faults)
@@ -412,7 +412,7 @@ so_most told name failed old new opens =
     let two = one_more_most (one_more old) in
     ⊎_elim (λ once. let is = once.0 in omega (arith, is, one)) (λ twice. let is = twice.0 in omega (arith, is, one, two)) opens
 
--- and so is a capture
+-- a capture is opened twice at most
 pub opens_most : (told : Option Files) (way : Way) (failed : Type 0) (old new : ℕ) → OpensOn told way failed old new → new ≤ old + 2
 opens_most told (Goes plan) failed old new opens = so_most told plan.source failed old new opens
 opens_most told (Stops message ended) failed old new opens = omega (arith, opens)

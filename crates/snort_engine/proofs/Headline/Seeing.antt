@@ -20,7 +20,7 @@ use Rattle.snort_engine.specs.Steps.Preparing.{HasCause}
 use Rattle.snort_engine.specs.Steps.Sources.{LacksCapture, LacksSource, source_name, way_from}
 use Rattle.snort_engine.specs.Headline.{Headline}
 
--- what it tells may be seen of it
+-- what a host tells may be seen of it
 pub told_may : {H : Type 0} (h : HostOf H) (host : H) → AsTold (h.contents host) (h.left host) (h.agrees host) (h.left_of host) → MaySee (h.contents host) (h.agrees host) (h.contents host)
 told_may h host law = told_seen (h.contents host) (h.left host) (h.agrees host) (h.left_of host) law
 
@@ -42,7 +42,7 @@ pub cause_by : {H : Type 0} (h : HostOf H) (old new : H) (name : List ℕ) (rose
 cause_by h old new name rose seen law same may (inl counted) = inl counted
 cause_by h old new name rose seen law same may (inr lacks) = inr (lacks_by h old new name seen law same may lacks)
 
--- and so has a stop before the capture
+-- a stop before the capture has its cause by what is seen
 pub stop_cause_by : {H : Type 0} (h : HostOf H) (old new : H) (rose : Type 0) (why : Stop) (seen : Option Files) → AsTold (h.contents new) (h.left new) (h.agrees new) (h.left_of new) → h.contents new ≡ h.contents old
     → MaySee (h.contents new) (h.agrees new) seen → HasCause rose (h.contents old) why → HasCause rose seen why
 stop_cause_by h old new rose (stop.CannotReadFile name) seen law same may cause = cause_by h old new name rose seen law same may cause

@@ -59,12 +59,12 @@ pub advances_nothing : {S X Y : Type 0} (stage : Stage S X Y) (inputs : List Y) 
     → Advances {A = Unit {0}} stage inputs old new first end (Err write.NoMemory)
 advances_nothing stage inputs old new first end written faults = record { stands = tt; emits = emits_nothing _ first end written faults }
 
--- it was stopped, where no text waited before
+-- a step was stopped, where no text waited before
 advances_stopped : {S X Y : Type 0} (stage : Stage S X Y) (inputs : List Y) (old new : S) (first end : Sending) (why : WriteFault) → first.block ≡ []
     → Advances {A = Unit {0}} stage inputs old new first end (Err why) → Advances {A = Unit {0}} stage inputs old new (emptied first) (emptied end) (Err why)
 advances_stopped stage inputs old new first end why empty one = record { stands = tt; emits = emits_settled (Err why) first end empty tt one.emits }
 
--- or it went on, and what waits was offered
+-- a step went on, and what waits was offered
 advances_offered : {S X Y : Type 0} (stage : Stage S X Y) (inputs : List Y) (old middle new : S) (first between end : Sending) (done : Unit {0}) (outcome : Result (Unit {0}) WriteFault) → first.block ≡ []
     → OnOk outcome (end.block ≡ []) → Advances stage inputs old middle first between (Ok done) → Emits [] between end outcome
     → ((before : List X) → stage.stands before middle → stage.stands before new) → Advances stage inputs old new (emptied first) (emptied end) outcome
@@ -91,7 +91,7 @@ items_found d source before batch hits is =
     ∙ whats-carried (job_items d) before (by_place source 0 batch)
     ∙ ap (trail_from (job_items d) before) (whats-by_place source 0 batch)
 
--- the tries of a batch come behind those so far
+-- the tries of a batch are added to those so far
 tries_found : (d : Detection) (before batch : List Job) (old new more : ℕ) → old ≡ try_count d before → new ≡ old + more → more ≡ sum (along_from (answer_tries d) before batch) → new ≡ try_count d (before ++ batch)
 tries_found d before batch old new more so_far is found =
     is ∙ ap (λ (n : ℕ). n + more) so_far ∙ ap (λ (n : ℕ). try_count d before + n) found
@@ -115,7 +115,7 @@ found_lines plan source before batch =
     ap (items_lines plan.form plan.config plan.rules (trail (job_items (detection_of plan)) before))
     (sym (told_found (detection_of plan) source before batch (along_from (answer (detection_of plan)) before batch) refl))
 
--- an inspection that stands behind jobs stands behind them, whatever records they are beside
+-- an inspection that was given jobs was given them, whatever records they are beside
 stands_beside : (plan : Plan) (source : ℕ → LinkedRecord) (before batch : List Job) (inspection : Inspection) → InspectionStands plan (before ++ batch) inspection
     → InspectionStands plan (before ++ whats (by_place source 0 batch)) inspection
 stands_beside plan source before batch inspection stands =
@@ -159,7 +159,7 @@ runs_by outcome plan source batch old new first end faults after out answers tri
         })
     by_outcome (Err why) on = tt
 
--- their lines were not all made
+-- the lines of jobs were not all made
 pub runs_stopped : (plan : Plan) (source : ℕ → LinkedRecord) (batch : List Job) (old new : Inspection) (first end : Option (List ℕ)) (faults after : ℕ) (out : Matches) (why : WriteFault)
     → ((before : List Job) → LanesStand (detection_of plan) old.lanes before → IsBatchSearched (detection_of plan) before batch out new.lanes)
     → new.tries ≡ old.tries + out.tries → ShowsMatches {A = Unit {0}} (shown_in plan) source out (writing old.writer first faults) (writing new.writer end after) (Err why)
@@ -168,7 +168,7 @@ pub runs_stopped : (plan : Plan) (source : ℕ → LinkedRecord) (batch : List J
 runs_stopped plan source batch old new first end faults after out why answers tries shows none =
     advances_stopped (jobs_stage plan) (by_place source 0 batch) old new _ _ why none (runs_by (Err why) plan source batch old new first end faults after out answers tries shows)
 
--- or they were, and then offered
+-- the lines of jobs were made, and then offered
 pub runs_offered : (outcome : Result (Unit {0}) WriteFault) (plan : Plan) (source : ℕ → LinkedRecord) (batch : List Job) (old new : Inspection) (between : AlertWriter) (first second end : Option (List ℕ))
     (faults later after : ℕ) (out : Matches) (done : Unit {0})
     → ((before : List Job) → LanesStand (detection_of plan) old.lanes before → IsBatchSearched (detection_of plan) before batch out new.lanes)
@@ -223,7 +223,7 @@ lines_made plan records last before new made places taken places_are =
     ap (jobs_lines plan (jobs_of plan before)) (sources_made (jobs_way plan) records last before made places taken.jobs_are places_are)
     ∙ jobs_lines-records plan before records
 
--- the inspection that ran the jobs of records stands behind them
+-- the inspection that ran the jobs of records was given them
 pub stands_made : (plan : Plan) (source : ℕ → LinkedRecord) (before records : List LinkedRecord) (new : FrontState) (made : List Job) (inspection : Inspection) → AreTaken (jobs_way plan) before records new made
     → InspectionStands plan (jobs_of plan before ++ whats (by_place source 0 made)) inspection → InspectionStands plan (jobs_of plan (before ++ records)) inspection
 stands_made plan source before records new made inspection taken stands =
@@ -249,7 +249,7 @@ pub records_stopped : (plan : Plan) (records : List LinkedRecord) (old new : Det
 records_stopped plan records old new front made places last first end why makes placed run =
     record { stands = tt; emits = emits_stopped run.emits (taken_lines plan records old front made places makes placed) }
 
--- or they were run, and its last record kept
+-- the jobs of a batch of records were run, and its last record kept
 pub records_shown : (plan : Plan) (records : List LinkedRecord) (old new : Detector) (made : List Job) (places : List ℕ) (first end : Sending) (ran : Inspection) (done : Unit {0})
     → MakesJobs (jobs_way plan) records old.front new.front made → PlacesJobs (jobs_way plan) records old.front places
     → Advances (jobs_stage plan) (by_place (source_in records old.inspection.last places) 0 made) old.inspection ran first end (Ok done)
@@ -291,7 +291,7 @@ ready_records engines way rules detector records front made is known makes few =
     ready_among engines way front all detector.inspection.lanes earlier made (finishes way all) is known.learnt
     (ap (λ (x : List Job). x ++ finishes way all) joined ∙ append_assoc earlier made (finishes way all)) (omega (arith, l, c, few)) taken.stands
 
--- those behind all records, too
+-- the jobs after all records are ready, too
 pub ready_closing : (engines : ℕ) (way : JobsWay) (rules : List Rule) (detector : Detector) (made : List Job) → engines ≡ length way.stream.engines
     → IsKnown way rules detector → GivesFinishes detector.front [] made → detector.front.counts.records ≤ 2 ^ 32
     → AreReady engines detector.inspection.lanes made
@@ -361,7 +361,7 @@ counted_all plan records seen inspection is stands =
     is (ap (λ (t : Tally). t.items) tally) (ap (λ (t : Tally). t.hits) tally)
     (ap (λ (t : Tally). t.alerts) tally ∙ alerts-counted plan records (items ++ behind_all) refl) stands.tries
 
--- the lines of the jobs behind all records, each beside the last one
+-- the lines of the jobs after all records, each beside the last one
 lines_closing : (plan : Plan) (records : List LinkedRecord) (last : LinkedRecord) (made : List Job) → made ≡ finishes (jobs_way plan) records → last ≡ last_of records
     → jobs_lines plan (jobs_of plan records) (by_place (source_in [] last []) 0 made) ≡ closing_lines plan records
 lines_closing plan records last made are is =
@@ -383,7 +383,7 @@ pub closed_stopped : (plan : Plan) (old : Detector) (made : List Job) (ran : Ins
     → Closes plan old first end (Err why)
 closed_stopped plan old made ran first end why gives run = record { counted = tt; emits = emits_stopped run.emits (ended_lines plan old made gives) }
 
--- or they were run
+-- the jobs after all records were run
 pub closed_whole : (plan : Plan) (old : Detector) (made : List Job) (ran : Inspection) (first end : Sending) (done : Unit {0}) (seen : RecordCounts)
     → GivesFinishes old.front [] made → TellsCounts old.front seen
     → Advances (jobs_stage plan) (by_place (source_in [] old.inspection.last []) 0 made) old.inspection ran first end (Ok done)
@@ -398,6 +398,6 @@ closed_whole plan old made ran first end done seen gives tells run = record {
   emits = emits_told run.emits (ended_lines plan old made gives);
 }
 
--- or memory was lacking before
+-- memory was lacking before the jobs after all records were run
 pub closed_nothing : (plan : Plan) (old : Detector) (now : Sending) → Closes plan old now now (Err write.NoMemory)
 closed_nothing plan old now = record { counted = tt; emits = emits_nothing _ now now refl refl }

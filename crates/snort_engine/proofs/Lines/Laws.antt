@@ -34,7 +34,7 @@ trace-join plan before first others Closed =
 abbrev text_by : Plan → ℕ → Alert → List ℕ
 text_by plan = text_of plan.form plan.config.classes
 
--- how many alerts stand before joined records
+-- how many alerts come before joined records
 alert_count-more : (plan : Plan) (before first : List LinkedRecord) → alert_count plan before + length (trace plan before first Open) ≡ alert_count plan (before ++ first)
 unfolding alert_count
 alert_count-more plan before first =
@@ -56,7 +56,7 @@ pub lines-nil : (plan : Plan) (before : List LinkedRecord) → lines plan before
 unfolding lines trace
 lines-nil plan before = refl
 
--- behind no records no flow lives that could end
+-- after no records no flow lives that could end
 closing_items-nil : (plan : Plan) → closing_items plan [] ≡ []
 unfolding closing_items
 closing_items-nil plan = ap (trail_from (job_items (detection_of plan)) []) (finishes-none (jobs_way plan))
@@ -121,7 +121,7 @@ pub items_of-jobs : (plan : Plan) (records : List LinkedRecord) → items_of pla
 unfolding items_of
 items_of-jobs plan records = trail-chained (job_items (detection_of plan)) (jobs (jobs_way plan)) records
 
--- how many alerts stand before, by the items of their records
+-- how many alerts come before, by the items of their records
 pub alerts_before : (plan : Plan) (before : List LinkedRecord)
     → length (trail (item_events plan.config plan.rules) (trail (job_items (detection_of plan)) (jobs_of plan before))) ≡ alert_count plan before
 unfolding alert_count trace record_events
@@ -147,7 +147,7 @@ jobs_lines-records plan before records =
     ∙ ap (λ (items : List Hits). texts_from text (alert_count plan before) (carried shown items (trail_from (own (chained found made)) before records))) (trail-chained found made before)
     ∙ ap (texts_from text (alert_count plan before)) (carried-own shown (chained found made) before records)
 
--- the lines of the flows that end with a capture are those of the jobs behind its records
+-- the lines of the flows that end with a capture are those of the jobs after its records
 pub jobs_lines-closing : (plan : Plan) (records : List LinkedRecord) → jobs_lines plan (jobs_of plan records) (map (beside (last_of records)) (finishes (jobs_way plan) records)) ≡ closing_lines plan records
 unfolding jobs_lines items_lines closing_lines closing_alerts closing_events closing_items items_of
 jobs_lines-closing plan records =

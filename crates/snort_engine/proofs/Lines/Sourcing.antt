@@ -17,13 +17,13 @@ use Rattle.snort_engine.specs.Trace.{job_items, last_of, no_record}
 use Rattle.snort_engine.specs.Steps.Detecting.{MakesJobs}
 use Rattle.snort_engine.specs.Steps.Sourcing.{PlacesJobs, last_behind}
 
--- the last of records that come behind others
+-- the last of records that come after others
 pub last_of-more : (before : List LinkedRecord) (last : LinkedRecord) (records : List LinkedRecord) → last ≡ last_of before
     → last_behind last records ≡ last_of (before ++ records)
 last_of-more before last records is =
     ap (λ (l : LinkedRecord). last_behind l records) is ∙ sym (fold-append (λ (_ r : LinkedRecord). r) no_record before records)
 
--- the jobs of records that were read behind others, each beside its record
+-- the jobs of records that were read after others, each beside its record
 pub sources_made : (way : JobsWay) (records : List LinkedRecord) (last : LinkedRecord) (before : List LinkedRecord) (made : List Job) (places : List ℕ)
     → made ≡ trail_from (jobs way) before records → places ≡ places_along (jobs way) before 0 records
     → by_place (source_in records last places) 0 made ≡ trail_from (own (jobs way)) before records

@@ -134,7 +134,7 @@ file_course : (file : List ℕ) (here : Given) (way : Way) → IsFileWay file (g
 unfolding IsCourse
 file_course file here way is = record { course = record { warnings = []; way = way }; is = record { unwarned = refl; way = is }; warnings_are = refl; way_is = refl }
 
--- its lines
+-- a Unified2 file's lines are prepared
 listed_file : {P : Type 0} (file : List ℕ) (files : Files) (rose : Type 0) (grown : List Refusal) (lines : List ℕ) → ListsFile file files rose (Ok lines)
     → IsPrepared (task_way {P = P}) (Some (records_of file)) files rose grown (Ok (Tell lines)) []
 listed_file file files rose grown lines lists = record {
@@ -150,7 +150,7 @@ prepared_listed {P} asked file files rose grown lines warnings is none lists =
     (subst (λ (w : List (List ℕ)). IsPrepared (task_way {P = P}) (Some (records_of file)) files rose grown (Ok (Tell lines)) w) (sym none)
     (listed_file {P = P} file files rose grown lines lists))
 
--- or why there are none
+-- a Unified2 file has no lines, and the way says why
 unlisted_way : {A : Type 0} (view : A → Way) (file : List ℕ) (here : Given) (rose : Type 0) (why : Stop) → ListsFile file here.files rose (Err why) → Prepares view (Some (records_of file)) here rose (Err why) []
 unfolding Reads stop_text
 unlisted_way view file here rose (stop.CannotReadFile name) lists =

@@ -76,7 +76,7 @@ more_reached More is = refl
 more_reached End is = absurd cc
 more_reached (Fault why) is = absurd cc
 
--- behind a batch no more records were shown than a capture may have
+-- after a batch no more records were shown than a capture may have
 pub within_batch : (shown number count most : ℕ) → shown ≤ number → number ≤ most → (0 < count → number + count ≤ most) → shown + count ≤ most
 within_batch shown number zero most behind within more = omega arith
 within_batch shown number (suc count) most behind within more = let most_read = more (omega arith) in omega (arith, most_read)

@@ -1,4 +1,4 @@
--- What a limit leaves of a capture's records, behind those that were given.
+-- What a limit leaves of a capture's records, after those that were given.
 use Rattle.std.proofs.Common.{◌≡◌, ℕ, zero, suc, ◌+◌, ◌-◌, ◌<◌, ◌≤◌, List, [], ◌++◌, Option, Some, None, length, refl, sym, ap, ◌∙◌, arith, inl, inr, ◌⊎◌, ⊎_elim}
 use Rattle.std.proofs.lemmas.Bool.{cases_lt}
 use Rattle.std.proofs.lemmas.List.{append-nil, length-append, nil_from_length}
@@ -25,21 +25,21 @@ recording_with records ending = record { records = records; ending = ending }
 abbrev ends : Ending ReadFault → Recording
 ends ending = no_more ending
 
--- where some record may still be read, an ending behind those that were given stays
+-- where some record may still be read, an ending after those that were given stays
 none_left : (room : Option ℕ) (ending : Ending ReadFault) → 0 < most_at room → first_records room (ends ending) ≡ ends ending
 none_left None ending some = first_records-none (ends ending)
 none_left (Some room) ending some =
     let below : room ≡ (room - 1) + 1 = omega (arith, some) in
     ap (λ (n : ℕ). first_records (Some n) (ends ending)) below ∙ first_records-no_more (room - 1) ending
 
--- the records that were given and the ending behind them, where more might have been read
+-- the records that were given and the ending after them, where more might have been read
 pub below_limit : (limit room : Option ℕ) (given : List LinkedRecord) (ending : Ending ReadFault) → IsRoom limit (length given) room → 0 < most_at room
     → first_records limit (record { records = given; ending = ending }) ≡ record { records = given; ending = ending }
 below_limit limit room given ending is some =
     ap (first_records limit) (sym (front_of_none given ending)) ∙ limit-front limit room given (ends ending) is
     ∙ ap (with_front given) (none_left room ending some) ∙ front_of_none given ending
 
--- where no more may be read, the capture ends cleanly behind the records that were given
+-- where no more may be read, the capture ends cleanly after the records that were given
 pub at_limit : (limit room : Option ℕ) (given : List LinkedRecord) (recording : Recording) → IsRoom limit (length given) room → most_at room ≡ 0
     → first_records limit (with_front given recording) ≡ record { records = given; ending = Clean }
 at_limit limit None given recording is none = absurd (omega (arith, none))
@@ -49,7 +49,7 @@ at_limit limit (Some room) given recording is none =
     ∙ ap (λ (n : ℕ). with_front given (first_records (Some n) recording)) zero_left
     ∙ ap (with_front given) (first_records-zero recording) ∙ front_of_none given Clean
 
--- no record stays none
+-- a limit leaves no record of none
 none_of_none : (room : Option ℕ) (ending : Ending ReadFault) → (first_records room (ends ending)).records ≡ []
 none_of_none None ending = ap (λ (recording : Recording). recording.records) (first_records-none (ends ending))
 none_of_none (Some room) ending = ⊎_elim
@@ -99,7 +99,7 @@ room_left (Some room) count few = omega (arith, few)
 pub batches_none : AreBatches []
 batches_none = (0, refl)
 
--- behind whole batches a full one ends another, or was the last that may be read
+-- after whole batches a full one ends another, or was the last that may be read
 pub batches_further : (room : Option ℕ) (given records : List LinkedRecord) → AreBatches given ⊎ (most_at room ≡ 0) → length records ≡ most_at room
     → AreBatches (given ++ records) ⊎ (most_at (room_behind room (length records)) ≡ 0)
 batches_further None given records (inl (count, is)) full = inl (count + 1, omega (arith, is, full, length-append given records))
@@ -110,13 +110,13 @@ batches_further (Some room) given records (inl (count, is)) full = ⊎_elim
     (cases_lt room batch)
 batches_further (Some room) given records (inr none) full = inr (omega (arith, none, full))
 
--- what is read behind whole batches, or, where no more may be read, nothing
+-- what is read after whole batches, or, where no more may be read, nothing
 pub batches_last : (room : Option ℕ) (given last : List LinkedRecord) → AreBatches given ⊎ (most_at room ≡ 0) → length last ≤ most_at room → AreBatches given ⊎ (last ≡ [])
 batches_last room given last (inl whole) few = inl whole
 batches_last room given last (inr none) few = inr (nil_from_length last (omega (arith, none, few)))
 
 -- before the last record's batch lie no more than those that were given, if these are whole batches and at most one
--- more stands behind them, or none
+-- more follows them, or none
 pub before_last : (given last : List LinkedRecord) → AreBatches given ⊎ (last ≡ []) → length last ≤ batch → before_last_batch (length (given ++ last)) ≤ length given
 before_last given last (inl (count, is)) few = omega (arith, is, few, length-append given last)
 before_last given last (inr none) few = let size : length last ≡ 0 = ap length none in omega (arith, size, length-append given last)

@@ -1,4 +1,4 @@
--- What a plan reads of a capture that is made: so many records as were asked for, up to its limit, and a clean ending.
+-- What a plan reads of a capture that is made: as many records as were asked for, up to its limit, and a clean ending.
 use Rattle.std.proofs.Common.{ℕ, drop, sym, ap, subst, ◌∙◌}
 use Rattle.std.proofs.lemmas.List.{length-map}
 use Rattle.pcap_input.specs.declared.capture.Record.{Record}

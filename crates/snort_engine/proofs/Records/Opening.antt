@@ -54,7 +54,7 @@ other_head bytes is =
     let long : 24 ≤ length bytes = grind (arith, nat_tests, is) in
     section-head bytes long begins
 
--- so a file that begins otherwise isn't of blocks
+-- a file that begins otherwise isn't of blocks
 not_blocks_by : (bytes : List ℕ) (read : Result CaptureHead CaptureFault) (test : Bool) → head_of bytes ≡ read → (read ≡ Err savefile_fault.NotPcap → ⊥) → is_of_blocks bytes ≡ test → is_of_blocks bytes ≡ false
 not_blocks_by bytes read true is apart blocks_are = absurd (apart (sym is ∙ other_head bytes blocks_are))
 not_blocks_by bytes read false is apart blocks_are = blocks_are
@@ -97,7 +97,7 @@ opened_by : (bytes : List ℕ) (reader : classic_reader.Reading) (read : Result 
 opened_by bytes reader (Ok head) is opens = (head, is, cc)
 opened_by bytes reader (Err why) is opens = cc
 
--- a reader begins behind the head
+-- a reader begins after the head
 pub savefile_begins : (front : List ℕ) (head : CaptureHead) → head_of front ≡ Ok head → length front ≤ 24 → BeginsBehind front (Savefile (classic_reader.new_reader head))
 savefile_begins front head is few = λ limit more.
     let enough = long_enough front head is in
@@ -110,7 +110,7 @@ savefile_begins front head is few = λ limit more.
 section_is : (bytes : List ℕ) → number_at false 0 4 bytes ≡ section_type → 24 ≤ length bytes → is_of_blocks bytes ≡ true
 section_is bytes begins long = grind (arith, nat_tests, begins, long)
 
--- a reader begins behind the first block
+-- a reader begins after the first block
 pub blocks_begin : (front : List ℕ) (reader : blocks_reader.Reading) → ((more : List ℕ) → opening (front ++ more) ≡ blocks.Skips reader.walk more) → BeginsBehind front (Blocks reader)
 unfolding recording_for
 blocks_begin front reader opens = λ limit more.
@@ -280,7 +280,7 @@ other_long bytes is = at_least (length bytes) 24 (λ few. let truncated = head_o
     at_least : (a b : ℕ) → (a < b → ⊥) → b ≤ a
     at_least a b above = omega (arith, above)
 
--- neither a savefile nor blocks
+-- the refusal of bytes that are neither a savefile nor blocks
 neither : (bytes : List ℕ) (why : NgFault) → head_of bytes ≡ Err savefile_fault.NotPcap → is_of_blocks bytes ≡ false → opening bytes ≡ blocks.refused why → of_blocks why ≡ fault.NotPcap
 neither bytes why other no_section opens =
     let long = other_long bytes other in
@@ -342,7 +342,7 @@ not_other files name reader gives other =
     let apart : Ok opened.0 ≡ Err savefile_fault.NotPcap = sym opened.1 ∙ other.head in
     cc
 
--- it was opened once, as a savefile
+-- a file was opened once, as a savefile
 pub once_opened : (seen : Option Files) (name : List ℕ) (reader : classic_reader.Reading) (failed : Type 0) (old new : ℕ) → new ≡ one_more old
     → ((bytes : List ℕ) → classic_reader.Tells seen name bytes → classic_reader.Opens (Ok reader) (head_of bytes)) → OpensSo seen name failed old new
 once_opened None name reader failed old new once gives = inl (once, λ other. absurd other)
@@ -362,7 +362,7 @@ refused_failed files name bytes savefile_fault.Failed failed told head apart los
     none : None ≡ Some bytes → ⊥
     none e = cc
 
--- it was opened once, and refused
+-- a file was opened once, and refused
 pub once_refused : (seen : Option Files) (name : List ℕ) (why : CaptureFault) (failed : Type 0) (old new : ℕ) → new ≡ one_more old → (why ≡ savefile_fault.NotPcap → ⊥) → (why ≡ savefile_fault.Failed → failed ⊎ Lacks seen name)
     → ((bytes : List ℕ) → classic_reader.Tells seen name bytes → classic_reader.Opens (Err why) (head_of bytes)) → OpensSo seen name failed old new
 once_refused None name why failed old new once apart lost gives = inl (once, λ other. absurd other)
@@ -379,7 +379,7 @@ is_other files name left gives takes =
     (λ nothing. let apart = nothing.0 in absurd cc)
     takes
 
--- and once more, as blocks
+-- a file was opened once more, as blocks
 pub opened_again : (seen : Option Files) (name : List ℕ) (why : CaptureFault) (left : Option (List ℕ)) (failed : Type 0) (old middle new : ℕ) → middle ≡ one_more old → new ≡ one_more middle → why ≡ savefile_fault.NotPcap
     → ((bytes : List ℕ) → classic_reader.Tells seen name bytes → classic_reader.Opens (Err why) (head_of bytes))
     → classic_reader.TakesHead seen name (Err why) left ⊎ ((◌≡◌ {A = Result classic_reader.Reading CaptureFault} (Err why) (Err savefile_fault.Failed)) × (left ≡ None)) → OpensSo seen name failed old new

@@ -88,7 +88,7 @@ reading-ended first reader given left_first left ending so_far ends whole told =
     let found = reading-told first reader given left_first left whole so_far told in
     found.2 ∙ ap (with_front given) (ends found.0 found.1) ∙ front_of_none given ending
 
--- and so is a refusal
+-- a refusal of what is left is that of the whole
 pub reading-refused : (first reader : RecordReader) (given : List LinkedRecord) (why : ReadFault) (left_first left : Option (List ℕ))
     → HasRead first reader given left_first left → IsRefusedBy reader [] left why → IsRefusedBy first given left_first why
 reading-refused first reader given fault.NotPcap left_first left so_far ends = reading-ended first reader given left_first left (Refused fault.NotPcap) so_far ends
@@ -117,13 +117,13 @@ savefile_gives old new given left left_next fresh takes is =
       record { number = refl; within = (next_means old.head old.number old.at (takes.taken ++ []) given [] (takes.goes [])).few },
     )
 
--- what stands next for it is this ending
+-- what comes next for a reader of a savefile is this ending
 savefile_ends : (old : classic_reader.Reading) (left : Option (List ℕ)) (ending : Ending CaptureFault) → ((rest : List ℕ) → left ≡ Some rest → classic.next_of old.head old.number old.at rest ≡ classic.Ends ending)
     → (whole : List ℕ) → left ≡ Some whole → recording_for (Savefile old) whole ≡ recording_of old.head.link (no_more ending)
 unfolding recording_for
 savefile_ends old left ending ends whole told = ap (recording_of old.head.link) (classic_records.records_left-ends old.head old.number old.at whole ending (ends whole told))
 
--- none was left
+-- a savefile has no record left
 pub savefile_ended : (old new : classic_reader.Reading) (left left_next : Option (List ℕ)) → left_next ≡ left
     → ((rest : List ℕ) → left ≡ Some rest → classic_reader.Gives (Ok None) (classic.next_of old.head old.number old.at rest)) → Gives (Savefile old) (Savefile new) (Ok None) left left_next
 savefile_ended old new left left_next same gives = (
@@ -131,7 +131,7 @@ savefile_ended old new left left_next same gives = (
   savefile_ends old left Clean gives,
 )
 
--- it was refused, or couldn't be read on
+-- a savefile was refused, or couldn't be read on
 savefile_whole : (old : classic_reader.Reading) (why : CaptureFault) (left left_next : Option (List ℕ)) → classic_reader.TakesNone old why left left_next → AreWhole (Savefile old) [] left left_next
 unfolding recording_for
 savefile_whole old why left left_next takes =
@@ -174,18 +174,18 @@ blocks_give old new given left left_next takes =
       record { number = counted.one; within = counted.few },
     )
 
--- what stands next for it is this ending
+-- what comes next for a reader of blocks is this ending
 blocks_end : (old : blocks_reader.Reading) (left : Option (List ℕ)) (ending : Ending NgFault) → ((rest : List ℕ) → left ≡ Some rest → blocks.next_of old.walk rest ≡ blocks.Ends ending)
     → (whole : List ℕ) → left ≡ Some whole → recording_for (Blocks old) whole ≡ recording_of_blocks (no_more ending)
 unfolding recording_for
 blocks_end old left ending ends whole told = ap recording_of_blocks (blocks_records.records_left-ends old.walk whole ending (ends whole told))
 
--- these bytes hold no record for it
+-- these bytes hold no record for a reader of blocks
 blocks_none : (old : blocks_reader.Reading) (taken : List ℕ) (ending : Ending NgFault) → blocks.next_of old.walk taken ≡ blocks.Ends ending → (recording_for (Blocks old) taken).records ≡ []
 unfolding recording_for
 blocks_none old taken ending ends = ap (λ (cut : Cut NgRecord NgFault). (recording_of_blocks cut).records) (blocks_records.records_left-ends old.walk taken ending ends)
 
--- none was left behind the blocks that were skipped
+-- none was left after the blocks that were skipped
 pub blocks_ended : (old new : blocks_reader.Reading) (left left_next : Option (List ℕ)) → blocks_reader.TakesBlocks old new left left_next
     → ((rest : List ℕ) → left ≡ Some rest → blocks_reader.Answers (Ok None) (blocks.next_of old.walk rest)) → Gives (Blocks old) (Blocks new) (Ok None) left left_next
 blocks_ended old new left left_next takes gives = (
@@ -220,7 +220,7 @@ blocks_refused_by old blocks_fault.TooMany left gives = blocks_end old left (Ref
 blocks_refused_by old blocks_fault.Failed left gives = tt
 blocks_refused_by old blocks_fault.NoMemory left gives = tt
 
--- they were refused, or couldn't be read on
+-- blocks were refused, or couldn't be read on
 pub blocks_stop : (old new : blocks_reader.Reading) (why : NgFault) (so : ReadFault) (left left_next : Option (List ℕ)) → so ≡ of_blocks why → blocks_reader.TakesNone old why left left_next
     → ((rest : List ℕ) → left ≡ Some rest → blocks_reader.Answers (Err why) (blocks.next_of old.walk rest)) → Gives (Blocks old) (Blocks new) (Err so) left left_next
 blocks_stop old new why so left left_next is takes gives =

@@ -195,7 +195,7 @@ open_ends plan files course fault.Failed before after counts goes same counted o
 -- ---- a capture that was opened and shown
 
 -- the records before the last one's batch are the first of those given, if these are whole batches and at most one more
--- stands behind them, or none: so their lines come first
+-- follows them, or none: so their lines come first
 front_first : (plan : Plan) (given last : List LinkedRecord) → AreBatches given ⊎ (last ≡ []) → length last ≤ batch
     → (others : List ℕ) × (lines plan [] given Open ≡ lines plan [] (earlier_batches (given ++ last)) Open ++ others)
 front_first plan given last batches few =
@@ -212,16 +212,16 @@ front_first plan given last batches few =
 records_behind : (plan : Plan) (front taken : List ℕ) (reader : RecordReader) → BeginsBehind front reader → (records_of plan (front ++ taken)).records ≡ (recording_by plan reader taken).records
 records_behind plan front taken reader begins = ap (λ (r : Recording). r.records) (begins plan.limit taken)
 
--- the same without a limit
+-- all records within what was taken by the opening and some more bytes, without a limit
 all_behind : (front taken : List ℕ) (reader : RecordReader) → BeginsBehind front reader → (records_in None (front ++ taken)).records ≡ (recording_for reader taken).records
 all_behind front taken reader begins = ap (λ (r : Recording). r.records) (begins None taken ∙ first_records-none (recording_for reader taken))
 
--- what was taken by the opening and behind it, and the rest
+-- what was taken by the opening and after it, and the rest
 joined_behind : (front taken rest : List ℕ) (whole : List ℕ) → whole ≡ taken ++ rest → (front ++ taken) ++ rest ≡ front ++ whole
 joined_behind front taken rest whole joined = append_assoc front taken rest ∙ ap (λ (x : List ℕ). front ++ x) (sym joined)
 
 -- what is known of a capture whose records are to be read: that the answer is for its bytes, and that the
--- reader begins behind the first of them
+-- reader begins after the first of them
 pub record IsOpenCapture (plan : Plan) (files : Files) (course : Course) (left_first : Option (List ℕ)) (bytes : List ℕ) (reader : RecordReader) : Type 0 where
   pub answers : answer_of files course ≡ capture_answer plan (warned course) (Some bytes)
   pub front : List ℕ
@@ -240,7 +240,7 @@ written_to plan reader taken left failed (Err stop.NoMemory) is to = absurd cc
 written_to plan reader taken left failed (Err stop.CannotWrite) is to = to
 written_to plan reader taken left failed (Err why) is to = absurd cc
 
--- the same of the whole capture
+-- how far was read of the whole capture where a write failed
 batches_behind : (plan : Plan) (front taken rest back : List ℕ) (reader : RecordReader) (left : Option (List ℕ)) (failed since : Type 0) → BeginsBehind front reader → left ≡ Some back → (front ++ taken) ++ rest ≡ front ++ back → (failed → since)
     → AreBatches (recording_by plan reader taken).records ⊎ (IsReadOut plan reader taken left ⊎ failed) → IsReadInBatches plan (front ++ taken) rest since
 batches_behind plan front taken rest back reader left failed since begins told joined rises (inl whole) = inl (subst AreBatches (sym (records_behind plan front taken reader begins)) whole)
@@ -248,7 +248,7 @@ batches_behind plan front taken rest back reader left failed since begins told j
     inr (inl (ap (λ (x : List ℕ). (records_of plan x).records) joined ∙ records_behind plan front back reader begins ∙ out back told ∙ sym (records_behind plan front taken reader begins)))
 batches_behind plan front taken rest back reader left failed since begins told joined rises (inr (inr rose)) = inr (inr (rises rose))
 
--- the lines are close behind the records of a capture that was opened
+-- the lines follow closely the records of a capture that was opened
 ahead_behind : (plan : Plan) (files : Files) (course : Course) (held : Option (List ℕ)) (bytes : List ℕ) (reader : RecordReader) (left_first : Option (List ℕ)) (before after : Work) (failed : Type 0) (outcome : Result (Unit {0}) Stop) → held ≡ Some bytes
     → IsOpenCapture plan files course left_first bytes reader
     → IsCloseBehind plan reader (record { left = left_first; written = before.alerts }) (record { left = after.left; written = after.alerts }) failed outcome
@@ -276,7 +276,7 @@ ahead_behind plan files course held bytes reader left_first before after failed 
           (joined_behind o.front close.taken split.rest o.rest split.joined) rises (written_to plan reader close.taken left_first failed outcome is close.to);
     }
 
--- the reading was cut off behind what the opening took
+-- the reading was cut off after what the opening took
 cut_behind : (plan : Plan) (files : Files) (course : Course) (bytes : List ℕ) (reader : RecordReader) (left_first : Option (List ℕ)) (before after : Work) → course.way ≡ Goes plan
     → get files plan.source ≡ Some bytes → IsOpenCapture plan files course left_first bytes reader
     → IsReadCutShort plan reader (record { left = left_first; written = before.alerts }) (record { left = after.left; written = after.alerts })
@@ -293,7 +293,7 @@ cut_behind plan files course bytes reader left_first before after goes held o cu
       says = refl;
     }
 
--- its answer
+-- the answer of a capture that was opened
 answer_open : (plan : Plan) (files : Files) (course : Course) (left_first : Option (List ℕ)) (bytes : List ℕ) (reader : RecordReader) (o : IsOpenCapture plan files course left_first bytes reader)
     → answer_of files course ≡ recording_answer plan (warned course) (recording_by plan reader o.rest)
 unfolding capture_answer

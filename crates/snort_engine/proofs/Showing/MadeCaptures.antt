@@ -28,11 +28,11 @@ use Rattle.snort_engine.proofs.Headline.Finishing.{ahead_made, ends_lacking}
 use Rattle.snort_engine.proofs.Records.Opening.{long_enough, savefile_begins}
 use Rattle.snort_engine.proofs.Showing.Captures.{said, warned, shown_by}
 
--- it has a file header
+-- a capture that is made has a file header
 pub generated_long : (seed count : ℕ) → 24 ≤ length (generated seed count)
 generated_long seed count = long_enough (generated seed count) made_head (generated-head seed count)
 
--- and this alone has its head
+-- the file header alone of a capture that is made has its head
 header_head : (seed count : ℕ) → head_of (take 24 (generated seed count)) ≡ Ok made_head
 header_head seed count =
     let made = generated seed count in
@@ -46,7 +46,7 @@ with_alerts before alerts = record before { alerts = alerts }
 apart : (before : Work) (alerts : Option (List ℕ)) (ended : Status) → (ended ≡ status.HostFault → ⊥) → IsApart before (with_alerts before alerts) ended
 apart before alerts ended never = record { left = refl; opens = refl; no_host_fault = never }
 
--- it was made and shown, by a reader that had given no record
+-- a capture was made and shown, by a reader that had given no record
 pub made_ends : (plan : Plan) (files : Files) (course : Course) (seed count : ℕ) (bytes : List ℕ) (reader : RecordReader) (left_first left_last old new : Option (List ℕ)) (before : Work) (counts : Counts) (outcome : Result (Unit {0}) Stop)
     → course.way ≡ Makes plan seed count → before.alerts ≡ old → bytes ≡ generated seed count → reader ≡ Savefile (new_reader made_head) → left_first ≡ Some (drop 24 bytes)
     → ShowsCapture plan reader (record { left = left_first; written = old }) (record { left = left_last; written = new }) counts outcome
@@ -70,7 +70,7 @@ made_ends plan files course seed count bytes reader left_first left_last old new
     (λ failed. absurd (never failed))
     (λ ended is. ahead_made files course plan seed count before (with_alerts before new) ended makes (apart before new ended (λ failed. never (is ∙ failed))))
 
--- a count that stands at 0 for ever doesn't rise
+-- a count that is 0 for ever doesn't rise
 pub never_rose : Rose 0 0 → ⊥
 never_rose rose = omega (arith, rose)
 

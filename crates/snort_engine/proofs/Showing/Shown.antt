@@ -47,7 +47,7 @@ under_way-start plan reader room detector old fresh all stands = record {
   wrote = sym (behind-nil old.written) ∙ ap (behind old.written) (sym (lines_of-nil plan));
 }
 
--- the lines of a batch behind those of the records before it
+-- the lines of a batch after those of the records before it
 lines_of-batch : (plan : Plan) (given records : List LinkedRecord) → lines_of plan (given ++ records) Open ≡ lines_of plan given Open ++ lines plan given records Open
 lines_of-batch plan given records = lines_of-append plan given records Open
 
@@ -82,7 +82,7 @@ not_both b yes_ no_ = let e : true ≡ false = sym yes_ ∙ no_ in cc
 
 -- ---- what was reached
 
--- whatever was reached, reading stood at a reader behind the records, and went no record further
+-- whatever was reached, reading was at a reader after the records, and went no record further
 stopped_at : (first : RecordReader) (given : List LinkedRecord) (left_first : Option (List ℕ)) (now : Place) (reached : Reached) → Reaches first given left_first now reached → HasStopped first given left_first now.left
 stopped_at first given left_first now More read = record {
   behind = now.reader;
@@ -93,7 +93,7 @@ stopped_at first given left_first now More read = record {
 stopped_at first given left_first now End (stopped, ends) = stopped
 stopped_at first given left_first now (Fault why) (stopped, ends) = stopped
 
--- from the first reader on
+-- what was reached from the first reader on
 reached_behind : (plan : Plan) (first : RecordReader) (start : Streams) (old : Standing) (now : Place) (reached : Reached) (going : IsUnderWay plan first start old)
     → ReadsOn (record { reader = old.reader; records = []; left = old.streams.left }) now reached → Reaches first (going.given ++ now.records) start.left now reached
 reached_behind plan first start old now reached going reads =
@@ -101,19 +101,19 @@ reached_behind plan first start old now reached going reads =
 
 -- ---- how far was read
 
--- an ending behind records that were given, where more might have been read, is the plan's
+-- an ending after records that were given, where more might have been read, is the plan's
 ended_by : (plan : Plan) (first : RecordReader) (room : Option ℕ) (given : List LinkedRecord) (left : Option (List ℕ)) (ending : Ending ReadFault) → IsRoom plan.limit (length given) room → 0 < most_at room → EndsWith first given left ending
     → (whole : List ℕ) → left ≡ Some whole → recording_by plan first whole ≡ record { records = given; ending = ending }
 ended_by plan first room given left ending is some ends = λ whole told. ap (first_records plan.limit) (ends whole told) ∙ below_limit plan.limit room given ending is some
 
--- and so is the limit, where no more may be read
+-- the limit, where no more may be read, ends the plan's reading
 limited_by : (plan : Plan) (first reader : RecordReader) (room : Option ℕ) (given : List LinkedRecord) (left_first left : Option (List ℕ)) → HasRead first reader given left_first left → IsRoom plan.limit (length given) room → most_at room ≡ 0
     → (whole : List ℕ) → left_first ≡ Some whole → recording_by plan first whole ≡ record { records = given; ending = Clean }
 limited_by plan first reader room given left_first left read is none = λ whole told.
     let found = reading-told first reader given left_first left whole read told in
     ap (first_records plan.limit) found.2 ∙ at_limit plan.limit room given (recording_for reader found.0) is none
 
--- then all is whole within what was taken
+-- where an ending is the plan's, all is whole within what was taken
 out_by : (plan : Plan) (first : RecordReader) (given : List LinkedRecord) (ending : Ending ReadFault) (taken : List ℕ) (left : Option (List ℕ)) → ((whole : List ℕ) → left ≡ Some whole → recording_by plan first whole ≡ record { records = given; ending = ending })
     → (recording_by plan first taken).records ≡ given → IsReadOut plan first taken left
 out_by plan first given ending taken left ends are = λ whole told. ap (λ (r : Recording). r.records) (ends whole told) ∙ sym are
@@ -124,7 +124,7 @@ module _ (plan : Plan) (first : RecordReader) (room : Option ℕ) (given : List 
   read_out : (ending : Ending ReadFault) → EndsWith first given left ending → IsReadOut plan first taken left
   read_out ending ends = out_by plan first given ending taken left (ended_by plan first room given left ending is some ends) are
 
-  -- or is refused, or couldn't be read on
+  -- the capture is refused, or couldn't be read on
   fault_to : (why : ReadFault) → IsRefusedBy first given left why → HasReadTo plan first taken left failed (Err (stop.Capture why))
   fault_to fault.NotPcap ends = read_out (Refused fault.NotPcap) ends
   fault_to (fault.LinkType link_type) ends = read_out (Refused (fault.LinkType link_type)) ends
@@ -135,7 +135,7 @@ module _ (plan : Plan) (first : RecordReader) (room : Option ℕ) (given : List 
   fault_to fault.Failed ends = tt
   fault_to fault.NoMemory ends = tt
 
-  -- where lines behind it weren't written, too
+  -- where lines after the records that were given weren't written, too
   fault_unwritten : (why : ReadFault) → IsRefusedBy first given left why → (why ≡ fault.Failed → failed) → (why ≡ fault.NoMemory → ⊥) → IsReadOut plan first taken left ⊎ failed
   fault_unwritten fault.NotPcap ends rose lacks = inl (read_out (Refused fault.NotPcap) ends)
   fault_unwritten (fault.LinkType link_type) ends rose lacks = inl (read_out (Refused (fault.LinkType link_type)) ends)
@@ -166,7 +166,7 @@ unwritten_to plan first room given records left_first now (Fault why) failed tak
 
 -- ---- the end of all batches
 
--- the lines of all whole records were written: they are close behind
+-- the lines of all whole records were written: they follow closely
 close_by : (plan : Plan) (first : RecordReader) (room : Option ℕ) (given : List LinkedRecord) (old after : Streams) (failed : Type 0) (outcome : Result (Unit {0}) Stop) → IsRoom plan.limit (length given) room
     → after.written ≡ behind old.written (lines_of plan given Open) → AreWhole first given old.left after.left
     → ((taken : List ℕ) → (recording_by plan first taken).records ≡ given → HasReadTo plan first taken old.left failed outcome)
@@ -197,7 +197,7 @@ at_end plan first room given old after detector ending is some stands wrote ends
   wrote = wrote;
 }
 
--- a refusal of the capture, behind records whose lines were written
+-- a refusal of the capture, after records whose lines were written
 fault_comes : (plan : Plan) (first : RecordReader) (room : Option ℕ) (given : List LinkedRecord) (old after : Streams) (detector : Detector) (why : ReadFault) → IsRoom plan.limit (length given) room → 0 < most_at room
     → DetectorStands plan given detector
     → after.written ≡ behind old.written (lines_of plan given Open)
@@ -241,7 +241,7 @@ nothing_left plan old failed none = λ first start going.
 abbrev pub at_sink : Option (List ℕ) → ℕ → Sending
 at_sink written faults = record { written = written; block = []; faults = faults }
 
--- a batch was shown behind the records that were given
+-- a batch was shown after the records that were given
 batch_is : (plan : Plan) (records : List LinkedRecord) (old new : Standing) (first : RecordReader) (start : Streams) (going : IsUnderWay plan first start old) (faults after : ℕ) (done : Unit {0})
     → Advances (records_stage plan) records old.detector new.detector (at_sink old.streams.written faults) (at_sink new.streams.written after) (Ok done)
     → DetectorStands plan (going.given ++ records) new.detector × (new.streams.written ≡ behind start.written (lines_of plan (going.given ++ records) Open))
@@ -365,7 +365,7 @@ batch_stops plan records old new failed reached why few full fewer rose enough r
         (reached_behind plan first start old (record { reader = new.reader; records = records; left = new.streams.left }) reached going reads) are
     by_fault write.NoMemory = λ first start going taken are. tt
 
--- where memory was lacking for reading
+-- a batch, where memory was lacking for reading
 pub batch_lacks : (plan : Plan) (records : List LinkedRecord) (old new : Standing) (failed : Type 0) (reached : Reached)
     → length records ≤ most_at old.room
     → ReadsOn (record { reader = old.reader; records = []; left = old.streams.left }) (record { reader = new.reader; records = records; left = new.streams.left }) reached
@@ -413,7 +413,7 @@ comes_since plan first start now later since detector outcome rises (came, close
 
 -- ---- the closing
 
--- where nothing was read yet, the lines are close behind the records
+-- where nothing was read yet, the lines follow the records closely
 pub close-start : (plan : Plan) (reader : RecordReader) (old : Streams) (failed : Type 0) → IsFresh reader → IsCloseBehind plan reader old old failed (Err stop.NoMemory)
 close-start plan reader old failed fresh =
     close_by plan reader plan.limit [] old old failed (Err stop.NoMemory) (room_first plan.limit)
@@ -435,7 +435,7 @@ closed_to plan first start now detector ending written faults after counts came 
       counted = closes.counted came.given came.stands ∙ sym (ap (λ (c : Recording). counts_of plan c.records) cut);
     }
 
--- or in part
+-- what was closed in part was written in part
 closed_some : (plan : Plan) (first : RecordReader) (start now : Streams) (detector : Detector) (ending : Ending ReadFault) (written : Option (List ℕ)) (faults after : ℕ) (why : WriteFault) → IsAtEnd plan first start now detector ending
     → Closes plan detector (at_sink now.written faults) (at_sink written after) (Err why)
     → (left : Option (List ℕ)) → WritesSome plan first start (record { left = left; written = written })
@@ -473,7 +473,7 @@ module _ (plan : Plan) (first : RecordReader) (start now : Streams) (detector : 
   left_so (Err stop.NoMemory) cut came same = λ whole told. subst (λ (w : Option (List ℕ)). WritesPart start.written (lines_left plan first whole Closed) w) (sym same) (came whole told)
   left_so (Err why) cut came same = absurd cc
 
-  -- closed
+  -- a showing that came to its end was closed
   closed_so : (shown : Result (Unit {0}) Stop) → is_whole shown ≡ true → Comes plan first start now detector shown → Closes plan detector sink_then sink_now (Ok counts) → ShowsCapture plan first start after_it counts shown
   closed_so (Ok done) whole came closes = closed_to plan first start now detector Clean written faults after counts came closes now.left
   closed_so (Err (stop.Capture fault.Failed)) whole came closes = absurd cc
@@ -509,7 +509,7 @@ module _ (plan : Plan) (first : RecordReader) (start now : Streams) (detector : 
       shut)
       how
 
-  -- what was written in the closing comes behind
+  -- what was written in the closing comes after what was written before
   wrote_more : (shown : Result (Unit {0}) Stop) → is_whole shown ≡ true → Comes plan first start now detector shown → ((records : List LinkedRecord) → DetectorStands plan records detector → (more : List ℕ) × (written ≡ behind now.written more))
       → (more : List ℕ) × (written ≡ behind now.written more)
   wrote_more (Ok done) whole came more = more came.given came.stands
@@ -520,7 +520,7 @@ module _ (plan : Plan) (first : RecordReader) (start now : Streams) (detector : 
   wrote_more (Err (stop.Capture why)) whole came more = more came.given came.stands
   wrote_more (Err why) whole came more = absurd came
 
-  -- a closing that was stopped stopped behind the end
+  -- a closing that was stopped stopped after the end
   end_to : (failed : Type 0) (taken : List ℕ) (why : WriteFault) → IsReadOut plan first taken start.left → HasReadTo plan first taken start.left failed (Err (write_stop why))
   end_to failed taken write.Unwritten out = inr (inl out)
   end_to failed taken write.NoMemory out = tt

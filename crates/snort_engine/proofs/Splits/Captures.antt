@@ -29,7 +29,7 @@ filter-kept test before x rest is = filter-append test before (x ∷ rest) ∙ a
 filter-left : {X : Type 0} (test : X → Bool) (before : List X) (x : X) → test x ≡ false → filter test (before ++ x ∷ []) ≡ filter test before
 filter-left test before x isnt = filter-append test before (x ∷ []) ∙ ap (λ (b : Bool). filter test before ++ cond b (x ∷ []) []) isnt ∙ append-nil (filter test before)
 
--- where an input of a part has the answers that it has behind the part's own earlier inputs, the part has its answers
+-- where an input of a part has the answers that it has after the part's own earlier inputs, the part has its answers
 module _ {S A : Type 0} (f : List S → S → List A) (part : S → Bool) (all : List S)
     (local : (before : List S) (x : S) (rest : List S) → before ++ x ∷ rest ≡ all → part x ≡ true → f (filter part before) x ≡ f before x) where
   told-part : (before rest : List S) → before ++ rest ≡ all

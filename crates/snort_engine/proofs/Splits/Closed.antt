@@ -64,7 +64,7 @@ module _ (plan : Plan) (pairs : Pairs) where
   whats-cond true head xs = whats-beside head xs
   whats-cond false head xs = refl
 
-  -- those of the part among the events of all items
+  -- the part's own among the events of all items
   carried-mine : (before items : List Hits) → whats (mine own_head (carried events before (items_by_head items))) ≡ events_between pairs (trail_from events before items)
   carried-mine before [] = refl
   carried-mine before (hits ∷ later) =

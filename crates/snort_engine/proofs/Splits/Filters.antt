@@ -1,7 +1,7 @@
 -- Answers that look at what is of a part alone, and that events are such answers where no key counts those of two parts.
 --
--- Inputs stand beside their sources, of which some are of the part. An answer is the part's own where it is the same
--- behind the part's earlier inputs as behind all of them.
+-- Inputs are beside their sources, of which some are of the part. An answer is the part's own where it is the same
+-- after the part's earlier inputs as after all of them.
 use Rattle.std.proofs.Common.{◌≡◌, ℕ, zero, suc, Bool, true, false, cond, not, List, [], ◌∷◌, ◌++◌, Option, Some, None, map, length, refl, sym, ap, subst, ◌∙◌, ◌⊎◌, inl, inr, ⊎_elim, append_assoc, append-nil, arith}
 use Rattle.std.specs.Prelude.{Contains, option_and_then, slice_get}
 use Rattle.std.specs.List.{filter, flat_map}
@@ -53,11 +53,11 @@ trailed-in P f before (x ∷ xs) each a has = elim (Contains-append_cases (f bef
 ]
 
 module _ {S : Type 0} (part : S → Bool) where
-  -- those of the part
+  -- the part's own of these
   abbrev pub mine : {A : Type 0} → List (Beside S A) → List (Beside S A)
   mine {A} all = filter (λ (b : Beside S A). part b.source) all
 
-  -- this holds of each with its source
+  -- something holds of each with its source
   abbrev pub Each : {A : Type 0} → (S → A → Type 0) → List (Beside S A) → Type 0
   Each {A} Q all = (b : Beside S A) → Contains all b → Q b.source b.what
 
@@ -85,7 +85,7 @@ module _ {S : Type 0} (part : S → Bool) where
       by_part true is = all is xs
       by_part false isnt = none isnt xs
 
-  -- one more
+  -- the part's own inputs, with one input more
   mine-more : {A : Type 0} (before : List (Beside S A)) (b : Beside S A) (c : Bool) → part b.source ≡ c → mine (before ++ b ∷ []) ≡ mine before ++ cond c (b ∷ []) []
   mine-more {A} before b c is = filter-append (λ (b : Beside S A). part b.source) before (b ∷ []) ∙ ap (λ (d : Bool). mine before ++ cond d (b ∷ []) []) is
 
@@ -146,7 +146,7 @@ module _ {S : Type 0} (part : S → Bool) where
       ∙ ap (λ (back : List B). f (whats all) x ++ back) rest
       ∙ ap (λ (before : List A). f (whats all) x ++ trail_from f before xs) (whats-append all (beside s x ∷ []))
 
-  -- two stages, one behind the other
+  -- two stages, one after the other
   pub chained-own : {A B C : Type 0} (Q : S → A → Type 0) (R : S → B → Type 0) (f : List A → A → List B) (g : List B → B → List C) → IsOwn Q f → Keeps Q R f → IsOwn R g → IsOwn Q (chained g f)
   chained-own {A} {B} {C} Q R f g own keeps own_too all s x each of q =
       let given = carried f [] all in
@@ -274,7 +274,7 @@ module _ {S : Type 0} (part : S → Bool) (Has : S → ItemHead → Type 0) wher
         let one = mapped-in (λ (c : Beside S Hits). beside c.source (filtered_item c.what)) all b has in
         subst (λ (c : Beside S Item). Has c.source c.what.head) (sym one.2) (each one.0 one.1)
 
-    -- so an item's events are the part's own
+    -- an item's events are the part's own
     pub events-own : IsOwn part OfHits (item_events config rules)
     unfolding item_events
     events-own all s hits each of has =

@@ -2,7 +2,7 @@
 --
 -- Reading goes on from a place: the reader, the records that were read since the last batch was shown,
 -- and what is left of the capture. It reaches a further place, from which more records may be read, or
--- the capture's end, or a fault behind the records that were read; these are whole, whatever comes.
+-- the capture's end, or a fault after the records that were read; these are whole, whatever comes.
 -- To try it on: of three records and 3 bytes of a fourth's header, reading reaches three places and then
 -- Truncated, and the three records are all that are whole within the bytes taken.
 use Rattle.std.specs.Prelude.{◌≡◌, ◌≢◌, ◌<◌, ◌≤◌, ◌⊎◌, ℕ, Bool, true, false, List, ◌++◌, Option, Some, Result, Ok, Err}
@@ -19,24 +19,24 @@ use Rattle.snort_engine.specs.declared.batch.Reached.TheVariants.{More, End, Fau
 use Rattle.snort_engine.specs.declared.stop.Stop.{Stop}
 use Rattle.snort_engine.specs.declared.stop.Stop.TheVariants.{Capture}
 
--- where reading stands: the reader, the records of the batch so far, and what is left, where it is told
+-- the place of a reading: the reader, the records of the batch so far, and what is left, where it is told
 pub record Place : Type 0 where
   pub reader : RecordReader
   pub records : List LinkedRecord
   pub left : Option (List ℕ)
 
--- of a host
+-- the place of a reading, by what a host has left
 abbrev pub place : {H : Type 0} → HostOf H → RecordReader → List LinkedRecord → H → Place
 place h reader records host = record { reader = reader; records = records; left = h.left host }
 
--- reading stood at a reader behind these records, and went no record further
+-- reading was at a reader after these records, and went no record further
 pub record HasStopped (first : RecordReader) (given : List LinkedRecord) (left_first left : Option (List ℕ)) : Type 0 where
   pub behind : RecordReader
   pub still : Option (List ℕ)
   pub read : HasRead first behind given left_first still
   pub whole : AreWhole first given left_first left
 
--- the first reader gave these records, and what it reached behind them
+-- the first reader gave these records, and what it reached after them
 abbrev pub Reaches : RecordReader → List LinkedRecord → Option (List ℕ) → Place → Reached → Type 0
 Reaches first given left_first now More = HasRead first now.reader given left_first now.left
 Reaches first given left_first now End =
@@ -50,7 +50,7 @@ ReadsOn old new reached = (first : RecordReader) (shown : List LinkedRecord) (le
     → HasRead first old.reader (shown ++ old.records) left_first old.left
     → Reaches first (shown ++ new.records) left_first new reached
 
--- of at most so many records a batch has all where more may follow, and fewer elsewhere
+-- of at most `most` records a batch has all where more may follow, and fewer elsewhere
 pub record IsFilled (most count : ℕ) (reached : Reached) : Type 0 where
   pub few : count ≤ most
   pub full : reached ≡ More → count ≡ most

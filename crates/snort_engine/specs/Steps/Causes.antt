@@ -16,7 +16,7 @@ pub record Faults : Type 0 where
   pub host : ℕ
   pub alerts : ℕ
 
--- of a host and a sink
+-- the faults of a host and of a sink
 abbrev pub faults_of : {H A : Type 0} → HostOf H → SinkOf A → H → A → Faults
 faults_of h a host alerts = record { host = h.faults host; alerts = a.faults alerts }
 

@@ -1,9 +1,9 @@
 -- Records on their way to lines: their jobs, what these find, and the lines of it.
 --
--- A step says what it does to whatever records stand before. Beside that, whatever the host tells, some list
--- of records stands before each step, of which the lanes know what they must know to run the next jobs.
+-- A step says what it does to whatever records come before. Beside that, whatever the host tells, some list of
+-- records comes before each step, of which the lanes know what they must know to run the next jobs.
 -- To try it on: of a UDP packet whose flow has a rule's bit set by an earlier one, the second batch shows
--- what it would show if both stood in one.
+-- what it would show if both were in one.
 use Rattle.std.specs.Prelude.{◌≡◌, ℕ, ◌≤◌, List, [], ◌++◌, length, Option, Result, OnOk, IfOk, All}
 use Rattle.edge_io.specs.Along.{trail, trail_from}
 use Rattle.conf_types.specs.Sound as conf
@@ -64,7 +64,7 @@ pub record IsRanged (lanes flush : ℕ) : Type 0 where
   pub least : 1 ≤ flush
   pub most : flush ≤ 65536
 
--- its configuration and its rules are sound, there are no more rules than a setup may have, and its numbers are in
+-- a plan's configuration and rules are sound, there are no more rules than a setup may have, and its numbers are in
 -- their ranges
 pub record IsSoundPlan {P : Type 0} (plan : code.Plan P) : Type 0 where
   pub config : conf.IsSound plan.setup.config
@@ -89,7 +89,7 @@ pub record IsNewInspection {P : Type 0} (plan : code.Plan P) (inspection : Inspe
   pub tries : inspection.tries ≡ 0
   pub last : inspection.last ≡ no_record
 
--- the lines of jobs behind earlier jobs
+-- the lines of jobs after earlier jobs
 unfoldable pub jobs_lines : Plan → List Job → List Sourced → List ℕ
 jobs_lines plan before batch =
     items_lines plan.form plan.config plan.rules (trail (job_items (detection_of plan)) before)
@@ -108,12 +108,12 @@ pub record HasRun (old : Inspection) (batch : List Job) (new : Inspection) : Typ
 
 -- ---- records
 
--- the front took records behind these records: these are their jobs, and it stands for all
+-- the front took records after these records: these are their jobs, and it stands for all
 pub record AreTaken (way : JobsWay) (before records : List LinkedRecord) (new : FrontState) (made : List Job) : Type 0 where
   pub jobs_are : made ≡ trail_from (jobs way) before records
   pub stands : StandsFor way new (before ++ records)
 
--- the same, whatever records stood before
+-- these are the jobs of records that the front took, whatever records came before
 abbrev pub MakesJobs : JobsWay → List LinkedRecord → FrontState → FrontState → List Job → Type 0
 MakesJobs way records old new made =
     (before : List LinkedRecord) → StandsFor way old before → AreTaken way before records new made
@@ -124,7 +124,7 @@ pub record DetectorStands (plan : Plan) (records : List LinkedRecord) (detector 
   pub inspection : InspectionStands plan (jobs_of plan records) detector.inspection
   pub last : detector.inspection.last ≡ last_of records
 
--- it was given some records, the lanes have learnt of all their jobs, and no line waits
+-- a detector was given some records, the lanes have learnt of all their jobs, and no line waits
 pub record IsKnown (way : JobsWay) (rules : List Rule) (detector : Detector) : Type 0 where
   pub records : List LinkedRecord
   pub front : StandsFor way detector.front records

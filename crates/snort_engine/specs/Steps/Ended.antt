@@ -36,7 +36,8 @@ EndsOnWay agrees way before after outcome said =
     (files : Files) (course : Course) → agrees files → course.way ≡ way
     → EndsBy files course (before files) (after files) outcome said
 
--- the same where the host isn't asked for anything: whatever is seen of it stays as it is
+-- a run of each course of this way ends by this outcome, where the host isn't asked for anything: whatever is seen of it
+-- stays as it is
 abbrev pub EndsUnseen : {A : Type 0} → Way → Option (List ℕ) → Option (List ℕ) → Result A Stop → List ℕ → Type 0
 EndsUnseen way old new outcome said =
     (files : Files) (course : Course) (before : Work) → before.alerts ≡ old → course.way ≡ way

@@ -1,7 +1,7 @@
 -- A capture that was made in memory: what is left of it.
 --
--- Its bytes are those of pcap_input specs/Generated. To try it on: of four bytes behind its file header, of
--- which one was read, three are left; behind an attempt to open something else nothing is.
+-- Its bytes are those of pcap_input specs/Generated. To try it on: of four bytes after its file header, of
+-- which one was read, three are left; after an attempt to open something else nothing is.
 use Rattle.std.specs.Prelude.{ℕ, List, Option, option_map}
 use Rattle.std.specs.Borrow.{Bor}
 use Rattle.snort_engine.specs.declared.made.MadeCapture.{MadeCapture}

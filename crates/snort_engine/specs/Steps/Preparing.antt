@@ -53,7 +53,7 @@ abbrev pub task_way : {P : Type 0} → Test → Task P → Way
 task_way matches (Show plan) = way_for matches plan
 task_way matches (Tell lines) = Lists lines
 
--- this holds of the detector, if the task has one
+-- something holds of the detector, if the task has one
 abbrev pub OfShow : {P : Type 0} → (code.Plan P → Type 0) → Task P → Type 0
 OfShow Holds (Show plan) = Holds plan
 OfShow Holds (Tell lines) = ⊤

@@ -1,12 +1,12 @@
 -- What a reader of a capture stands for, in either format, and what reading several records, one after
 -- another, knows of the bytes that were left.
 --
--- A reader has the records that the bytes left hold for it. It opens behind the first bytes of a capture, and
+-- A reader has the records that the bytes left hold for it. It opens after the first bytes of a capture, and
 -- whatever follows these, the records of the whole are then those that it has yet to give. Reading takes
 -- some bytes and gives some records, and whatever follows those bytes, what the first reader had is these
--- records and then what the reader behind them has. Where reading ends, the records that are whole within
+-- records and then what the reader after them has. Where reading ends, the records that are whole within
 -- the bytes taken are those that were given.
--- To try it on: behind a section header, an interface and one packet, and 3 bytes of a further block, the
+-- To try it on: after a section header, an interface and one packet, and 3 bytes of a further block, the
 -- first reader gives that packet and then Truncated; the bytes of all three were taken, and those 3, and the
 -- one record is all that is whole within them.
 use Rattle.std.specs.Prelude.{◌≡◌, ℕ, ◌+◌, ◌<◌, ◌≤◌, List, [], ◌∷◌, ◌++◌, Option, Some, None, option_map, Result, Ok, Err, ⊤, ◌⊎◌}
@@ -27,12 +27,12 @@ use Rattle.snort_engine.specs.Records.{records_in, IsOther, IsToldOther}
 
 -- ---- a reader
 
--- it has refused nothing
+-- a reader has refused nothing
 abbrev pub IsFresh : RecordReader → Type 0
 IsFresh (Savefile reader) = reader.refused ≡ None
 IsFresh (Blocks reader) = reader.refused ≡ None
 
--- what it has refused
+-- what a reader has refused
 abbrev pub refusal_of : RecordReader → Option ReadFault
 refusal_of (Savefile reader) = option_map of_savefile reader.refused
 refusal_of (Blocks reader) = option_map of_blocks reader.refused
@@ -42,22 +42,22 @@ abbrev pub number_of : RecordReader → ℕ
 number_of (Savefile reader) = reader.number
 number_of (Blocks reader) = reader.walk.number
 
--- what these bytes hold for it
+-- what these bytes hold for a reader
 unfoldable pub recording_for : RecordReader → List ℕ → Recording
 recording_for (Savefile reader) rest = recording_of reader.head.link (cut_for reader rest)
 recording_for (Blocks reader) rest = recording_of_blocks (records_left reader.walk rest)
 
--- it goes on, one record further
+-- a reader goes on, one record further
 pub record IsNext (reader next : RecordReader) : Type 0 where
   pub number : number_of next ≡ number_of reader + 1
   pub within : number_of reader < most_records
 
--- it may be asked for records: it has refused nothing, and has given no more of them than a capture may have
+-- a reader may be asked for records: it has refused nothing, and has given no more of them than a capture may have
 pub record IsReadable (reader : RecordReader) : Type 0 where
   pub fresh : IsFresh reader
   pub within : number_of reader ≤ most_records
 
--- it has given so many records more, and may be asked for others
+-- a reader has given `count` records more, and may be asked for others
 pub record HasGoneOn (old new : RecordReader) (count : ℕ) : Type 0 where
   pub number : number_of new ≡ number_of old + count
   pub readable : IsReadable new
@@ -89,8 +89,8 @@ IsRefusedBy first given left_first fault.Failed = ⊤
 IsRefusedBy first given left_first fault.NoMemory = ⊤
 IsRefusedBy first given left_first why = EndsWith first given left_first (Refused why)
 
--- what an answer says of the reader before and behind it, and of what was left: a record and no byte behind
--- it was taken; or no further record is whole within the bytes taken
+-- what an answer says of the reader before and after it, and of what was left: a record and no byte after it
+-- was taken; or no further record is whole within the bytes taken
 abbrev pub Gives : RecordReader → RecordReader → Result (Option LinkedRecord) ReadFault
     → Option (List ℕ) → Option (List ℕ) → Type 0
 Gives old new (Ok (Some given)) left_old left_new = HasRead old new (given ∷ []) left_old left_new × IsNext old new
@@ -105,7 +105,7 @@ abbrev pub BeginsBehind : List ℕ → RecordReader → Type 0
 BeginsBehind front reader =
     (limit : Option ℕ) (more : List ℕ) → records_in limit (front ++ more) ≡ first_records limit (recording_for reader more)
 
--- the capture that holds these bytes was opened, and the reader begins behind those that were taken
+-- the capture that holds these bytes was opened, and the reader begins after those that were taken
 pub record IsBegun (held : Option (List ℕ)) (reader : RecordReader) (left : Option (List ℕ)) : Type 0 where
   pub front : List ℕ
   pub rest : List ℕ
@@ -113,7 +113,7 @@ pub record IsBegun (held : Option (List ℕ)) (reader : RecordReader) (left : Op
   pub still : left ≡ Some rest
   pub begins : BeginsBehind front reader
 
--- it was opened, and no record is whole within the bytes that were taken
+-- a capture was opened, and no record is whole within the bytes that were taken
 pub record IsBarelyOpen (held left : Option (List ℕ)) : Type 0 where
   pub taken : List ℕ
   pub rest : List ℕ
@@ -138,7 +138,7 @@ abbrev pub Opens : Option (List ℕ) → Result RecordReader ReadFault → Optio
 Opens held (Ok reader) left = IsBegun held reader left
 Opens held (Err why) left = IsRefusedOpening held why × (IsBarelyOpen held left ⊎ ((why ≡ fault.Failed) × (left ≡ None)))
 
--- or isn't told to begin otherwise
+-- the file of this name begins as no savefile does, or the files aren't told
 abbrev pub MayBeOther : Option Files → List ℕ → Type 0
 MayBeOther None name = ⊤
 MayBeOther (Some files) name = IsOther (get files name)

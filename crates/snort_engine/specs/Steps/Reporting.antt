@@ -38,7 +38,7 @@ abbrev pub outcome_said : {A : Type 0} → List ℕ → Bool → Result A Stop �
 outcome_said source counted outcome counts =
     with_counts (outcome_text source outcome) (counts_due counted outcome counts)
 
--- this text and the outcome's status, or those of want of memory, behind what was told before
+-- this text and the outcome's status, or those of want of memory, after what was told before
 abbrev pub Reports : {A : Type 0} → List ℕ → Result A Stop → Status → (List ℕ → Type 0) → Type 0
 Reports text outcome ended Told =
     ((ended ≡ outcome_status outcome) × Told text)

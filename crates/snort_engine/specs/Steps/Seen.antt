@@ -7,7 +7,7 @@ use Rattle.edge_io.specs.Files.{Files, MaySee}
 use Rattle.edge_io.specs.Told.{Rose}
 use Rattle.edge_io.specs.declared.host.Host.{Ghosts as HostOf}
 
--- this holds by whatever may be seen of a host: what it tells, or files that give all that it answered
+-- something holds by whatever may be seen of a host: what it tells, or files that give all that it answered
 abbrev pub OfSeen : {H : Type 0} → HostOf H → H → (Option Files → Type 0) → Type 0
 OfSeen h host Holds = (seen : Option Files) → MaySee (h.contents host) (h.agrees host) seen → Holds seen
 

@@ -70,11 +70,11 @@ pub record Streams : Type 0 where
   pub left : Option (List ℕ)
   pub written : Option (List ℕ)
 
--- of a host and a sink of alerts
+-- the streams of a host and of a sink of alerts
 abbrev pub streams : {H A : Type 0} → HostOf H → SinkOf A → H → A → Streams
 streams h a host alerts = record { left = h.left host; written = a.written alerts }
 
--- this holds of both streams, before and after, by whatever may be seen of the host
+-- something holds of both streams, before and after, by whatever may be seen of the host
 abbrev pub OfStreams : {H A : Type 0} → HostOf H → SinkOf A → H → H → A → A → (Streams → Streams → Type 0) → Type 0
 OfStreams h a host_old host_new alerts_old alerts_new Holds =
     OfSeen h host_new (λ seen. Holds (streams (by seen h) a host_old alerts_old) (streams (by seen h) a host_new alerts_new))
@@ -125,7 +125,7 @@ HasReadTo plan reader taken left failed (Err stop.CannotWrite) =
 HasReadTo plan reader taken left failed (Err why) = IsReadOut plan reader taken left
 
 -- of the records that are whole within the bytes taken, the lines of those given were written, and maybe more: of whole
--- batches, behind which at most one more was read, or of all; without the limit there are no more of them than it lets;
+-- batches, after which at most one more was read, or of all; without the limit there are no more of them than it lets;
 -- where the showing ends so, and the host failed or did not, no more was read than may be
 pub record IsCloseBehind (plan : Plan) (reader : RecordReader) (old new : Streams) (failed : Type 0)
     (outcome : Result (Unit {0}) Stop) : Type 0 where
@@ -165,7 +165,7 @@ ShowsCapture plan reader old new counts (Err why) = ⊥
 
 -- ---- batch by batch
 
--- how many records may still be read behind so many, where there is a limit
+-- how many records may still be read after this many, where there is a limit
 abbrev pub IsRoom : Option ℕ → ℕ → Option ℕ → Type 0
 IsRoom None count room = room ≡ None
 IsRoom (Some limit) count None = ⊥
@@ -176,12 +176,12 @@ abbrev pub most_at : Option ℕ → ℕ
 most_at None = batch
 most_at (Some room) = min batch room
 
--- how many may still be read behind so many more
+-- how many may still be read after this many more
 abbrev pub room_behind : Option ℕ → ℕ → Option ℕ
 room_behind None count = None
 room_behind (Some room) count = Some (room - count)
 
--- where a showing stands: the reader, how many records may still be read, the detector, and what is told
+-- how far a showing has come: the reader, how many records may still be read, the detector, and what is told
 pub record Standing : Type 0 where
   pub reader : RecordReader
   pub room : Option ℕ
@@ -233,12 +233,12 @@ Comes plan first start now detector (Err stop.CannotWrite) = WritesSome plan fir
 Comes plan first start now detector (Err stop.NoMemory) = WritesSome plan first start now
 Comes plan first start now detector (Err why) = ⊥
 
--- and its lines are close behind its records
+-- how the reading of all batches ends, and the lines follow its records closely
 abbrev pub ComesOver : Plan → RecordReader → Streams → Streams → Type 0 → Detector → Result (Unit {0}) Stop → Type 0
 ComesOver plan first start now failed detector outcome =
     Comes plan first start now detector outcome × IsCloseBehind plan first start now failed outcome
 
--- a showing that was under way is so still, behind one more batch, or all batches are read
+-- a showing that was under way is so still, after one more batch, or all batches are read
 abbrev pub ShowsOn : Plan → Standing → Standing → Type 0 → Result Bool Stop → Type 0
 ShowsOn plan old new failed (Ok true) =
     (first : RecordReader) (start : Streams) → IsUnderWay plan first start old → IsUnderWay plan first start new
@@ -265,7 +265,7 @@ abbrev pub IsClosedWhole : Plan → Detector → Result (Unit {0}) Stop → Resu
 IsClosedWhole plan detector shown result old new counts =
     (is_whole shown ≡ true) × (result ≡ shown) × Closes plan detector old new (Ok counts)
 
--- or its closing was stopped
+-- the closing of what came to its end was stopped
 abbrev pub IsClosedInPart : Plan → Detector → Result (Unit {0}) Stop → Result (Unit {0}) Stop
     → Sending → Sending → Type 0
 IsClosedInPart plan detector shown result old new =

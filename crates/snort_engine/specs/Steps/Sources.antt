@@ -37,7 +37,7 @@ abbrev pub LacksCapture : Option Files → Way → Type 0
 LacksCapture told (Goes plan) = Lacks told plan.source
 LacksCapture told way = ⊥
 
--- the same of the file of this source
+-- the host's files are told, and lack the file of this source
 abbrev pub LacksSource : Option Files → Source → Type 0
 LacksSource told (File name) = Lacks told name.now
 LacksSource told (Made seed count) = ⊥

@@ -18,7 +18,7 @@ last_behind last records = fold (λ _ r. r) last records
 abbrev pub Sourced : Type 0
 Sourced = Beside LinkedRecord Job
 
--- whatever records stood before, these are the places of the jobs of these records
+-- whatever records came before, these are the places of the jobs of these records
 abbrev pub PlacesJobs : JobsWay → List LinkedRecord → FrontState → List ℕ → Type 0
 PlacesJobs way records old places =
     (before : List LinkedRecord) → StandsFor way old before → places ≡ places_along (jobs way) before 0 records

@@ -94,7 +94,7 @@ ReadsQuietly outcome old new = is_uncut (outcome_status outcome) ≡ true → ne
 abbrev pub WritesQuietly : {A : Type 0} → Result A Stop → ℕ → ℕ → Type 0
 WritesQuietly outcome old new = is_written (outcome_status outcome) ≡ true → new ≡ old
 
--- and its message, if it has one
+-- the message of an outcome, if it has one
 abbrev pub outcome_text : {A : Type 0} → List ℕ → Result A Stop → List ℕ
 outcome_text source (Ok done) = []
 outcome_text source (Err why) = stop_text source why

@@ -1,4 +1,4 @@
--- No key stands twice among the recent ones.
+-- No key is there twice among the recent ones.
 use Rattle.std.proofs.Common.{◌≡◌, ℕ, zero, suc, ◌≤◌, Bool, true, false, cond, ◌||◌, List, [], ◌∷◌, Some, None, length, take, slice_get, refl, sym, ap, ◌∙◌, arith}
 use Rattle.std.specs.Bool.{⊤}
 use Rattle.std.specs.List.{find}
@@ -70,7 +70,7 @@ not_before (suc n) (first ∷ es) e apart h = (elim (same_key e.0 first.0) as (�
   | false ↦ λ t. not_before n es e apart.1 h
 ]) refl
 
--- a key that is found, but not among all places but the last, stands at the last
+-- a key that is found, but not among all places but the last, is at the last
 pub found_last : (n : ℕ) (es : List (Key × ℕ)) (key : Key) (flow : ℕ) → length es ≤ suc n → lookup (same_key key) es ≡ Some flow → is_touched (keys_of (take n es)) key ≡ false → slice_get es n ≡ Some (key, flow)
 found_last n [] key flow few h out = cc
 found_last zero (first ∷ []) key flow few h out = (elim (same_key key first.0) as (λ x. same_key key first.0 ≡ x → cond x (Some first.1) None ≡ Some flow → Some first ≡ Some (key, flow)) [

@@ -76,7 +76,7 @@ ended_protocol max touches key other h = (elim (is_of other.tcp key) as (λ x. i
   | false ↦ λ t. let parts = both (is_live max touches other) (is_live max (key ∷ touches) other) h in absurd (false≢true (sym parts.1 ∙ is_live-other max touches key other t ∙ parts.0))
 ]) refl
 
--- the key that a fresh touch ends stands last
+-- the key that a fresh touch ends comes last
 ended_last : (max : MaxFlows) (touches : List Key) (key other : Key) (n : ℕ) → max_for max key.tcp ≡ suc n → is_live max touches key ≡ false → ends_life max touches key other ≡ true → slice_get (kept max key.tcp touches) n ≡ Some (other, flow_number max touches other)
 ended_last max touches key other n room fresh h =
     let some : 0 < max_for max key.tcp = omega arith in
@@ -112,7 +112,7 @@ kept_protocol max tcp touches key h =
       | false ↦ λ t h. filtered earlier h
     ]) refl h
 
--- the key that stands last ends at a fresh touch
+-- the key that comes last ends at a fresh touch
 last_ends : (max : MaxFlows) (touches : List Key) (key : Key) (n : ℕ) (e : Key × ℕ) → max_for max key.tcp ≡ suc n → is_live max touches key ≡ false → slice_get (kept max key.tcp touches) n ≡ Some e → ends_life max touches key e.0 ≡ true
 last_ends max touches key n e room fresh h =
     let protocol : e.0.tcp ≡ key.tcp = sym (same_bool key.tcp e.0.tcp (kept_protocol max key.tcp touches e.0 (is_touched-at n (kept max key.tcp touches) e h))) in

@@ -57,7 +57,7 @@ flow_number-apart max (touch ∷ earlier) one other h g same = (elim (same_key o
     number : ℕ
     number = cond (is_live max earlier touch) (flow_number max earlier touch) (begun max earlier)
 
--- which keys a list has, and each one's number, where no key stands twice
+-- which keys a list has, and each one's number, where no key is there twice
 lookup-touched : (es : List (Key × ℕ)) (key : Key) (flow : ℕ) → lookup (same_key key) es ≡ Some flow → is_touched (keys_of es) key ≡ true
 lookup-touched es key flow h = sym (is_some-lookup (same_key key) es) ∙ ap is_some h
 
@@ -81,7 +81,7 @@ value_among (e ∷ es) key f h = (elim (same_key key e.0) as (λ x. cond x (Some
   | false ↦ λ h. (elim (eqb f e.1) as (λ b. (b || among (values_of es) f) ≡ true) [ true ↦ refl | false ↦ value_among es key f h ])
 ]) h
 
--- the keys of the two protocols, one behind the other
+-- the keys of the two protocols, one after the other
 abbrev pub all_kept : MaxFlows → List Key → List (Key × ℕ)
 all_kept max touches = kept max true touches ++ kept max false touches
 

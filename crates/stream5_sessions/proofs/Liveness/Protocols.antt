@@ -29,7 +29,7 @@ filter-since key (touch ∷ earlier) = (elim (is_of key.tcp touch) as (λ x. is_
   | false ↦ λ t. rw (same_key-other key touch t, t) (filter-since key earlier)
 ]) refl
 
--- a key lives where it is among so many recent ones of its protocol as may live
+-- a key lives where it is among as many recent ones of its protocol as may live
 pub is_live-recent : (max : MaxFlows) (touches : List Key) (key : Key) → is_live max touches key ≡ is_touched (take (max_for max key.tcp) (recent (filter (is_of key.tcp) touches))) key
 unfolding is_live
 is_live-recent max touches key =
@@ -62,7 +62,7 @@ lookup-remove_entry key other apart (e ∷ es) = (elim (same_key key e.0) as (λ
   | false ↦ λ t. ap (λ (o : Option ℕ). cond (same_key other e.0) (Some e.1) o) (lookup-remove_entry key other apart es)
 ]) refl
 
--- a touched key stands there with its last flow's number
+-- a touched key is there with its last flow's number
 pub lookup-stretches : (max : MaxFlows) (touches : List Key) (key : Key) → is_touched touches key ≡ true → lookup (same_key key) (stretches max key.tcp touches) ≡ Some (flow_number max touches key)
 lookup-stretches max [] key h = absurd (false≢true h)
 lookup-stretches max (touch ∷ earlier) key h = (elim (same_key key touch) as (λ x. same_key key touch ≡ x → (x || is_touched earlier key) ≡ true → lookup (same_key key) (stretches max key.tcp (touch ∷ earlier)) ≡ Some (cond x (cond (is_live max earlier touch) (flow_number max earlier touch) (begun max earlier)) (flow_number max earlier key))) [
@@ -144,7 +144,7 @@ take-remove_entry test (suc n) (e ∷ es) h = (elim (test e.0) as (λ x. is_some
   | false ↦ λ h. ap (λ (rest : List (Key × ℕ)). e ∷ rest) (take-remove_entry test n es h)
 ]) h
 
--- what is kept behind a touch, where so many may live
+-- what is kept after a touch, where `room` keys may live
 behind : (max : MaxFlows) (key : Key) (touches : List Key) (room : ℕ) → 0 < room → max_for max key.tcp ≡ room → kept_by (take room (stretches max key.tcp touches)) room (begun max touches) key (cond (is_live max touches key) (Some (flow_number max touches key)) None) ≡ take room ((key, cond (is_live max touches key) (flow_number max touches key) (begun max touches)) ∷ remove_entry (same_key key) (stretches max key.tcp touches))
 behind max key touches zero some is = absurd (omega arith)
 behind max key touches (suc n) some is =

@@ -7,7 +7,7 @@ use Rattle.stream5_sessions.specs.Keys.{same_key}
 use Rattle.stream5_sessions.specs.Liveness.{is_touched, since, distinct_count}
 use Rattle.stream5_sessions.proofs.KeyLaws.{same_key-is}
 
--- without the first place of the key
+-- the keys without the first place of one of them
 abbrev pub remove_key : Key → List Key → List Key
 remove_key key [] = []
 remove_key key (first ∷ keys) = cond (same_key key first) keys (first ∷ remove_key key keys)
@@ -49,7 +49,7 @@ is_touched-recent (touch ∷ earlier) key = (elim (same_key key touch) as (λ x.
   | false ↦ λ t. is_touched-remove_key touch key t (recent earlier) ∙ is_touched-recent earlier key
 ]) refl
 
--- what stands before a key among the recent ones are the recent ones of the touches since
+-- the keys before a key among the recent ones are the recent ones of the touches since
 pub since-recent : (key : Key) (touches : List Key) → since key (recent touches) ≡ recent (since key touches)
 since-recent key [] = refl
 since-recent key (touch ∷ earlier) = (elim (same_key key touch) as (λ x. same_key key touch ≡ x → cond x [] (touch ∷ since key (remove_key touch (recent earlier))) ≡ recent (cond x [] (touch ∷ since key earlier))) [
@@ -76,7 +76,7 @@ length-recent (touch ∷ earlier) =
     counted true rest all h = omega arith
     counted false rest all h = omega arith
 
--- a key is among the first so many where fewer stand before it
+-- a key is among the first `n` where fewer come before it
 pub is_touched-take : (n : ℕ) (keys : List Key) (key : Key) → is_touched (take n keys) key ≡ (is_touched keys key && ltb (length (since key keys)) n)
 is_touched-take zero keys key = none (is_touched keys key) (length (since key keys))
   where

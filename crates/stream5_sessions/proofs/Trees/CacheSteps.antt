@@ -26,7 +26,7 @@ promoted-some key flow es h = ap (λ (o : Option (Key × ℕ)). option_map_or (�
       | false ↦ λ t h. entry es h
     ]) refl h
 
--- one that isn't leaves what is kept as it is
+-- a key that isn't kept leaves what is kept as it is
 pub promoted-none : (key : Key) (es : List (Key × ℕ)) → lookup (same_key key) es ≡ None → promoted (same_key key) es ≡ es
 promoted-none key es h = ap (λ (o : Option (Key × ℕ)). option_map_or (λ e. e ∷ remove_entry (same_key key) es) o es) (lookup_entry-none (same_key key) es h)
 

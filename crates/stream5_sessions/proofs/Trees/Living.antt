@@ -1,5 +1,5 @@
 -- A tree of numbers and a cache that hashes them: what the tree says of the cache's entries, and what both are
--- behind a step.
+-- after a step.
 use Rattle.std.proofs.Common.{◌≡◌, ℕ, zero, suc, ◌-◌, ◌≤◌, Bool, true, false, cond, ◌&&◌, eqb, List, [], ◌∷◌, length, take, slice_get}
 use Rattle.std.proofs.Common.{Option, Some, None, IfSome, refl, sym, ap, subst, ◌∙◌, eq-eqb, arith}
 use Rattle.std.specs.List.{AllByRecursion, IsDistinct}
@@ -113,7 +113,7 @@ evicted-flow [] i = refl
 evicted-flow (e ∷ es) zero = refl
 evicted-flow (e ∷ es) (suc i) = evicted-flow es i
 
--- ---- the index behind a step
+-- ---- the index after a step
 keys-all : (P : Key → Type 0) (es : List (Numbered × ℕ)) → AllByRecursion (λ (e : Numbered × ℕ). P e.0.key) es → AllByRecursion P (keys_of (entries_of es))
 keys-all P [] all = tt
 keys-all P (e ∷ es) all = (all.0, keys-all P es all.1)
@@ -177,7 +177,7 @@ module _ (numbers put : FlowNumbers) (es : List (Numbered × ℕ)) (key : Key) (
       back q false is = refl
       back q true is = sym (indexed.only q (ap (λ (k : Key). lookup (same_key k) (entries_of es)) (sym (same_key-is key q is)) ∙ absent))
 
-  -- the keys behind the new one
+  -- the keys after the new one
   distinct : (i : ℕ) → IsDistinct same_key (keys_of (entries_of ((numbered key number, number) ∷ take i es)))
   unfolding IsDistinct
   distinct i = (
@@ -185,7 +185,7 @@ module _ (numbers put : FlowNumbers) (es : List (Numbered × ℕ)) (key : Key) (
     subst (λ (l : List (Key × ℕ)). IsDistinct same_key (keys_of l)) (sym (entries-take i es)) (distinct-take same_key same_key-flips i (entries_of es) indexed.apart),
   )
 
-  -- a key that isn't among these behind the step wasn't there before it, but for the one that leaves
+  -- a key that isn't among these after the step wasn't there before it, but for the one that leaves
   before : (q : Key) (i : ℕ) (evicted : Option (Numbered × ℕ)) → length es ≤ suc i → slice_get es i ≡ evicted
       → lookup (same_key q) (entries_of ((numbered key number, number) ∷ take i es)) ≡ None → is_gone evicted q ≡ false → number_in put q ≡ None
   before q i evicted few at none stays = by (same_key q key) refl none

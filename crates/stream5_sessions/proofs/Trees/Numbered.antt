@@ -63,7 +63,7 @@ module _ {K N V : Type 0} (part : N → K) where
         by None = refl
         by (Some e) = ap (λ (l : List (K × V)). plain_entry e ∷ l) (remove-plain es alike)
 
--- ---- what isn't there behind a step wasn't there before it
+-- ---- what isn't there after a step wasn't there before it
 module _ {K V : Type 0} (by : K → Bool) where
   module _ (test : K → Bool) where
     unless_removed : (es : List (K × V)) (e : K × V) → lookup_entry test es ≡ Some e → by e.0 ≡ false → lookup by (remove_entry test es) ≡ None → lookup by es ≡ None

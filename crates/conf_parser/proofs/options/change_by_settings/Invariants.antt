@@ -1,4 +1,4 @@
--- The draft so far, and then the settings that are left, give the draft behind all.
+-- The draft so far, and then the settings that are left, give the draft after all.
 use Rattle.std.proofs.Common.{◌≡◌, length}
 use Rattle.net_lists.specs.Cutting.{settings}
 use Rattle.net_lists.specs.Folds.{draft_behind}

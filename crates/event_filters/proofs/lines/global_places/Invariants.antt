@@ -1,4 +1,4 @@
--- Those of the rules so far.
+-- The places of the global filters of the rules so far.
 use Rattle.std.proofs.Common.{◌≡◌, map, take}
 use Rattle.event_filters.specs.Events.{global_place}
 use Rattle.event_filters.proofs.lines.global_places.Given as goal

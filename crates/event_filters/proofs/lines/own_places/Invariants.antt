@@ -1,4 +1,4 @@
--- Those of the rules so far.
+-- The places of the own filters of the rules so far.
 use Rattle.std.proofs.Common.{◌≡◌, map, take}
 use Rattle.event_filters.specs.Events.{own_place}
 use Rattle.event_filters.proofs.lines.own_places.Given as goal

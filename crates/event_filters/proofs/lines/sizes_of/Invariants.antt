@@ -1,4 +1,4 @@
--- Those of the rules so far.
+-- The sizes of the longest contents of the rules so far.
 use Rattle.std.proofs.Common.{◌≡◌, map, take}
 use Rattle.event_filters.specs.Queue.{longest_content}
 use Rattle.event_filters.proofs.lines.sizes_of.Given as goal

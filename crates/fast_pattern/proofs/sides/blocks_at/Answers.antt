@@ -1,4 +1,4 @@
--- A rule that doesn't stand in the side's index is sought at no port (`stands-not`); another is sought at the ports of the
+-- A rule that isn't in the side's index is sought at no port (`stands-not`); another is sought at the ports of the
 -- list that tells (`stands-so`).
 use Rattle.std.proofs.Common.{ℕ, List, [], length, refl, sym, subst, ◌∙◌}
 use Rattle.std.proofs.lemmas.Option.{slice_get_read}

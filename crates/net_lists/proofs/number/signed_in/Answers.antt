@@ -6,7 +6,7 @@ use Rattle.net_lists.specs.Numbers.{signed_kept_in}
 use Rattle.net_lists.proofs.Numbers.Ranges.{signed_in-plain, signed_in-minus}
 use Rattle.net_lists.proofs.number.signed_in.Goals as goal
 
--- the same numbers are kept in the same bounds
+-- equal numbers are kept in equal bounds
 same_kept : (least most number least' most' number' : ℤ) → least ≡ least' → most ≡ most' → number ≡ number' → signed_kept_in least most number ≡ signed_kept_in least' most' number'
 same_kept least most number least' most' number' l m n =
     ap (λ z. signed_kept_in z most number) l ∙ ap (λ z. signed_kept_in least' z number) m ∙ ap (signed_kept_in least' most') n

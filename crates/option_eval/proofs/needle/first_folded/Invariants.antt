@@ -1,4 +1,4 @@
--- The bytes stand at none of the places so far.
+-- The bytes are at none of the places so far.
 use Rattle.std.proofs.Common.{◌≤◌, ◌-◌, true}
 use Rattle.memchr.specs.Find.{Nowhere}
 use Rattle.option_eval.specs.Sets.{Occurs}

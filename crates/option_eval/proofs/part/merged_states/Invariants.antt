@@ -1,4 +1,4 @@
--- The states that were taken out stand among those that are done.
+-- The states that were taken out are among those that are done.
 use Rattle.std.proofs.Common.{ℕ, List, Contains}
 use Rattle.std.specs.Prelude.{⊤}
 use Rattle.option_eval.specs.Numbers.{Standing}

@@ -1,4 +1,4 @@
--- An extraction fewer is left behind each; the states that were taken out were gone on from.
+-- An extraction fewer is left after each; the states that were taken out were gone on from.
 use Rattle.std.proofs.Common.{◌≡◌, ℕ, ◌+◌, ◌*◌, ◌≤◌, List, Some, None, length, map}
 use Rattle.std.specs.List.{AllZip}
 use Rattle.option_eval.specs.Known.{AreKnown, AreRising}

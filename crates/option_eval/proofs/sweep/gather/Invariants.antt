@@ -1,4 +1,4 @@
--- The bytes that stand before the place were added.
+-- The bytes that occur before the place were added.
 use Rattle.std.proofs.Common.{◌+◌, ◌-◌, ◌≤◌, length}
 use Rattle.option_eval.specs.Sets.{IsRising, Adds, IsHitIn}
 use Rattle.option_eval.proofs.sweep.gather.Given as goal

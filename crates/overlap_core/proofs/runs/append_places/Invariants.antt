@@ -1,4 +1,4 @@
--- The places passed have bytes, and these stand behind what stood there.
+-- The places passed have bytes, and these follow what was there.
 use Rattle.std.proofs.Common.{◌≡◌, ℕ, ◌+◌, ◌≤◌, List, ◌++◌, length, vec_len, vec_capacity}
 use Rattle.overlap_core.specs.Pieces.{IsRow}
 use Rattle.overlap_core.proofs.Joined.Filling.{IsFilling}

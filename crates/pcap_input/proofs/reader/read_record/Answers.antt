@@ -1,4 +1,4 @@
--- What the bytes of a header, or fewer, say of the record that stands next.
+-- What the bytes of a header, or fewer, say of the record that comes next.
 use Rattle.std.proofs.Common.{◌≡◌, length, take, sym, ap, ◌∙◌, arith}
 use Rattle.std.proofs.lemmas.List.{length-take-le, take_all}
 use Rattle.std.proofs.lemmas.Result.{err_from_is_err_and}

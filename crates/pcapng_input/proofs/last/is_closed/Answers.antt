@@ -1,4 +1,4 @@
--- The last four bytes lie behind those that were passed over.
+-- The last four bytes lie after those that were passed over.
 use Rattle.std.proofs.Common.{◌+◌, arith}
 use Rattle.std.proofs.lemmas.Result.{err_from_is_err_and}
 use Rattle.edge_io.specs.Files.{left_by}

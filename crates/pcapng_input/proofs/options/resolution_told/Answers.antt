@@ -1,4 +1,4 @@
--- Each option is the one that stands first in the options that are left.
+-- Each option is the one that comes first in the options that are left.
 use Rattle.std.proofs.Common.{ℕ, sym, ap, ◌∙◌, arith}
 use Rattle.std.proofs.lemmas.List.{length-take, length-drop}
 use Rattle.pcapng_input.specs.Options.{padded}

@@ -1,4 +1,4 @@
--- Each piece lies behind those that were passed over.
+-- Each piece lies after those that were passed over.
 use Rattle.std.proofs.Common.{ℕ, ◌-◌, refl, ◌∙◌, arith}
 use Rattle.std.proofs.lemmas.List.{length-take}
 use Rattle.std.proofs.lemmas.Result.{err_from_is_err_and}

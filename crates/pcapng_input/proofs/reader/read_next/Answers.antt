@@ -1,4 +1,4 @@
--- Each block that is skipped lies behind the others.
+-- Each block that is skipped lies after the others.
 use Rattle.std.proofs.Common.{refl, ◌∙◌, arith}
 use Rattle.std.proofs.lemmas.Result.{err_from_is_err_and}
 use Rattle.edge_io.specs.Files.{left_by}

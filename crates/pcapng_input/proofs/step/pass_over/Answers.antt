@@ -1,4 +1,4 @@
--- What stands between the fixed front and the last four bytes is passed over.
+-- What is between the fixed front and the last four bytes is passed over.
 use Rattle.std.proofs.Common.{◌+◌, [], false, true, arith}
 use Rattle.std.proofs.lemmas.Result.{err_from_is_err_and}
 use Rattle.edge_io.specs.Files.{left_by}

@@ -1,4 +1,4 @@
--- A packet's captured bytes stand first, and the rest of its block is passed over.
+-- A packet's captured bytes come first, and the rest of its block is passed over.
 use Rattle.std.proofs.Common.{◌+◌, ◌-◌, ◌++◌, false, true, arith}
 use Rattle.std.proofs.lemmas.Result.{err_from_is_err_and}
 use Rattle.edge_io.specs.Files.{left_by}

@@ -1,4 +1,4 @@
--- The records so far are those that the calls behind the opening gave.
+-- The records so far are those that the calls after the opening gave.
 use Rattle.std.proofs.Common.{◌≡◌, ◌≤◌, ◌-◌, Option, None, length}
 use Rattle.edge_io.specs.Files.{Files, MaySee, left_by}
 use Rattle.edge_io.specs.Told.{one_more}

@@ -1,4 +1,4 @@
--- No `/` stands behind the bytes that are left.
+-- No `/` comes after the bytes that are left.
 use Rattle.std.proofs.Common.{◌≡◌, ◌≤◌, ◌+◌, length, take}
 use Rattle.std.specs.List.{suffix_len}
 use Rattle.rule_parser.specs.Patterns.{is_no_slash}

@@ -1,4 +1,4 @@
--- What stands before the rest has no closing quote.
+-- What comes before the rest has no closing quote.
 use Rattle.std.proofs.Common.{◌≡◌, false, drop}
 use Rattle.rule_parser.specs.Quotes.{closing_len}
 use Rattle.rule_parser.proofs.Quoting.{shifted}

@@ -1,4 +1,4 @@
--- What stands before the rest ends no option.
+-- What comes before the rest ends no option.
 use Rattle.std.proofs.Common.{◌≡◌, drop}
 use Rattle.rule_parser.specs.Written.{outside, option_len}
 use Rattle.rule_parser.proofs.Quoting.{shifted}

@@ -1,4 +1,4 @@
--- What stands next, by the answer of the reader of blocks.
+-- What comes next, by the answer of the reader of blocks.
 use Rattle.snort_engine.proofs.Records.Reading.{blocks_give, blocks_ended, blocks_stop}
 use Rattle.snort_engine.proofs.Headline.Quiet.{blocks_unfailed}
 use Rattle.snort_engine.proofs.Records.Stops.{blocks_keep}

@@ -1,4 +1,4 @@
--- What stands next, by the answer of the savefile's reader.
+-- What comes next, by the answer of the savefile's reader.
 use Rattle.snort_engine.proofs.Records.Reading.{savefile_gives, savefile_ended, savefile_stops}
 use Rattle.snort_engine.proofs.Headline.Quiet.{savefile_unfailed}
 use Rattle.snort_engine.proofs.Records.Stops.{savefile_keeps}

@@ -1,4 +1,4 @@
--- The lines before lead to what stands, what stands is sound, and the maker means what it meant.
+-- The lines before lead to what there is now; that is sound, and the maker means what it meant.
 use Rattle.std.proofs.Common.{length}
 use Rattle.std.specs.Prelude.{All}
 use Rattle.rule_types.specs.Sound.{IsSound}

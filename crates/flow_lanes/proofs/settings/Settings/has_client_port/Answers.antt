@@ -1,4 +1,4 @@
--- Behind the last engine stand the default ports.
+-- After the last engine the default ports follow.
 use Rattle.std.proofs.Common.{Option, sym, ap, ◌∙◌, unwrap_or}
 use Rattle.std.specs.Option.{option_copied}
 use Rattle.conf_types.specs.declared.config.StreamEngine.{StreamEngine}

@@ -1,4 +1,4 @@
--- The draft so far, and then the parts that are left, give the draft behind all.
+-- The draft so far, and then the parts that are left, give the draft after all.
 use Rattle.std.proofs.Common.{◌≡◌}
 use Rattle.net_lists.specs.Folds.{draft_behind}
 use Rattle.net_lists.proofs.parts.Parts.fold_by.Given as goal

@@ -1,4 +1,4 @@
--- The record that was read is the one that stands next for the reader.
+-- The record that was read is the one that comes next for the reader.
 use Rattle.pcap_input.proofs.reader.CaptureReader.next_seen.Goals as goal
 
 pub returns-in-Ok-Some-clause-gives : goal.returns-in-Ok-Some-clause-gives
