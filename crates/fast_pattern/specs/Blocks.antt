@@ -13,7 +13,7 @@ use Rattle.net_lists.specs.declared.part.Part.{Part}
 use Rattle.fast_pattern.specs.declared.index.Entry.{Entry}
 use Rattle.fast_pattern.specs.declared.index.PortIndex.{PortIndex}
 use Rattle.net_lists.specs.Membership.{has_port}
-use Rattle.fast_pattern.specs.Outputs.{AreOwned}
+use Rattle.pattern_search.specs.Owned.{AreOwned}
 
 -- the number of the block of 2 ^ bits ports from one on
 abbrev pub number : ℕ → ℕ → ℕ

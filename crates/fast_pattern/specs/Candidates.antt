@@ -6,8 +6,7 @@
 -- To try it on: `alert tcp any any -> any 80 (content:"cab"; ..)` is a candidate for a TCP packet to port
 -- 80 with the payload `xCaBx`; it isn't for one from port 80, unless its direction is `<>`.
 use Rattle.std.specs.Prelude.{◌≡◌, ℕ, ◌+◌, Bool, true, false, ◌&&◌, ◌||◌, List, [], ◌∷◌, Option, Some, None, slice_get, if◌then◌else◌}
-use Rattle.std.specs.List.{list_any}
-use Rattle.edge_io.specs.Matching.{begins, folded, tails}
+use Rattle.edge_io.specs.Matching.{folded}
 use Rattle.memchr.specs.Find.{OccursAt}
 use Rattle.net_lists.specs.declared.part.Bounds.{Bounds}
 use Rattle.net_lists.specs.declared.part.Part.{Part}
@@ -20,6 +19,7 @@ use Rattle.rule_types.specs.declared.option.Opt.TheVariants as opt
 use Rattle.rule_types.specs.declared.rule.Proto.{Proto}
 use Rattle.rule_types.specs.declared.rule.Proto.TheVariants as proto
 use Rattle.rule_types.specs.declared.rule.Rule.{Rule}
+use Rattle.pattern_search.specs.Occurring.{occurs}
 use Rattle.fast_pattern.specs.FastPattern.{pattern_of}
 
 -- the source and destination ports are listed; under `<>` they may be exchanged
@@ -39,10 +39,6 @@ header_fits _ sports dports both carried = false
 
 unfoldable pub fits : Rule → Body → Bool
 fits rule carried = header_fits rule.proto rule.sports rule.dports rule.both carried
-
--- the pattern occurs somewhere in the payload, ASCII letters in either case
-unfoldable pub occurs : List ℕ → List ℕ → Bool
-occurs pattern payload = list_any (begins true pattern) (tails payload)
 
 -- the pattern occurs, or there is none
 abbrev pub occurs_if_any : Option (List ℕ) → List ℕ → Bool

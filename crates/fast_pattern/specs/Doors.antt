@@ -12,7 +12,7 @@ use Rattle.packet_decode.specs.declared.packet.Body.TheVariants as body
 use Rattle.fast_pattern.specs.declared.header.Asked.{Asked}
 use Rattle.net_lists.specs.Membership.{is_in, has_port}
 use Rattle.fast_pattern.specs.Candidates.{header_fits}
-use Rattle.fast_pattern.specs.Windows.{slot_bit, table_words, KeepsSlots}
+use Rattle.pattern_search.specs.Slots.{slot_bit, table_words, KeepsSlots}
 
 -- the slot of all ports of a part, and that of one port
 abbrev pub all_slot : ℕ → ℕ

@@ -12,11 +12,12 @@ use Rattle.fast_pattern.specs.declared.header.Kind.TheVariants as kinds
 use Rattle.fast_pattern.specs.declared.groups.Groups.{Groups}
 use Rattle.fast_pattern.specs.FastPattern.{pattern_of}
 use Rattle.fast_pattern.specs.Candidates.{header_fits, candidates}
-use Rattle.fast_pattern.specs.Finding.{Finds, numbers}
+use Rattle.pattern_search.specs.Occurring.{numbers}
+use Rattle.pattern_search.specs.Finding.{Finds}
 use Rattle.fast_pattern.specs.Kinds.{kind_of, is_plain}
 use Rattle.fast_pattern.specs.Blocks.{has}
 use Rattle.fast_pattern.specs.Sides.{is_due, AreSides}
-use Rattle.fast_pattern.specs.Windows.{table_words}
+use Rattle.pattern_search.specs.Slots.{table_words}
 use Rattle.fast_pattern.specs.Doors.{lets_in}
 
 -- what is kept of a rule's header

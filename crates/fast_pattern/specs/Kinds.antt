@@ -10,7 +10,7 @@ use Rattle.rule_types.specs.declared.rule.Proto.TheVariants as proto
 use Rattle.fast_pattern.specs.declared.header.Asked.{Asked}
 use Rattle.fast_pattern.specs.declared.header.Kind.{Kind}
 use Rattle.fast_pattern.specs.declared.header.Kind.TheVariants as kinds
-use Rattle.fast_pattern.specs.Words.{word_at}
+use Rattle.pattern_search.specs.Words.{word_at}
 
 -- the kind of what an item carries
 abbrev pub kind_of : Body → Kind

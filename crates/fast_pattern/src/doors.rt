@@ -4,15 +4,15 @@
 //! range is there as all ports: so the table may tell of a port that no rule asks for, and never hides one.
 
 ghost use Rattle.std.specs.Prelude.{◌≡◌, ℕ, ◌+◌, ◌<◌, ◌≤◌, true, length, IfOk};
-ghost use Rattle.fast_pattern.specs.Windows.{table_words, KeepsSlots};
+ghost use Rattle.pattern_search.specs.Slots.{table_words, KeepsSlots};
 ghost use Rattle.fast_pattern.specs.Grouping.{Guards};
 ghost use Rattle.fast_pattern.specs.Doors.{is_all, is_open, lets_in, LetsIn, Opens, OpensAll, OpensPart};
 
 use crate::header::Asked;
-use crate::windows::{TABLE_WORDS, set_slot, slot_bit};
 use edge_io::NoMemory;
 use net_lists::PortPart;
 use packet_decode::Body;
+use pattern_search::{TABLE_WORDS, set_slot, slot_bit};
 use rule_types::Proto;
 use std::alloc::Global;
 

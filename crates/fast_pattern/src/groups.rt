@@ -5,15 +5,13 @@ ghost use Rattle.rule_types.specs.declared.rule.Rule.{Rule};
 ghost use Rattle.fast_pattern.specs.FastPattern.{bytes_of, pattern_of};
 ghost use Rattle.fast_pattern.specs.Candidates.{occurs_if_any, ContentsOccur};
 
-use crate::automaton::Automaton;
 use crate::choice::chosen;
 use crate::doors::{door_table, lets_in};
-use crate::effort::Effort;
 use crate::header::{Asked, Kind};
 use crate::sides::{Sides, is_plain};
-use crate::windows::TABLE_WORDS;
 use edge_io::{NoMemory, Text};
 use packet_decode::{Body, ItemHead};
+use pattern_search::{Automaton, Effort, TABLE_WORDS};
 use rule_types::{Opt, Rule};
 use std::alloc::{AllocError, Global};
 
@@ -55,7 +53,7 @@ fn content_bytes(options: &[Opt], place: usize) -> &[u8]
 impl Groups {
     ghost use Rattle.fast_pattern.specs.Grouping.{asked_of, fits_at, text_of, texts_of, StandFor, AddDue, AppendCandidates};
     ghost use Rattle.fast_pattern.specs.Kinds.{is_plain};
-    ghost use Rattle.fast_pattern.specs.Finding.{numbers};
+    ghost use Rattle.pattern_search.specs.Occurring.{numbers};
 
     /// The bytes of the fast pattern; none where there is none.
     fn pattern(options: &[Opt]) -> &[u8]
@@ -189,7 +187,7 @@ impl Groups {
         ensures unchanged { OnErr result (out.new.items ≡ out.old.items) }
     {
         let mut effort = Effort::NONE;
-        let mut places = self.automaton.hits(alloc, payload, &mut effort)?;
+        let mut places = self.automaton.find_unordered(alloc, payload, &mut effort)?;
         self.push_due(&head.body, &mut places)?;
         places.sort_unstable();
         places.dedup();

@@ -7,9 +7,8 @@ ghost use Rattle.std.specs.Prelude.{◌≡◌, ◌+◌, ◌^◌, ◌<◌, ◌≤
 ghost use Rattle.fast_pattern.specs.Blocks.{lies_in, AreBlocks, blocks_of, entry_at, entries_of};
 
 use crate::blocks::{half_with, number};
-use crate::links::Owned;
-use crate::trie::read;
 use edge_io::NoMemory;
+use pattern_search::{Owned, read};
 use std::alloc::{AllocError, Global};
 
 /// How many numbers blocks of ports have, 0 among them, which is none.

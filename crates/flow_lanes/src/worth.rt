@@ -6,7 +6,7 @@
 //! took. Threads help only with what other lanes than the dearest do. All costs are in nanoseconds. To try it on: 2,666
 //! items without data in other lanes than the dearest are worth no second thread, 2,667 are worth three threads.
 
-use fast_pattern::Effort;
+use pattern_search::Effort;
 use rule_types::Opt;
 
 /// What an item costs whatever it is: its flow, its session, the test for candidates.

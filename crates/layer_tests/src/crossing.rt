@@ -9,6 +9,7 @@ use flowbit_state::Bits;
 use frag3_core::{Datagram, DatagramKey, FragRules, Ignored, Taken};
 use ordered_merge::Numbered;
 use overlap_core::{Piece, Queue, Run};
+use pattern_search::Automaton;
 use piece_list::PieceList;
 use stream5_reassembly::{Direction, Extent};
 
@@ -76,6 +77,12 @@ fn flows() {
     shareable::<Bits>();
 }
 
+/// An automaton may be read by several threads, and move to another one.
+fn patterns() {
+    sendable::<Automaton>();
+    shareable::<Automaton>();
+}
+
 /// A list may move to another thread where its elements may.
 fn list_is_sendable<T: Send + Drop>() {
     sendable::<PieceList<T>>();
@@ -104,5 +111,6 @@ fn types_cross_threads(_rt: HostRuntime) {
     shared();
     overlaps();
     flows();
+    patterns();
     of_any();
 }

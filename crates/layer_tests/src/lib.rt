@@ -21,6 +21,8 @@ mod outside;
 #[cfg(test)]
 mod overlaps;
 #[cfg(test)]
+mod patterns;
+#[cfg(test)]
 mod records;
 #[cfg(test)]
 mod refusals;

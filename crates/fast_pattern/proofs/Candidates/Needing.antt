@@ -12,10 +12,11 @@ use Rattle.rule_types.specs.declared.option.Opt.{Opt}
 use Rattle.rule_types.specs.declared.option.Opt.TheVariants as opt
 use Rattle.fast_pattern.specs.declared.choice.Sought.{Sought}
 use Rattle.fast_pattern.specs.FastPattern.{sought_at, sought_of, with, sought_from, longest, chosen, part_bytes, bytes_of, pattern_of}
-use Rattle.fast_pattern.specs.Letters.{lower}
-use Rattle.fast_pattern.specs.Candidates.{occurs, occurs_if_any, ContentsOccur}
+use Rattle.pattern_search.specs.Occurring.{occurs}
+use Rattle.pattern_search.specs.Letters.{lower}
+use Rattle.fast_pattern.specs.Candidates.{occurs_if_any, ContentsOccur}
 use Rattle.fast_pattern.proofs.Candidates.Sizes.{AllOf, found, longest-of, either}
-use Rattle.fast_pattern.proofs.Finding.Occurring.{infix-occurs}
+use Rattle.pattern_search.proofs.Finding.Occurring.{infix-occurs}
 
 -- what is sought is a content at its place
 record IsSought (options : List Opt) (sought : Sought) : Type 0 where

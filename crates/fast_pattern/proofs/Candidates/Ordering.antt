@@ -5,9 +5,9 @@ use Rattle.std.specs.List.{filter}
 use Rattle.std.specs.List.Sorted.{IsStrictlyIncreasing}
 use Rattle.std.proofs.lemmas.List.{append-nil}
 use Rattle.std.proofs.lemmas.Bool.{false≢true, eqb-true, eq-eqb, ne_eqb, or_left, or_right, or_cases, cases_eq, cases_lt, cond-true, cond-false}
-use Rattle.fast_pattern.specs.Finding.{numbers}
+use Rattle.pattern_search.specs.Occurring.{numbers}
 use Rattle.fast_pattern.specs.Blocks.{has}
-use Rattle.fast_pattern.proofs.Finding.Hitting.{numbers-same}
+use Rattle.pattern_search.proofs.Finding.Hitting.{numbers-same}
 
 -- whether a list has a number
 has-cons : (x : ℕ) (xs : List ℕ) (place : ℕ) → has (x ∷ xs) place ≡ ((x == place) || has xs place)

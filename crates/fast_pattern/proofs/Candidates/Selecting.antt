@@ -1,10 +1,10 @@
 -- The hits and the rules without a pattern, in order, as far as their headers fit: the candidates.
-use Rattle.std.proofs.Common.{◌≡◌, ℕ, suc, ◌+◌, ◌<◌, Bool, true, false, ◌&&◌, ◌||◌, cond, ltb, eqb, ◌==◌, Option, Some, None, List, [], ◌∷◌, ◌++◌, length, map, get_or, slice_get, All, sym, refl, ap, subst, ◌∙◌, arith, ⊎_elim}
+use Rattle.std.proofs.Common.{◌≡◌, ℕ, suc, ◌+◌, ◌<◌, Bool, true, false, ◌&&◌, ◌||◌, cond, ltb, eqb, ◌==◌, Option, Some, None, List, [], ◌∷◌, ◌++◌, length, map, get_or, slice_get, sym, refl, ap, subst, ◌∙◌, arith, ⊎_elim}
 use Rattle.std.specs.List.{filter, dedup, Contains}
 use Rattle.std.specs.List.Sorted.{IsPermutation, IsSorted, IsStrictlyIncreasing}
 use Rattle.std.specs.Ordering.{nat_cmp}
 use Rattle.std.proofs.lemmas.Option.{slice_get-get_or}
-use Rattle.std.proofs.lemmas.List.{length-map, get_or-map, get_or_past, get_or_default}
+use Rattle.std.proofs.lemmas.List.{length-map, get_or-map, get_or_default}
 use Rattle.std.proofs.lemmas.List.Sorted.{list_any-IsPermutation}
 use Rattle.std.proofs.lemmas.List.Folds.{Any-from_list_any, list_any_at, list_any-append}
 use Rattle.std.proofs.lemmas.List.Kept.{Contains-dedup_nat, Contains-from_dedup}
@@ -18,21 +18,21 @@ use Rattle.rule_types.specs.declared.rule.Rule.{Rule}
 use Rattle.fast_pattern.specs.declared.header.Asked.{Asked}
 use Rattle.fast_pattern.specs.declared.groups.Groups.{Groups}
 use Rattle.fast_pattern.specs.FastPattern.{pattern_of}
-use Rattle.fast_pattern.specs.Candidates.{header_fits, fits, occurs, occurs_if_any, is_candidate, places_from, candidates}
-use Rattle.fast_pattern.specs.Words.{word_of, word_at, has_ended}
-use Rattle.fast_pattern.specs.Finding.{numbers, is_ended, words_in, AreHits}
+use Rattle.fast_pattern.specs.Candidates.{header_fits, fits, occurs_if_any, is_candidate, places_from, candidates}
+use Rattle.pattern_search.specs.Words.{word_at}
+use Rattle.pattern_search.specs.Occurring.{is_found, numbers, occurring}
+use Rattle.pattern_search.specs.Finding.{AreHits}
 use Rattle.fast_pattern.specs.Kinds.{kind_of, is_for, is_for_some, is_plain}
 use Rattle.fast_pattern.specs.Blocks.{has}
 use Rattle.fast_pattern.specs.declared.sides.Side.TheVariants as side
 use Rattle.fast_pattern.specs.declared.sides.Sides.{Sides}
 use Rattle.fast_pattern.specs.Sides.{is_due, is_asked, AreSides, AddSought}
 use Rattle.fast_pattern.specs.Grouping.{asked_of, fits_some, fits_at, is_due_at, text_of, texts_of, StandFor}
-use Rattle.fast_pattern.proofs.States.Growing.{word_of-length}
-use Rattle.fast_pattern.proofs.Finding.Making.{word-in}
-use Rattle.fast_pattern.proofs.Finding.Occurring.{ended-occurs, empty-occurs}
+use Rattle.pattern_search.specs.Occurring.{occurs}
+use Rattle.pattern_search.proofs.Finding.Occurring.{empty-occurs}
 use Rattle.fast_pattern.proofs.Candidates.Ordering.{increasing-is, numbers-tell, numbers-have, filter-numbers}
 use Rattle.fast_pattern.proofs.Ports.Siding.{fits-due, plain-past}
-use Rattle.fast_pattern.proofs.States.Words.{same_bools}
+use Rattle.pattern_search.proofs.States.Words.{same_bools}
 
 -- places and numbers
 places-numbers : {X : Type 0} (test : X → Bool) (number : ℕ → Bool) (from : ℕ) (xs : List X) → ((k : ℕ) (d : X) → k < length xs → test (get_or xs k d) ≡ number (from + k)) → places_from from test xs ≡ numbers number from (length xs)
@@ -95,18 +95,12 @@ has-dedup xs place = same_bools (has (dedup eqb xs) place) (has xs place)
     (λ e. has-from xs place (Contains-from_dedup eqb xs place (has-tells (dedup eqb xs) place e)))
     (λ e. has-from (dedup eqb xs) place (Contains-dedup_nat xs place (has-tells xs place e)))
 
-module _ (groups : Groups) (rules : List Rule) (carried : Body) (payload : List ℕ) (stand : StandFor groups rules) (short : All (λ byte. byte < 256) payload) where
-  abbrev letters : List ℕ
-  letters = groups.automaton.letters
-
+module _ (groups : Groups) (rules : List Rule) (carried : Body) (payload : List ℕ) (stand : StandFor groups rules) where
   abbrev texts : List (List ℕ)
   texts = texts_of rules
 
-  abbrev pats : List (List ℕ)
-  pats = words_in letters texts
-
-  abbrev ended : ℕ → Bool
-  ended = is_ended pats (word_of letters payload)
+  abbrev occurs_at : ℕ → Bool
+  occurs_at = λ place. is_found (word_at texts place) payload
 
   abbrev plain : ℕ → Bool
   plain = is_plain groups.rules.items texts (kind_of carried)
@@ -116,15 +110,6 @@ module _ (groups : Groups) (rules : List Rule) (carried : Body) (payload : List 
 
   count : length texts ≡ length rules
   count = length-map rules (λ rule. text_of (pattern_of rule.opts))
-
-  pats-count : length pats ≡ length rules
-  pats-count = length-map texts (word_of letters) ∙ count
-
-  word-length : (place : ℕ) → length (word_at pats place) ≡ length (word_at texts place)
-  word-length place = ⊎_elim
-      (λ h. ap length (word-in letters texts place h) ∙ word_of-length letters (word_at texts place))
-      (λ h. ap length (get_or_past pats place [] (omega (arith, pats-count, count))) ∙ sym (ap length (get_or_past texts place [] h)))
-      (cases_lt place (length texts))
 
   module _ (place : ℕ) (d : Rule) (h : place < length rules) where
     abbrev rule : Rule
@@ -140,14 +125,9 @@ module _ (groups : Groups) (rules : List Rule) (carried : Body) (payload : List 
     unfolding fits_at fits
     fits-is = ap (fits_some carried) asked-is
 
-    ended-is : ended place ≡ (ltb 0 (length (text_of (pattern_of rule.opts))) && occurs (text_of (pattern_of rule.opts)) payload)
-    unfolding is_ended
-    ended-is =
-        let word = word-in letters texts place (omega (arith, count)) in
-        ap (λ (n : ℕ). ltb 0 n && has_ended (word_at pats place) (word_of letters payload)) (word-length place)
-        ∙ ap (λ w. ltb 0 (length (word_at texts place)) && has_ended w (word_of letters payload)) word
-        ∙ ap (λ b. ltb 0 (length (word_at texts place)) && b) (ended-occurs letters (word_at texts place) payload (stand.finds.told.each place [] (omega (arith, count))).each short)
-        ∙ ap (λ (t : List ℕ). ltb 0 (length t) && occurs t payload) text-is
+    found-is : occurs_at place ≡ (ltb 0 (length (text_of (pattern_of rule.opts))) && occurs (text_of (pattern_of rule.opts)) payload)
+    unfolding is_found
+    found-is = ap (λ (t : List ℕ). ltb 0 (length t) && occurs t payload) text-is
 
     plain-is : plain place ≡ (ltb (length (text_of (pattern_of rule.opts))) 1 && is_for (kind_of carried) rule.proto)
     unfolding is_plain
@@ -165,7 +145,7 @@ module _ (groups : Groups) (rules : List Rule) (carried : Body) (payload : List 
     unfolding fits
     fits-is-due so = fits-due rule.sports rule.dports rule.both rule.proto carried so
 
-    one : is_candidate carried payload rule ≡ ((ended place || due place) && fits_at groups.rules.items carried place)
+    one : is_candidate carried payload rule ≡ ((occurs_at place || due place) && fits_at groups.rules.items carried place)
     unfolding is_candidate
     one =
         let p = pattern_of rule.opts in
@@ -173,8 +153,8 @@ module _ (groups : Groups) (rules : List Rule) (carried : Body) (payload : List 
         (λ so.
         let kind = fits-for rule carried so in
         ap (λ b. b && occurs_if_any p payload) so ∙ chosen-by p payload
-        ∙ sym (ap (λ b. (ended place || due place) && b) (fits-is ∙ so) ∙ and-true (ended place || due place) ∙ ap (λ b. ended place || b) (due-is (fits-is-due so)) ∙ ap (λ b. b || plain place) ended-is ∙ ap (λ b. (ltb 0 (length (text_of p)) && occurs (text_of p) payload) || b) (plain-is ∙ ap (λ b. ltb (length (text_of p)) 1 && b) kind ∙ and-true (ltb (length (text_of p)) 1))))
-        (λ never. ap (λ b. b && occurs_if_any p payload) never ∙ sym (ap (λ b. (ended place || due place) && b) (fits-is ∙ never) ∙ and-false (ended place || due place)))
+        ∙ sym (ap (λ b. (occurs_at place || due place) && b) (fits-is ∙ so) ∙ and-true (occurs_at place || due place) ∙ ap (λ b. occurs_at place || b) (due-is (fits-is-due so)) ∙ ap (λ b. b || plain place) found-is ∙ ap (λ b. (ltb 0 (length (text_of p)) && occurs (text_of p) payload) || b) (plain-is ∙ ap (λ b. ltb (length (text_of p)) 1 && b) kind ∙ and-true (ltb (length (text_of p)) 1))))
+        (λ never. ap (λ b. b && occurs_if_any p payload) never ∙ sym (ap (λ b. (occurs_at place || due place) && b) (fits-is ∙ never) ∙ and-false (occurs_at place || due place)))
         (cases_Bool (fits rule carried))
       where
         and-true : (b : Bool) → (b && true) ≡ b
@@ -195,6 +175,10 @@ module _ (groups : Groups) (rules : List Rule) (carried : Body) (payload : List 
       (λ high. absurd (false≢true (sym (plain-past groups.rules.items texts (kind_of carried) place (omega (arith, high, asked-count))) ∙ (and_parts (plain place) (is_due carried (slice_get groups.rules.items place)) e).0)))
       (cases_lt place (length rules))
 
+  hits-are : (hits : List ℕ) → AreHits groups.automaton payload hits → IsPermutation (numbers occurs_at 0 (length texts)) hits
+  unfolding occurring
+  hits-are hits are = are.found texts stand.finds
+
   -- the places that were found, each once and in order, and of these those whose headers fit
   pub candidates-are : (hits found sorted places : List ℕ) → AreHits groups.automaton payload hits → ((place : ℕ) → has found place ≡ (has hits place || due place)) → IsPermutation found sorted → IsSorted nat_cmp sorted → places ≡ dedup eqb sorted → filter (fits_at groups.rules.items carried) places ≡ candidates rules carried payload
   unfolding candidates
@@ -205,32 +189,32 @@ module _ (groups : Groups) (rules : List Rule) (carried : Body) (payload : List 
       ∙ filter-numbers test (has places) 0 n
       ∙ sym (places-numbers (is_candidate carried payload) (λ place. has places place && test place) 0 rules (λ k d h. let e : k ≡ 0 + k = omega arith in one k d h ∙ ap (λ b. b && test k) (sym (same k h)) ∙ ap (λ (a : ℕ). has places a && test a) e))
     where
-      ended-are : IsPermutation (numbers ended 0 (length rules)) hits
-      ended-are = let P : ℕ → Type 0 = λ m. IsPermutation (numbers ended 0 m) hits in subst P count (are.found texts stand.finds)
+      found-are : IsPermutation (numbers occurs_at 0 (length rules)) hits
+      found-are = let P : ℕ → Type 0 = λ m. IsPermutation (numbers occurs_at 0 m) hits in subst P count (hits-are hits are)
 
       increasing : IsStrictlyIncreasing places
       increasing = let P : List ℕ → Type 0 = λ ps. IsStrictlyIncreasing ps in subst P (sym once) (IsStrictlyIncreasing-dedup sorted order)
 
-      all : (place : ℕ) → has places place ≡ (has (numbers ended 0 (length rules)) place || due place)
+      all : (place : ℕ) → has places place ≡ (has (numbers occurs_at 0 (length rules)) place || due place)
       all place =
           ap (λ ps. has ps place) once
           ∙ has-dedup sorted place
           ∙ sym (list_any-IsPermutation (λ x. x == place) found sorted permutation)
           ∙ joined place
-          ∙ ap (λ b. b || due place) (sym (list_any-IsPermutation (λ x. x == place) (numbers ended 0 (length rules)) hits ended-are))
+          ∙ ap (λ b. b || due place) (sym (list_any-IsPermutation (λ x. x == place) (numbers occurs_at 0 (length rules)) hits found-are))
 
       within : (place : ℕ) → has places place ≡ true → place < length rules
       within place e = ⊎_elim
-          (λ a. omega (arith, (numbers-tell ended 0 (length rules) place a).1))
+          (λ a. omega (arith, (numbers-tell occurs_at 0 (length rules) place a).1))
           (λ b. due-within place b)
-          (or_cases (has (numbers ended 0 (length rules)) place) (due place) (sym (all place) ∙ e))
+          (or_cases (has (numbers occurs_at 0 (length rules)) place) (due place) (sym (all place) ∙ e))
 
-      same : (place : ℕ) → place < length rules → has places place ≡ (ended place || due place)
+      same : (place : ℕ) → place < length rules → has places place ≡ (occurs_at place || due place)
       same place h =
           all place
-          ∙ ap (λ b. b || due place) (same_bools (has (numbers ended 0 (length rules)) place) (ended place)
-          (λ e. (numbers-tell ended 0 (length rules) place e).2)
-          (λ e. numbers-have ended 0 (length rules) place (omega arith) (omega arith) e))
+          ∙ ap (λ b. b || due place) (same_bools (has (numbers occurs_at 0 (length rules)) place) (occurs_at place)
+          (λ e. (numbers-tell occurs_at 0 (length rules) place e).2)
+          (λ e. numbers-have occurs_at 0 (length rules) place (omega arith) (omega arith) e))
 
 -- the rules of a kind without ports
 pub list-due : (groups : Groups) (rules : List Rule) (carried : Body) (listed old new : List ℕ) → StandFor groups rules → listed ≡ numbers (is_plain groups.rules.items (texts_of rules) (kind_of carried)) 0 (length rules) → ((asked : Option Asked) → is_due carried asked ≡ true) → new ≡ old ++ listed → (place : ℕ) → has new place ≡ (has old place || is_due_at groups.rules.items (texts_of rules) carried place)

@@ -6,7 +6,7 @@ use Rattle.std.proofs.lemmas.List.{take_all, get_or-map}
 use Rattle.std.proofs.lemmas.List.Folds.{list_any-append, list_any_more}
 use Rattle.fast_pattern.specs.declared.index.Entry.{Entry}
 use Rattle.fast_pattern.specs.declared.index.PortIndex.{PortIndex}
-use Rattle.fast_pattern.specs.Outputs.{IsLastOf}
+use Rattle.pattern_search.specs.Owned.{IsLastOf}
 use Rattle.fast_pattern.specs.Blocks.{number, half_with, lies_in, has, is_of, is_filed, blocks_of, entry_at, entries_of, IsChained, AddFiled, IsFollowed}
 use Rattle.fast_pattern.proofs.Ports.Blocking.{lies-more, lies-one}
 

@@ -14,7 +14,7 @@ use Rattle.fast_pattern.specs.FastPattern.{pattern_of}
 use Rattle.fast_pattern.specs.declared.groups.Groups.{Groups}
 use Rattle.rule_types.specs.declared.rule.Rule.{Rule}
 use Rattle.rule_types.specs.declared.rule.Proto.TheVariants as proto
-use Rattle.fast_pattern.specs.Windows.{slot_bit, KeepsSlots}
+use Rattle.pattern_search.specs.Slots.{slot_bit, KeepsSlots}
 use Rattle.fast_pattern.specs.Doors.{all_slot, port_slot, is_all, is_open, lets_in, LetsIn, Opens, OpensPart}
 
 pub open-all : (table : List ℕ) (part port : ℕ) → is_all table part ≡ true → is_open table part port ≡ true

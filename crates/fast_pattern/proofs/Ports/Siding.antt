@@ -21,7 +21,7 @@ use Rattle.fast_pattern.specs.declared.sides.Sides.{Sides}
 use Rattle.net_lists.specs.Membership.{has_port}
 use Rattle.fast_pattern.specs.Candidates.{ports_fit, header_fits}
 use Rattle.fast_pattern.specs.Blocks.{lies_in, has, is_filed, entries_of, AddBlocks, AreBlocks, IsChained, AddFiled}
-use Rattle.fast_pattern.specs.Words.{word_at}
+use Rattle.pattern_search.specs.Words.{word_at}
 use Rattle.fast_pattern.specs.Kinds.{is_for_some, is_plain}
 use Rattle.fast_pattern.specs.Sides.{is_any, key_of, stands_in, stands_some, stands_at, is_asked, is_sought, is_due, AreSoughtAt, AreFiled, IsSide, AddSought}
 use Rattle.fast_pattern.proofs.Ports.Filing.{filed-new}

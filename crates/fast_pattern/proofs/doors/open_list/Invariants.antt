@@ -2,7 +2,7 @@
 use Rattle.std.proofs.Common.{◌≡◌, ℕ, ◌<◌, true, length, get_or}
 use Rattle.net_lists.specs.declared.part.Bounds.{Bounds}
 use Rattle.net_lists.specs.declared.part.Part.{Part}
-use Rattle.fast_pattern.specs.Windows.{KeepsSlots}
+use Rattle.pattern_search.specs.Slots.{KeepsSlots}
 use Rattle.fast_pattern.specs.Doors.{is_all, OpensPart}
 use Rattle.fast_pattern.proofs.doors.open_list.Given as goal
 

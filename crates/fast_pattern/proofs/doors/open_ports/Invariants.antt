@@ -1,6 +1,6 @@
 -- No slot was cleared, and the first `offset` ports from `low` on are let in.
 use Rattle.std.proofs.Common.{◌≡◌, ℕ, ◌+◌, ◌<◌, ◌≤◌, true}
-use Rattle.fast_pattern.specs.Windows.{KeepsSlots}
+use Rattle.pattern_search.specs.Slots.{KeepsSlots}
 use Rattle.fast_pattern.specs.Doors.{is_open}
 use Rattle.fast_pattern.proofs.doors.open_ports.Given as goal
 

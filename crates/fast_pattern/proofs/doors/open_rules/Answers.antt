@@ -5,7 +5,7 @@ use Rattle.fast_pattern.specs.declared.header.Asked.{Asked}
 use Rattle.fast_pattern.specs.Doors.{LetsIn}
 use Rattle.std.proofs.lemmas.List.{get_or_default}
 use Rattle.fast_pattern.proofs.Ports.Opening.{rules-more, guards-all}
-use Rattle.fast_pattern.proofs.Slots.{keeps-trans}
+use Rattle.pattern_search.proofs.Windowing.{keeps-trans}
 use Rattle.fast_pattern.proofs.doors.open_rules.Goals as goal
 
 pub loop-asked-preserved : goal.loop-asked-preserved

@@ -1,7 +1,7 @@
 -- No slot was cleared, and what the headers of the rules so far fit is let in.
 use Rattle.std.proofs.Common.{◌≡◌, ℕ, ◌<◌, length, get_or}
 use Rattle.fast_pattern.specs.declared.header.Asked.{Asked}
-use Rattle.fast_pattern.specs.Windows.{KeepsSlots}
+use Rattle.pattern_search.specs.Slots.{KeepsSlots}
 use Rattle.fast_pattern.specs.Doors.{LetsIn}
 use Rattle.fast_pattern.proofs.doors.open_rules.Given as goal
 

@@ -1,7 +1,7 @@
 -- `plain` has the places below `place` that pass `is_plain`, in ascending order.
 use Rattle.std.proofs.Common.{◌≡◌}
 use Rattle.fast_pattern.specs.Kinds.{is_plain}
-use Rattle.fast_pattern.specs.Finding.{numbers}
+use Rattle.pattern_search.specs.Occurring.{numbers}
 use Rattle.fast_pattern.proofs.groups.Groups.plain.Given as goal
 
 abbrev pub invariant-loop-place : goal.invariant-loop-place

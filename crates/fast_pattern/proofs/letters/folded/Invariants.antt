@@ -1,6 +1,0 @@
--- Each byte below `byte` has the letter of its lower case.
-use Rattle.fast_pattern.specs.Letters.{AreFolded}
-use Rattle.fast_pattern.proofs.letters.folded.Given as goal
-
-abbrev pub invariant-loop-byte : goal.invariant-loop-byte
-invariant-loop-byte l = AreFolded l.lowered l.of l.byte

@@ -1,6 +1,0 @@
--- The states below `state` have their fails and the heads of their chains.
-use Rattle.fast_pattern.specs.Outputs.{IsLinking}
-use Rattle.fast_pattern.proofs.links.Links.of.Given as goal
-
-abbrev pub invariant-loop-state : goal.invariant-loop-state
-invariant-loop-state l = IsLinking l.trie l.firsts l.fails.items l.heads.items l.state

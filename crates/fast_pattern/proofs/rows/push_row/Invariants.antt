@@ -1,6 +1,0 @@
--- If the table had the rows of the earlier states, it has those and the first `letter` moves of this one.
-use Rattle.fast_pattern.specs.Rows.{HasRows}
-use Rattle.fast_pattern.proofs.rows.push_row.Given as goal
-
-abbrev pub invariant-loop-letter : goal.invariant-loop-letter
-invariant-loop-letter l = HasRows l.trie l.fails l.entries l.state 0 l.fn.table.items → HasRows l.trie l.fails l.entries l.state l.letter l.table.items

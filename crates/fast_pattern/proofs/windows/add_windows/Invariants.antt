@@ -1,7 +1,0 @@
--- No slot was cleared, and those of the pattern's first `offset` windows are set.
-use Rattle.std.proofs.Common.{ℕ, ◌<◌}
-use Rattle.fast_pattern.specs.Windows.{window_at, slot_of, slot_bit, KeepsSlots}
-use Rattle.fast_pattern.proofs.windows.add_windows.Given as goal
-
-abbrev pub invariant-loop-offset : goal.invariant-loop-offset
-invariant-loop-offset l = KeepsSlots l.fn.table l.table × ((k : ℕ) → k < l.offset → 0 < slot_bit l.table (slot_of (window_at l.pattern k) l.mask))
