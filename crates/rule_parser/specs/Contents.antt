@@ -17,6 +17,8 @@ use Rattle.rule_parser.specs.declared.draft.Draft.{Draft}
 use Rattle.rule_parser.specs.declared.draft.Held.{Held}
 use Rattle.rule_parser.specs.declared.fault.Fault.{Fault}
 use Rattle.rule_parser.specs.declared.fault.Fault.TheVariants.{OptionValue, Misplaced, Limit}
+use Rattle.rule_parser.specs.declared.names.Modifier.{Modifier}
+use Rattle.rule_parser.specs.declared.names.Modifier.TheVariants as modifier
 use Rattle.rule_types.specs.declared.option.Content.{Content}
 use Rattle.rule_types.specs.declared.option.FastMode.{FastMode}
 use Rattle.rule_types.specs.declared.option.FastMode.TheVariants as fast
@@ -108,13 +110,23 @@ rawbytes_option draft value = do
 abbrev pub is_placed : Content → Bool
 is_placed content = (is_some content.from || is_some content.room) && not content.relative
 
--- whether `offset`, or `distance`, may not be given any more
-abbrev pub bars_from : Bool → Content → Bool
-bars_from relative content = is_some content.from || (if relative then is_placed content else content.relative)
+-- a modifier that counts from the match before: `distance` and `within`, in place of `offset` and `depth`
+abbrev pub is_relative : Modifier → Bool
+is_relative modifier.Distance = true
+is_relative modifier.Within = true
+is_relative _ = false
 
--- whether `depth`, or `within`, may not be given any more
-abbrev pub bars_room : Bool → Content → Bool
-bars_room relative content = is_some content.room || (if relative then is_placed content else content.relative)
+-- a modifier has the other origin than those that the content has
+abbrev pub is_mixed : Modifier → Content → Bool
+is_mixed name content = if is_relative name then is_placed content else content.relative
+
+-- whether this one of `offset` and `distance` may not be given any more
+abbrev pub bars_from : Modifier → Content → Bool
+bars_from name content = is_some content.from || is_mixed name content
+
+-- whether this one of `depth` and `within` may not be given any more
+abbrev pub bars_room : Modifier → Content → Bool
+bars_room name content = is_some content.room || is_mixed name content
 
 -- the value of a modifier that tells a place or a room, where it may be given
 abbrev pub place_text : Bool → Bool → Option (List ℕ) → Result (List ℕ) Fault
@@ -124,18 +136,18 @@ place_text bars placeless value = if bars then Err Misplaced else if placeless t
 abbrev pub known_before : List (List ℕ) → Held → List (List ℕ)
 known_before names held = take held.known names
 
--- what `offset` makes of the last content, or `distance` where `relative` holds; `left` bytes of the line are
--- left where the value begins
-unfoldable pub with_from : Bool → Held → List (List ℕ) → ℕ → Option (List ℕ) → Result Held Fault
-with_from relative held names left value = do
-  text ← place_text (bars_from relative held.content) held.placeless value
+-- what `offset` or `distance` makes of the last content; `left` is how many bytes of the line are left where the
+-- value begins
+unfoldable pub with_from : Modifier → Held → List (List ℕ) → ℕ → Option (List ℕ) → Result Held Fault
+with_from name held names left value = do
+  text ← place_text (bars_from name held.content) held.placeless value
   from ← signed_or_named (negsuc 65534) (pos 65535) (known_before names held) left text
-  Ok (record held { content = record held.content { relative = relative; from = Some from } })
+  Ok (record held { content = record held.content { relative = is_relative name; from = Some from } })
 
-unfoldable pub from_option : Bool → Draft → ℕ → Option (List ℕ) → Result Draft Fault
-from_option relative draft left value = do
+unfoldable pub from_option : Modifier → Draft → ℕ → Option (List ℕ) → Result Draft Fault
+from_option name draft left value = do
   parts ← apart draft
-  held ← with_from relative parts.0 parts.1.names left value
+  held ← with_from name parts.0 parts.1.names left value
   Ok (with_last parts.1 held)
 
 -- how far a content of `size` bytes may go: as far as it is long at least, or as far as a name says
@@ -143,17 +155,17 @@ abbrev pub room_of : ℕ → List (List ℕ) → ℕ → List ℕ → Option ℕ
 room_of size known left text None = named known left text
 room_of size known left text (Some number) = if nat_le size number then Ok (num.Value (pos number)) else Err OptionValue
 
--- what `depth` makes of the last content, or `within` where `relative` holds
-unfoldable pub with_room : Bool → Held → List (List ℕ) → ℕ → Option (List ℕ) → Result Held Fault
-with_room relative held names left value = do
-  text ← place_text (bars_room relative held.content) held.placeless value
+-- what `depth` or `within` makes of the last content
+unfoldable pub with_room : Modifier → Held → List (List ℕ) → ℕ → Option (List ℕ) → Result Held Fault
+with_room name held names left value = do
+  text ← place_text (bars_room name held.content) held.placeless value
   room ← room_of (length held.content.bytes) (known_before names held) left text (number_in 0 65535 text)
-  Ok (record held { content = record held.content { relative = relative; room = Some room } })
+  Ok (record held { content = record held.content { relative = is_relative name; room = Some room } })
 
-unfoldable pub room_option : Bool → Draft → ℕ → Option (List ℕ) → Result Draft Fault
-room_option relative draft left value = do
+unfoldable pub room_option : Modifier → Draft → ℕ → Option (List ℕ) → Result Draft Fault
+room_option name draft left value = do
   parts ← apart draft
-  held ← with_room relative parts.0 parts.1.names left value
+  held ← with_room name parts.0 parts.1.names left value
   Ok (with_last parts.1 held)
 
 -- a part of a content of `size` bytes, from a place on

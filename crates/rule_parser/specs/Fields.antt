@@ -1,6 +1,6 @@
 -- Numbers of a packet's headers, and the length of its payload (Snort Users Manual 2.9, section 3.6).
 --
--- A value is a number, some with a sign before it, as the table `allows` says; `ttl` and `dsize` have ranges
+-- A value is a number, some with a sign before it, as `allows` says; `ttl` and `dsize` have ranges
 -- too, with both ends inside, and `ip_proto` has four names. Numbers end at 4294967295, those of `dsize` at
 -- 65535. `sameip` has no value.
 -- To try it on: `ttl:>=3`, `ttl:-5` (at most 5), `dsize:4<>8`, `tos:!4`, `ip_proto:tcp` are read;
@@ -21,7 +21,7 @@ use Rattle.rule_types.specs.declared.option.Field.TheVariants as field
 use Rattle.rule_types.specs.declared.option.Opt.{Opt}
 use Rattle.rule_types.specs.declared.option.Opt.TheVariants as opt
 use Rattle.rule_parser.specs.Drafts.{kept}
-use Rattle.rule_types.specs.Sound.{most_of}
+use Rattle.rule_types.specs.Sound.{most_of, compares}
 
 -- the sign in front of a number, `<` (60), `=` (61), `>` (62), `!` (33), and what comes after it
 abbrev pub below_sign : List ℕ → Sign × List ℕ
@@ -48,35 +48,19 @@ cmp_of Above = cmp.Gt
 cmp_of UpTo = cmp.Le
 cmp_of From = cmp.Ge
 
--- a sign of these kinds: none; `!`; `<` or `>`
-abbrev pub is_plain : Sign → Bool
-is_plain Plain = true
-is_plain _ = false
+-- the sign `=`
+abbrev pub is_equals : Sign → Bool
+is_equals Equal = true
+is_equals _ = false
 
-abbrev pub is_not : Sign → Bool
-is_not Not = true
-is_not _ = false
+-- the field that may have it
+abbrev pub is_ttl : Field → Bool
+is_ttl field.Ttl = true
+is_ttl _ = false
 
-abbrev pub is_strict : Sign → Bool
-is_strict Below = true
-is_strict Above = true
-is_strict _ = false
-
--- the signs that a field has
+-- a field has the signs by which it compares; `=`, which says what no sign says, only where it is `ttl`
 abbrev pub allows : Field → Sign → Bool
-allows field.Ttl sign = not (is_not sign)
-allows field.Tos sign = is_plain sign || is_not sign
-allows field.Window sign = is_plain sign || is_not sign
-allows field.FragOffset sign = (is_plain sign || is_not sign) || is_strict sign
-allows field.IpProto sign = (is_plain sign || is_not sign) || is_strict sign
-allows field.Itype sign = is_plain sign || is_strict sign
-allows field.Icode sign = is_plain sign || is_strict sign
-allows field.Dsize sign = is_plain sign || is_strict sign
-allows field.Id sign = is_plain sign
-allows field.Seq sign = is_plain sign
-allows field.Ack sign = is_plain sign
-allows field.IcmpId sign = is_plain sign
-allows field.IcmpSeq sign = is_plain sign
+allows field sign = compares field (cmp_of sign) && (is_ttl field || not (is_equals sign))
 
 -- a field against one number
 abbrev pub against : Field → Cmp → ℕ → Opt

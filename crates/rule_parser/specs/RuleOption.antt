@@ -76,10 +76,10 @@ text_option classes draft text.Ignored value = Ok draft
 unfoldable pub modifier_option : Draft → Modifier → ℕ → Option (List ℕ) → Result Draft Fault
 modifier_option draft modifier.Nocase left value = nocase_option draft value
 modifier_option draft modifier.Rawbytes left value = rawbytes_option draft value
-modifier_option draft modifier.Offset left value = from_option false draft left value
-modifier_option draft modifier.Depth left value = room_option false draft left value
-modifier_option draft modifier.Distance left value = from_option true draft left value
-modifier_option draft modifier.Within left value = room_option true draft left value
+modifier_option draft modifier.Offset left value = from_option modifier.Offset draft left value
+modifier_option draft modifier.Depth left value = room_option modifier.Depth draft left value
+modifier_option draft modifier.Distance left value = from_option modifier.Distance draft left value
+modifier_option draft modifier.Within left value = room_option modifier.Within draft left value
 modifier_option draft modifier.FastPattern left value = fast_pattern_option draft value
 
 -- tests of a payload

@@ -3,12 +3,13 @@ ghost use Rattle.std.specs.Prelude.{◌≡◌, ◌||◌, ◌<◌, ◌≤◌, len
 ghost use Rattle.net_lists.specs.Cutting.{comma_parts};
 ghost use Rattle.net_lists.specs.Numbers.{number_in};
 ghost use Rattle.net_lists.specs.Stops.{Gives, or_kind};
-ghost use Rattle.rule_parser.specs.Contents.{negation, plain_content, with_content, with_bytes, content_option, nocase, nocase_option, rawbytes, rawbytes_option, is_placed, bars_from, bars_room, place_text, with_from, from_option, room_of, with_room, room_option, fast_part, fast_mode, is_only, fast_on, bars_fast, fast_pattern_option};
+ghost use Rattle.rule_parser.specs.Contents.{negation, plain_content, with_content, with_bytes, content_option, nocase, nocase_option, rawbytes, rawbytes_option, is_placed, is_mixed, bars_from, bars_room, place_text, with_from, from_option, room_of, with_room, room_option, fast_part, fast_mode, is_only, fast_on, bars_fast, fast_pattern_option};
 ghost use Rattle.rule_parser.specs.Drafts.{with_new};
 
 use crate::draft::{Draft, Held};
 use crate::extracted::Extracted;
 use crate::fault::Fault;
+use crate::names::Modifier;
 use crate::number::{named, signed_or_named};
 use crate::quoted::{Style, meaning};
 use crate::texts::quoted_whole;
@@ -54,28 +55,29 @@ fn is_placed(content: &Content) -> bool
     (content.from.is_some() || content.room.is_some()) && !content.relative
 }
 
-/// Whether `offset`, or `distance`, may not be given any more.
-fn bars_from(relative: bool, content: &Content) -> bool
-    ensures { result ≡ bars_from relative content.now }
+/// Whether a modifier has the other origin than those that the content has.
+fn is_mixed(name: Modifier, content: &Content) -> bool
+    ensures { result ≡ is_mixed name content.now }
 {
-    content.from.is_some()
-        || if relative {
-            is_placed(content)
-        } else {
-            content.relative
-        }
+    if name.is_relative() {
+        is_placed(content)
+    } else {
+        content.relative
+    }
 }
 
-/// Whether `depth`, or `within`, may not be given any more.
-fn bars_room(relative: bool, content: &Content) -> bool
-    ensures { result ≡ bars_room relative content.now }
+/// Whether this one of `offset` and `distance` may not be given any more.
+fn bars_from(name: Modifier, content: &Content) -> bool
+    ensures { result ≡ bars_from name content.now }
 {
-    content.room.is_some()
-        || if relative {
-            is_placed(content)
-        } else {
-            content.relative
-        }
+    content.from.is_some() || is_mixed(name, content)
+}
+
+/// Whether this one of `depth` and `within` may not be given any more.
+fn bars_room(name: Modifier, content: &Content) -> bool
+    ensures { result ≡ bars_room name content.now }
+{
+    content.room.is_some() || is_mixed(name, content)
 }
 
 /// Holds this content apart, the one before in its place.
@@ -206,35 +208,35 @@ fn first_names(names: &[Text], count: usize) -> &[Text]
 /// What `offset` or `distance` makes of the last content.
 #[tactic(auto, unfolding(crate::specs::Contents::with_from))]
 fn with_from(
-    relative: bool,
+    name: Modifier,
     held: &mut Held,
     names: &Extracted,
     left: usize,
     value: Option<&[u8]>,
 ) -> Result<(), Fault>
-    ensures { with_new result held.new ≡ with_from relative held.old names.now left (option_copied value.entry) }
+    ensures { with_new result held.new ≡ with_from name held.old names.now left (option_copied value.entry) }
 {
-    let text = place_text(bars_from(relative, &held.content), held.placeless, value)?;
+    let text = place_text(bars_from(name, &held.content), held.placeless, value)?;
     let known = first_names(names.as_slice(), held.known);
     let from = signed_or_named(-65535, 65535, known, left, text)?;
-    held.content.relative = relative;
+    held.content.relative = name.is_relative();
     held.content.from = Some(from);
     Ok(())
 }
 
 #[tactic(auto, unfolding(crate::specs::Contents::from_option, crate::specs::Contents::apart))]
 pub(crate) fn from_option(
-    relative: bool,
+    name: Modifier,
     draft: &mut Draft,
     left: usize,
     value: Option<&[u8]>,
 ) -> Result<(), Fault>
-    ensures { with_new result draft.new ≡ from_option relative draft.old left (option_copied value.entry) }
+    ensures { with_new result draft.new ≡ from_option name draft.old left (option_copied value.entry) }
 {
     let Some(held) = &mut draft.held else {
         return Err(Fault::Misplaced);
     };
-    with_from(relative, held, &draft.names, left, value)
+    with_from(name, held, &draft.names, left, value)
 }
 
 /// How far a content of `size` bytes may go.
@@ -256,35 +258,35 @@ fn room_of(size: usize, known: &[Text], left: usize, text: &[u8]) -> Result<Num,
 /// What `depth` or `within` makes of the last content.
 #[tactic(auto, unfolding(crate::specs::Contents::with_room))]
 fn with_room(
-    relative: bool,
+    name: Modifier,
     held: &mut Held,
     names: &Extracted,
     left: usize,
     value: Option<&[u8]>,
 ) -> Result<(), Fault>
-    ensures { with_new result held.new ≡ with_room relative held.old names.now left (option_copied value.entry) }
+    ensures { with_new result held.new ≡ with_room name held.old names.now left (option_copied value.entry) }
 {
-    let text = place_text(bars_room(relative, &held.content), held.placeless, value)?;
+    let text = place_text(bars_room(name, &held.content), held.placeless, value)?;
     let known = first_names(names.as_slice(), held.known);
     let room = room_of(held.content.bytes.bytes().len(), known, left, text)?;
-    held.content.relative = relative;
+    held.content.relative = name.is_relative();
     held.content.room = Some(room);
     Ok(())
 }
 
 #[tactic(auto, unfolding(crate::specs::Contents::room_option, crate::specs::Contents::apart))]
 pub(crate) fn room_option(
-    relative: bool,
+    name: Modifier,
     draft: &mut Draft,
     left: usize,
     value: Option<&[u8]>,
 ) -> Result<(), Fault>
-    ensures { with_new result draft.new ≡ room_option relative draft.old left (option_copied value.entry) }
+    ensures { with_new result draft.new ≡ room_option name draft.old left (option_copied value.entry) }
 {
     let Some(held) = &mut draft.held else {
         return Err(Fault::Misplaced);
     };
-    with_room(relative, held, &draft.names, left, value)
+    with_room(name, held, &draft.names, left, value)
 }
 
 /// A part of a content of `size` bytes.

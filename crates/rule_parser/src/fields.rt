@@ -1,8 +1,8 @@
 //! Numbers of a packet's headers, and the length of its payload.
 ghost use Rattle.std.specs.Prelude.{◌≡◌, ◌<◌, length, option_copied, IfSome};
 ghost use Rattle.net_lists.specs.Stops.{Gives};
-ghost use Rattle.rule_parser.specs.Fields.{sign_of, cmp_of, is_plain, is_not, is_strict, allows, against, signed_compare, end_of, ttl_range, dsize_range, place_of, behind_above, protocol_of, compare_of, ttl_to, dsize_at, protocol_to, field_option, dsize_option, sameip_option};
-ghost use Rattle.rule_types.specs.Sound.{most_of};
+ghost use Rattle.rule_parser.specs.Fields.{sign_of, cmp_of, allows, against, signed_compare, end_of, ttl_range, dsize_range, place_of, behind_above, protocol_of, compare_of, ttl_to, dsize_at, protocol_to, field_option, dsize_option, sameip_option};
+ghost use Rattle.rule_types.specs.Sound.{is_strict, compares, most_of};
 ghost use Rattle.rule_parser.specs.Drafts.{with_new};
 
 use crate::draft::Draft;
@@ -53,39 +53,34 @@ impl Sign {
             Sign::From => Cmp::Ge,
         }
     }
+}
 
-    fn is_plain(self) -> bool
-        ensures { result ≡ is_plain self }
-    {
-        self == Sign::Plain
-    }
+/// Whether a comparison is by `<` or `>`.
+fn is_strict(cmp: Cmp) -> bool
+    ensures { result ≡ is_strict cmp }
+{
+    cmp == Cmp::Lt || cmp == Cmp::Gt
+}
 
-    fn is_not(self) -> bool
-        ensures { result ≡ is_not self }
-    {
-        self == Sign::Not
-    }
-
-    fn is_strict(self) -> bool
-        ensures { result ≡ is_strict self }
-    {
-        self == Sign::Below || self == Sign::Above
+/// Whether the field has this comparison.
+fn compares(field: Field, cmp: Cmp) -> bool
+    ensures { result ≡ compares field cmp }
+{
+    match field {
+        Field::Ttl => cmp != Cmp::Ne && cmp != Cmp::And,
+        Field::Tos | Field::Window => cmp == Cmp::Eq || cmp == Cmp::Ne,
+        Field::FragOffset | Field::IpProto => cmp == Cmp::Eq || cmp == Cmp::Ne || is_strict(cmp),
+        Field::Itype | Field::Icode => cmp == Cmp::Eq || is_strict(cmp),
+        Field::Dsize => cmp == Cmp::Eq || is_strict(cmp) || cmp == Cmp::Within,
+        Field::Id | Field::Seq | Field::Ack | Field::IcmpId | Field::IcmpSeq => cmp == Cmp::Eq,
     }
 }
 
-/// Whether the field has this sign.
+/// Whether the field has this sign: it compares so, and `=` is a sign of `ttl` alone.
 fn allows(field: Field, sign: Sign) -> bool
     ensures { result ≡ allows field sign }
 {
-    match field {
-        Field::Ttl => !sign.is_not(),
-        Field::Tos | Field::Window => sign.is_plain() || sign.is_not(),
-        Field::FragOffset | Field::IpProto => {
-            sign.is_plain() || sign.is_not() || sign.is_strict()
-        }
-        Field::Itype | Field::Icode | Field::Dsize => sign.is_plain() || sign.is_strict(),
-        Field::Id | Field::Seq | Field::Ack | Field::IcmpId | Field::IcmpSeq => sign.is_plain(),
-    }
+    compares(field, sign.cmp()) && (field == Field::Ttl || sign != Sign::Equal)
 }
 
 /// The greatest number of the field.

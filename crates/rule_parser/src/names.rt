@@ -1,5 +1,6 @@
 //! The names of options, in groups.
 ghost use Rattle.std.specs.Prelude.{◌≡◌};
+ghost use Rattle.rule_parser.specs.Contents.{is_relative};
 ghost use Rattle.rule_parser.specs.OptionNames.{text_name, modifier_name, payload_name, session_name, ip_field, body_field, has_outside_front, is_outside_payload, is_outside_action, is_outside_other, is_outside};
 ghost use Rattle.rule_parser.specs.RuleOption.{option_name};
 
@@ -89,6 +90,13 @@ impl Modifier {
         } else {
             None
         }
+    }
+
+    /// Whether it counts from the match before.
+    pub(crate) fn is_relative(self) -> bool
+        ensures { result ≡ is_relative self }
+    {
+        matches!(self, Modifier::Distance | Modifier::Within)
     }
 }
 

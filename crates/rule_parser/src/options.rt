@@ -70,10 +70,8 @@ pub(crate) fn modifier_option(
     match name {
         Modifier::Nocase => nocase_option(draft, value),
         Modifier::Rawbytes => rawbytes_option(draft, value),
-        Modifier::Offset => from_option(false, draft, left, value),
-        Modifier::Depth => room_option(false, draft, left, value),
-        Modifier::Distance => from_option(true, draft, left, value),
-        Modifier::Within => room_option(true, draft, left, value),
+        Modifier::Offset | Modifier::Distance => from_option(name, draft, left, value),
+        Modifier::Depth | Modifier::Within => room_option(name, draft, left, value),
         Modifier::FastPattern => fast_pattern_option(draft, value),
     }
 }

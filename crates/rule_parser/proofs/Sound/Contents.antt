@@ -11,6 +11,7 @@ use Rattle.rule_parser.specs.declared.draft.Draft.{Draft}
 use Rattle.rule_parser.specs.declared.draft.Held.{Held}
 use Rattle.rule_parser.specs.declared.fault.Fault.{Fault}
 use Rattle.rule_parser.specs.declared.fault.Fault.TheVariants.{OptionValue, Misplaced, Limit}
+use Rattle.rule_parser.specs.declared.names.Modifier.{Modifier}
 use Rattle.rule_types.specs.declared.option.Content.{Content}
 use Rattle.rule_types.specs.declared.option.FastMode.{FastMode}
 use Rattle.rule_types.specs.declared.option.FastMode.TheVariants as fast
@@ -19,7 +20,7 @@ use Rattle.rule_types.specs.declared.option.Num.TheVariants as num
 use Rattle.rule_types.specs.declared.option.Opt.{Opt}
 use Rattle.rule_parser.specs.declared.quoted.Style.TheVariants.{Bytes}
 use Rattle.rule_parser.specs.declared.quoted.Place.TheVariants.{Plain}
-use Rattle.rule_parser.specs.Contents.{negation, plain_content, with_content, with_bytes, content_option, apart, with_last, nocase, nocase_option, rawbytes, rawbytes_option, bars_from, bars_room, place_text, known_before, with_from, from_option, room_of, with_room, room_option, fast_part, fast_mode, is_only, fast_on, has_room, bars_fast, fast_pattern_option}
+use Rattle.rule_parser.specs.Contents.{negation, plain_content, with_content, with_bytes, content_option, apart, with_last, nocase, nocase_option, rawbytes, rawbytes_option, is_relative, bars_from, bars_room, place_text, known_before, with_from, from_option, room_of, with_room, room_option, fast_part, fast_mode, is_only, fast_on, has_room, bars_fast, fast_pattern_option}
 use Rattle.rule_parser.specs.Drafts.{kept_count, settled}
 use Rattle.rule_parser.specs.Names.{signed_or_named}
 use Rattle.rule_parser.specs.Quotes.{meaning}
@@ -179,17 +180,17 @@ below-known : (known : List (List ℕ)) (count : ℕ) (least most : ℤ) (number
 below-known known count least most (num.Value number) h = h
 below-known known count least most (num.Name place) h = omega (arith, length-take count known)
 
-pub from-sound : (classes : ℕ) (relative : Bool) (draft : Draft) → IsSoundDraft classes draft → (left : ℕ) (value : Option (List ℕ)) → IfOk (from_option relative draft left value) (IsSoundDraft classes)
+pub from-sound : (classes : ℕ) (name : Modifier) (draft : Draft) → IsSoundDraft classes draft → (left : ℕ) (value : Option (List ℕ)) → IfOk (from_option name draft left value) (IsSoundDraft classes)
 unfolding from_option with_from
-from-sound classes relative draft sound left value = modified-sound classes draft sound (λ held names. with_from relative held names left value) (λ held.
-    then_ok (λ _. held.placeless ≡ false) (IsModified draft.opts held) (place_text (bars_from relative held.content) held.placeless value) _ (place_text-ok (bars_from relative held.content) held.placeless value) (λ text placed.
+from-sound classes name draft sound left value = modified-sound classes draft sound (λ held names. with_from name held names left value) (λ held.
+    then_ok (λ _. held.placeless ≡ false) (IsModified draft.opts held) (place_text (bars_from name held.content) held.placeless value) _ (place_text-ok (bars_from name held.content) held.placeless value) (λ text placed.
     then_ok (IsNumBelow (length (known_before draft.names held)) (negsuc 65534) (pos 65535)) (IsModified draft.opts held) (signed_or_named (negsuc 65534) (pos 65535) (known_before draft.names held) left text) _ (signed_or_named-below (negsuc 65534) (pos 65535) (known_before draft.names held) left text) (λ from below.
     let names = names_after [] (take held.place draft.opts) in
     record {
       keeps = λ h. record {
         place = h.place;
         known = h.known;
-        content = (h.content.0, num-named names held.known (negsuc 65534) (pos 65535) from h.known (below-known draft.names held.known (negsuc 65534) (pos 65535) from below), h.content.2, fast-placed held.content relative (Some from) held.content.room held.content.fast (h.placeless placed) h.content.3);
+        content = (h.content.0, num-named names held.known (negsuc 65534) (pos 65535) from h.known (below-known draft.names held.known (negsuc 65534) (pos 65535) from below), h.content.2, fast-placed held.content (is_relative name) (Some from) held.content.room held.content.fast (h.placeless placed) h.content.3);
         placeless = h.placeless;
       };
       same = refl;
@@ -202,10 +203,10 @@ room_of-below size known left text (Some number) h = if_ok (IsNumBelow (length k
     least : nat_le size number ≡ true → pos size ≤ℤ pos number
     least e = let le : size ≤ number = grind (arith, nat_tests) in omega (arith, ints)
 
-pub room-sound : (classes : ℕ) (relative : Bool) (draft : Draft) → IsSoundDraft classes draft → (left : ℕ) (value : Option (List ℕ)) → IfOk (room_option relative draft left value) (IsSoundDraft classes)
+pub room-sound : (classes : ℕ) (name : Modifier) (draft : Draft) → IsSoundDraft classes draft → (left : ℕ) (value : Option (List ℕ)) → IfOk (room_option name draft left value) (IsSoundDraft classes)
 unfolding room_option with_room
-room-sound classes relative draft sound left value = modified-sound classes draft sound (λ held names. with_room relative held names left value) (λ held.
-    then_ok (λ _. held.placeless ≡ false) (IsModified draft.opts held) (place_text (bars_room relative held.content) held.placeless value) _ (place_text-ok (bars_room relative held.content) held.placeless value) (λ text placed.
+room-sound classes name draft sound left value = modified-sound classes draft sound (λ held names. with_room name held names left value) (λ held.
+    then_ok (λ _. held.placeless ≡ false) (IsModified draft.opts held) (place_text (bars_room name held.content) held.placeless value) _ (place_text-ok (bars_room name held.content) held.placeless value) (λ text placed.
     let size = length held.content.bytes in
     then_ok (IsNumBelow (length (known_before draft.names held)) (pos size) (pos 65535)) (IsModified draft.opts held) (room_of size (known_before draft.names held) left text (number_in 0 65535 text)) _ (room_of-below size (known_before draft.names held) left text (number_in 0 65535 text) (number_in-within 0 65535 text)) (λ room below.
     let names = names_after [] (take held.place draft.opts) in
@@ -213,7 +214,7 @@ room-sound classes relative draft sound left value = modified-sound classes draf
       keeps = λ h. record {
         place = h.place;
         known = h.known;
-        content = (h.content.0, h.content.1, num-named names held.known (pos size) (pos 65535) room h.known (below-known draft.names held.known (pos size) (pos 65535) room below), fast-placed held.content relative held.content.from (Some room) held.content.fast (h.placeless placed) h.content.3);
+        content = (h.content.0, h.content.1, num-named names held.known (pos size) (pos 65535) room h.known (below-known draft.names held.known (pos size) (pos 65535) room below), fast-placed held.content (is_relative name) held.content.from (Some room) held.content.fast (h.placeless placed) h.content.3);
         placeless = h.placeless;
       };
       same = refl;

@@ -1,11 +1,11 @@
 -- Options on numbers of a header keep a rule sound.
-use Rattle.std.proofs.Common.{ℕ, ◌+◌, ◌≤◌, ◌≡◌, ◌==◌, ◌&&◌, ◌||◌, Bool, true, false, cond, Option, Some, None, Ok, Err, List, [], length, take, drop, is_some, refl, arith, inl, inr, IfSome, IfOk, IsTrue}
+use Rattle.std.proofs.Common.{ℕ, ◌+◌, ◌≤◌, ◌≡◌, ◌==◌, ◌&&◌, ◌||◌, Bool, true, false, not, cond, Option, Some, None, Ok, Err, List, [], length, take, drop, is_some, refl, arith, inl, inr, IfSome, IfOk, IsTrue}
+use Rattle.std.proofs.lemmas.Bool.{and_parts}
 use Rattle.net_lists.specs.Numbers.{number_in}
 use Rattle.net_lists.specs.Stops.{or_kind}
 use Rattle.rule_parser.specs.declared.draft.Draft.{Draft}
 use Rattle.rule_parser.specs.declared.fault.Fault.TheVariants.{OptionValue}
 use Rattle.rule_parser.specs.declared.fields.Sign.{Sign}
-use Rattle.rule_parser.specs.declared.fields.Sign.TheVariants.{Plain, Equal, Not, Below, Above, UpTo, From}
 use Rattle.rule_types.specs.declared.option.Cmp.{Cmp}
 use Rattle.rule_types.specs.declared.option.Cmp.TheVariants as cmp
 use Rattle.rule_types.specs.declared.option.Field.{Field}
@@ -13,9 +13,8 @@ use Rattle.rule_types.specs.declared.option.Field.TheVariants as field
 use Rattle.rule_types.specs.declared.option.Opt.{Opt}
 use Rattle.rule_types.specs.declared.option.Opt.TheVariants as opt
 use Rattle.rule_parser.specs.Drafts.{kept}
-use Rattle.rule_parser.specs.Fields.{sign_of, cmp_of, is_plain, is_not, is_strict, allows, signed_compare, end_of, ttl_range, dsize_range, place_of, ttl_to, behind_above, dsize_to, dsize_at, protocol_of, protocol_to, compare_of, field_option, dsize_option, sameip_option}
-use Rattle.rule_types.specs.Sound.{most_of, is_equal, is_unequal, compares, AreEnds, IsOption}
-use Rattle.rule_types.specs.Sound as ranges
+use Rattle.rule_parser.specs.Fields.{sign_of, cmp_of, is_equals, is_ttl, allows, signed_compare, end_of, ttl_range, dsize_range, place_of, ttl_to, behind_above, dsize_to, dsize_at, protocol_of, protocol_to, compare_of, field_option, dsize_option, sameip_option}
+use Rattle.rule_types.specs.Sound.{most_of, compares, AreEnds, IsOption}
 use Rattle.rule_parser.proofs.Sound.Drafts.{IsSoundDraft, IsPlain, names_after, kept-sound}
 use Rattle.rule_parser.proofs.Sound.Steps.{then_ok, kind_ok, if_ok, some_weaken}
 use Rattle.rule_parser.proofs.Sound.Values.{IsIn, number_in-within}
@@ -36,75 +35,9 @@ anywhere option h plain = (h, plain)
 compare-anywhere : (field : Field) (how : Cmp) (low high : ℕ) → low ≤ most_of field → high ≤ most_of field → IsTrue (compares field how) → AreEnds how low high → IsAnywhere (opt.Compare field how low high)
 compare-anywhere field how low high least most has ends = anywhere (opt.Compare field how low high) (λ names. (least, most, has, ends)) (refl, λ names. refl)
 
--- what a sign compares by is among the comparisons of a field that has the sign
-plain-compares : (sign : Sign) → is_plain sign ≡ true → IsTrue (is_equal (cmp_of sign))
-plain-compares Plain e = refl
-plain-compares Equal e = cc
-plain-compares Not e = cc
-plain-compares Below e = cc
-plain-compares Above e = cc
-plain-compares UpTo e = cc
-plain-compares From e = cc
-
-not-compares : (sign : Sign) → (is_plain sign || is_not sign) ≡ true → IsTrue (is_equal (cmp_of sign) || is_unequal (cmp_of sign))
-not-compares Plain e = refl
-not-compares Equal e = cc
-not-compares Not e = refl
-not-compares Below e = cc
-not-compares Above e = cc
-not-compares UpTo e = cc
-not-compares From e = cc
-
-strict-compares : (sign : Sign) → (is_plain sign || is_strict sign) ≡ true → IsTrue (is_equal (cmp_of sign) || ranges.is_strict (cmp_of sign))
-strict-compares Plain e = refl
-strict-compares Equal e = cc
-strict-compares Not e = cc
-strict-compares Below e = refl
-strict-compares Above e = refl
-strict-compares UpTo e = cc
-strict-compares From e = cc
-
-any-compares : (sign : Sign) → ((is_plain sign || is_not sign) || is_strict sign) ≡ true → IsTrue ((is_equal (cmp_of sign) || is_unequal (cmp_of sign)) || ranges.is_strict (cmp_of sign))
-any-compares Plain e = refl
-any-compares Equal e = cc
-any-compares Not e = refl
-any-compares Below e = refl
-any-compares Above e = refl
-any-compares UpTo e = cc
-any-compares From e = cc
-
-ttl-compares : (sign : Sign) → allows field.Ttl sign ≡ true → IsTrue (compares field.Ttl (cmp_of sign))
-ttl-compares Plain e = refl
-ttl-compares Equal e = refl
-ttl-compares Not e = cc
-ttl-compares Below e = refl
-ttl-compares Above e = refl
-ttl-compares UpTo e = refl
-ttl-compares From e = refl
-
-dsize-compares : (sign : Sign) → (is_plain sign || is_strict sign) ≡ true → IsTrue (compares field.Dsize (cmp_of sign))
-dsize-compares Plain e = refl
-dsize-compares Equal e = cc
-dsize-compares Not e = cc
-dsize-compares Below e = refl
-dsize-compares Above e = refl
-dsize-compares UpTo e = cc
-dsize-compares From e = cc
-
+-- a field compares by each sign that it has
 allowed-compares : (field : Field) (sign : Sign) → allows field sign ≡ true → IsTrue (compares field (cmp_of sign))
-allowed-compares field.Ttl sign e = ttl-compares sign e
-allowed-compares field.Tos sign e = not-compares sign e
-allowed-compares field.Window sign e = not-compares sign e
-allowed-compares field.FragOffset sign e = any-compares sign e
-allowed-compares field.IpProto sign e = any-compares sign e
-allowed-compares field.Itype sign e = strict-compares sign e
-allowed-compares field.Icode sign e = strict-compares sign e
-allowed-compares field.Dsize sign e = dsize-compares sign e
-allowed-compares field.Id sign e = plain-compares sign e
-allowed-compares field.Seq sign e = plain-compares sign e
-allowed-compares field.Ack sign e = plain-compares sign e
-allowed-compares field.IcmpId sign e = plain-compares sign e
-allowed-compares field.IcmpSeq sign e = plain-compares sign e
+allowed-compares field sign e = (and_parts (compares field (cmp_of sign)) (is_ttl field || not (is_equals sign)) e).0
 
 signed-anywhere : (field : Field) (text : List ℕ) → IfOk (signed_compare field text) IsAnywhere
 unfolding signed_compare

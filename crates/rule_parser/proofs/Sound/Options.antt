@@ -72,10 +72,10 @@ module _ (classes : List Class) (draft : Draft) (sound : IsSoundDraft (length cl
   unfolding modifier_option
   modifier-sound modifier.Nocase left value = nocase-sound (length classes) draft sound value
   modifier-sound modifier.Rawbytes left value = rawbytes-sound (length classes) draft sound value
-  modifier-sound modifier.Offset left value = from-sound (length classes) false draft sound left value
-  modifier-sound modifier.Depth left value = room-sound (length classes) false draft sound left value
-  modifier-sound modifier.Distance left value = from-sound (length classes) true draft sound left value
-  modifier-sound modifier.Within left value = room-sound (length classes) true draft sound left value
+  modifier-sound modifier.Offset left value = from-sound (length classes) modifier.Offset draft sound left value
+  modifier-sound modifier.Depth left value = room-sound (length classes) modifier.Depth draft sound left value
+  modifier-sound modifier.Distance left value = from-sound (length classes) modifier.Distance draft sound left value
+  modifier-sound modifier.Within left value = room-sound (length classes) modifier.Within draft sound left value
   modifier-sound modifier.FastPattern left value = fast_pattern-sound (length classes) draft sound value
 
   payload-sound : (n : PayloadName) (left : ℕ) (value : List ℕ) → IfOk (payload_option draft n left value) (IsSoundDraft (length classes))
