@@ -65,10 +65,10 @@ fn state_at_begin(
     settings: &Settings,
     p: &Arrival,
     step: &Step,
-    state: Phases,
+    state: &Phases,
 ) -> FlowState
     ensures state { result ≡ record {
-      session = begun_session (making_of settings.now) (packet_of p.now) step.now state;
+      session = begun_session (making_of settings.now) (packet_of p.now) step.now state.now;
       bits = empty;
     } }
     ensures within { AreWithin result.session 0 0 }
@@ -81,35 +81,49 @@ fn state_at_begin(
 
 /// A session that the packet begins takes its place.
 // Kept out of the line of the other packets, which otherwise pay for its moves. Bases are set in its place: a session that
-// is lent before it has its place is made elsewhere, and moved.
+// is lent before it has its place is made elsewhere, and moved. What stands there leaves first: where nothing is known to
+// stand, there is no code that drops it.
 #[inline(never)]
 fn begin(
     alloc: Global,
     settings: &Settings,
     p: &Arrival,
     step: &Step,
-    state: Phases,
+    state: &Phases,
     found: &mut Option<FlowState>,
 )
     ensures state { found.new ≡ Some (record {
-      session = with_bases step.now (begun_session (making_of settings.now) (packet_of p.now) step.now state);
+      session = with_bases step.now (begun_session (making_of settings.now) (packet_of p.now) step.now state.now);
       bits = empty;
     }) }
     ensures within { IsWithin (session_at_hand found.new) 0 }
 {
-    *found = Some(state_at_begin(alloc, settings, p, step, state));
+    leave(found);
+    if found.is_none() {
+        *found = Some(state_at_begin(alloc, settings, p, step, state));
+    }
     if let Some(kept) = found {
         kept.session.set_bases(step);
     }
 }
 
-/// There is no session any more.
+/// The session that stands is let go.
 // One copy of what is done for all that a session held.
 #[inline(never)]
-pub(crate) fn leave(found: &mut Option<FlowState>)
+fn let_go(found: &mut Option<FlowState>)
     ensures { found.new ≡ None }
 {
     *found = None;
+}
+
+/// There is no session any more.
+#[inline(always)]
+pub(crate) fn leave(found: &mut Option<FlowState>)
+    ensures { found.new ≡ None }
+{
+    if found.is_some() {
+        let_go(found);
+    }
 }
 
 /// The packet's session takes its place: it begins, goes on, or there is none.
@@ -119,16 +133,16 @@ fn enter(
     settings: &Settings,
     p: &Arrival,
     step: &Step,
-    state: Phases,
+    state: &Phases,
     found: &mut Option<FlowState>,
 )
     ensures session { (before : Option Standing) → session_at_hand found.old ≡ option_map settled before
-        → session_at_hand found.new ≡ session_of (making_of settings.now) (packet_of p.now) before step.now state }
+        → session_at_hand found.new ≡ session_of (making_of settings.now) (packet_of p.now) before step.now state.now }
     ensures bits { bits_at_hand found.new
         ≡ (if step.now.tracked then (if step.now.begun then Some empty else bits_at_hand found.old) else None) }
     ensures within { (places : ℕ) → IsWithin (session_at_hand found.old) places
         → IsWithin (session_at_hand found.new) places }
-    ensures same { IsOf state.tcp (session_at_hand found.new) }
+    ensures same { IsOf state.now.tcp (session_at_hand found.new) }
 {
     if !step.tracked {
         leave(found);
@@ -213,20 +227,20 @@ pub(crate) fn push_current(
     settings: &Settings,
     p: &Arrival,
     step: &Step,
-    state: Phases,
+    state: &Phases,
     found: &mut Option<FlowState>,
     out: &mut Vec<Item>,
 ) -> Result<Option<SessionFacts>, NoMemory>
     requires within { IsWithin (session_at_hand found.old) (2 ^ 63 - 2 ^ 31) }
     requires size { length p.now.payload.now ≤ 65535 }
     ensures items { IfOk result (λ own. out.new.items ++ own_item (packet_of p.now) own ≡ out.old.items
-        ++ items_on (making_of settings.now) (packet_of p.now) step.now state (session_at_hand found.old)) }
+        ++ items_on (making_of settings.now) (packet_of p.now) step.now state.now (session_at_hand found.old)) }
     ensures state { step.now.ends ≡ false
         → OnOk result (session_at_hand found.new ≡ session_behind (packet_of p.now) step.now
-        (session_of (making_of settings.now) (packet_of p.now) (session_at_hand found.old) step.now state)) }
+        (session_of (making_of settings.now) (packet_of p.now) (session_at_hand found.old) step.now state.now)) }
     ensures bits { OnOk result (bits_at_hand found.new
         ≡ (if step.now.tracked then (if step.now.begun then Some empty else bits_at_hand found.old) else None)) }
-    ensures grows { (tcp : Bool) (places : ℕ) → state.tcp ≡ tcp → IsFound tcp places (session_at_hand found.old)
+    ensures grows { (tcp : Bool) (places : ℕ) → state.now.tcp ≡ tcp → IsFound tcp places (session_at_hand found.old)
         → IsFound tcp (places + 2 ^ 31) (session_at_hand found.new) }
 {
     let left = take_left_stretches(alloc, found)?;

@@ -21,7 +21,7 @@ use crate::inspector::Inspector;
 use crate::keeping::{Flow, FlowState};
 use crate::session::Left;
 use crate::settings::Settings;
-use crate::steps::step_and_state;
+use crate::steps::{state_found, take_step};
 use crate::tally::Tally;
 use edge_io::{Moment, NoMemory, Pattern};
 use option_eval::Steps;
@@ -93,17 +93,17 @@ fn go_on<P: Pattern, L: Ledger>(
     settings: &Settings,
     p: &Arrival,
     step: &Step,
-    state: Phases,
+    state: &Phases,
     found: &mut Option<FlowState>,
     tally: &mut Tally<L>,
 ) -> Result<(), NoMemory>
     requires within { IsWithin (session_at_hand found.old) (2 ^ 63 - 2 ^ 31) }
     requires size { length p.now.payload.now ≤ 65535 }
     ensures tallies { OnOk result (Tallies (inspection_of P.finds inspector.now)
-        (gain_on (making_of settings.now) (packet_of p.now) step.now state found.old) (so_far tally.old) (so_far tally.new)) }
+        (gain_on (making_of settings.now) (packet_of p.now) step.now state.now found.old) (so_far tally.old) (so_far tally.new)) }
     ensures goes { OnOk result (ByTest (inspection_of P.finds inspector.now) (λ trying. GoesOn trying
-        (making_of settings.now) (packet_of p.now) step.now state found.old found.new)) }
-    ensures grows { (tcp : Bool) (places : ℕ) → state.tcp ≡ tcp → IsFound tcp places (session_at_hand found.old)
+        (making_of settings.now) (packet_of p.now) step.now state.now found.old found.new)) }
+    ensures grows { (tcp : Bool) (places : ℕ) → state.now.tcp ≡ tcp → IsFound tcp places (session_at_hand found.old)
         → IsFound tcp (places + 2 ^ 31) (session_at_hand found.new) }
 {
     let alloc = inspector.alloc;
@@ -160,9 +160,11 @@ fn packet_on<P: Pattern, L: Ledger>(
     ensures grows { (places : ℕ) → IsFound (is_tcp p.now.head.now.body) places (session_at_hand found.old)
         → IsFound (is_tcp p.now.head.now.body) (places + 2 ^ 31) (session_at_hand found.new) }
 {
-    let (step, state) = step_and_state(settings, p, found);
+    let mut state = state_found(p, found);
+    let mut step = Step::default();
+    take_step(settings, p, found, &mut state, &mut step);
     end_before(inspector, p.moment, step.ended_before, found, tally)?;
-    go_on(inspector, settings, p, &step, state, found, tally)?;
+    go_on(inspector, settings, p, &step, &state, found, tally)?;
     Ok(())
 }
 
@@ -219,6 +221,29 @@ impl Flow {
         self.facts.packets += 1;
         let mut tally = Tally::new(inspector.alloc, visits);
         packet_found(inspector, settings, p, &mut self.found, &mut tally)?;
+        Ok(tally)
+    }
+
+    /// The first packet of the flow, as `packet` does it: no session stands that it could leave as it is.
+    pub fn begin<P: Pattern, L: Ledger>(
+        &mut self,
+        inspector: &Inspector<'_, P>,
+        settings: &Settings,
+        p: &Arrival,
+        visits: Steps<L>,
+    ) -> Result<Tally<L>, NoMemory>
+        requires sound { IsSoundPacket (length settings.now.stream.now.engines) (Some self.old.facts)
+            (packet_of p.now) }
+        requires none { visits ≡ 0 }
+        ensures tallied { IfOk result (λ tally. Tallied (inspection_of P.finds inspector.now)
+            (gain_of (making_of settings.now) (packet_of p.now) self.old.found) (so_far tally)) }
+        ensures leaves { OnOk result (ByTest (inspection_of P.finds inspector.now) (λ trying. Leaves trying
+            (making_of settings.now) (packet_of p.now) self.old.found self.new.found)) }
+        ensures facts { self.new.facts ≡ record { ends = self.old.facts.ends; packets = self.old.facts.packets + 1 } }
+    {
+        self.facts.packets += 1;
+        let mut tally = Tally::new(inspector.alloc, visits);
+        packet_on(inspector, settings, p, &mut self.found, &mut tally)?;
         Ok(tally)
     }
 

@@ -130,15 +130,15 @@ impl Session {
         settings: &Settings,
         p: &Arrival,
         step: &Step,
-        state: Phases,
+        state: &Phases,
     ) -> Session
-        ensures state { result ≡ begun_session (making_of settings.now) (packet_of p.now) step.now state }
+        ensures state { result ≡ begun_session (making_of settings.now) (packet_of p.now) step.now state.now }
         ensures within { AreWithin result 0 0 }
     {
         let client = client_end(p, step);
         let server = server_end(p, step);
         Session {
-            state,
+            state: *state,
             opened_to: p.receiver(),
             client: client_side(alloc, settings, p, client, server),
             server: server_side(alloc, settings, p, client, server),
@@ -155,11 +155,11 @@ impl Session {
     }
 
     /// Goes on after a packet that leaves the session here, with the bases that the packet sets.
-    pub fn go_on(&mut self, step: &Step, state: Phases)
-        ensures state { self.new ≡ with_bases step.now (record self.old { state = state }) }
+    pub fn go_on(&mut self, step: &Step, state: &Phases)
+        ensures state { self.new ≡ with_bases step.now (record self.old { state = state.now }) }
         ensures within { KeepsWithin self.old self.new }
     {
-        self.state = state;
+        self.state = *state;
         self.set_bases(step);
     }
 

@@ -12,7 +12,7 @@ use crate::settings::Settings;
 use stream5_sessions::{End, Session as Phases, SessionRules, Step};
 
 /// The state of the session that the packet finds.
-fn state_found(p: &Arrival, found: &Option<FlowState>) -> Phases
+pub(crate) fn state_found(p: &Arrival, found: &Option<FlowState>) -> Phases
     ensures { result ≡ state_found (packet_of p.now) (session_at_hand found.now) }
 {
     match found {
@@ -51,19 +51,21 @@ fn session_rules(settings: &Settings, p: &Arrival, found: &Option<FlowState>) ->
     rules_of(settings, p, opening_end(p, found))
 }
 
-/// What the packet tells of its session, and the session's state after it.
+/// Moves the state on that the packet finds, and writes what the packet tells of its session.
+// Both are written in their places: answered, they would be moved from call to call.
 #[tactic(auto, unfolding(crate::specs::Sessions::step_of, crate::specs::Sessions::state_of))]
-pub(crate) fn step_and_state(
+pub(crate) fn take_step(
     settings: &Settings,
     p: &Arrival,
     found: &Option<FlowState>,
-) -> (Step, Phases)
-    requires { IsBodyOf (state_found (packet_of p.now) (session_at_hand found.now)).tcp p.now.head.now.body }
-    ensures step { result.0 ≡ step_of (making_of settings.now) (packet_of p.now) (session_at_hand found.now) }
-    ensures state { result.1 ≡ state_of (making_of settings.now) (packet_of p.now) (session_at_hand found.now) }
+    state: &mut Phases,
+    step: &mut Step,
+)
+    requires found { state.old ≡ state_found (packet_of p.now) (session_at_hand found.now) }
+    requires protocol { IsBodyOf state.old.tcp p.now.head.now.body }
+    ensures step { step.new ≡ step_of (making_of settings.now) (packet_of p.now) (session_at_hand found.now) }
+    ensures state { state.new ≡ state_of (making_of settings.now) (packet_of p.now) (session_at_hand found.now) }
 {
-    let mut state = state_found(p, found);
     let rules = session_rules(settings, p, found);
-    let step = state.step(&p.head.ip, &p.head.body, p.payload.len(), p.moment, rules);
-    (step, state)
+    state.take(&p.head.ip, &p.head.body, p.payload.len(), p.moment, &rules, step);
 }

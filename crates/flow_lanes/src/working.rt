@@ -66,7 +66,7 @@ fn first_packet<P: Pattern, L: Ledger>(
         flows.old.entries flows.new.entries (so_far tally)) }
 {
     let kept = flows.entry(flow)?.or_insert(Flow::new(p));
-    let tally = kept.packet(inspector, settings, p, visits)?;
+    let tally = kept.begin(inspector, settings, p, visits)?;
     Ok(tally)
 }
 

@@ -10,8 +10,8 @@ use Rattle.stream5_sessions.specs.declared.segment.Segment.{Segment}
 use Rattle.stream5_sessions.specs.declared.state.Change.{Change}
 use Rattle.stream5_sessions.specs.declared.state.Phase.{Phase}
 use Rattle.stream5_sessions.specs.declared.state.Phase.TheVariants.{NoSession, Syn, SynAck, Est, Mid, Closing, Off}
-use Rattle.stream5_sessions.specs.declared.state.Reading.{Reading}
-use Rattle.stream5_sessions.specs.declared.state.Reading.TheVariants.{Then}
+use Rattle.stream5_sessions.specs.Phases.{Reading}
+use Rattle.stream5_sessions.specs.Phases.Reading.{Then}
 use Rattle.stream5_sessions.specs.declared.state.State.{State}
 use Rattle.stream5_sessions.specs.declared.step.SessionRules.{SessionRules}
 use Rattle.stream5_sessions.specs.declared.step.Step.{Step}

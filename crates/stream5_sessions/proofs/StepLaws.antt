@@ -1,11 +1,11 @@
 -- A session stays of its protocol, and of one that isn't of TCP nothing counts.
-use Rattle.std.proofs.Common.{◌≡◌, Bool, true, false, not, ◌&&◌, cond, Option, None, refl, sym, ap, subst, ◌∙◌}
+use Rattle.std.proofs.Common.{◌≡◌, Bool, true, false, not, ◌&&◌, cond, None, refl, sym, ap, subst, ◌∙◌}
 use Rattle.std.proofs.lemmas.Bool.{false≢true}
 use Rattle.stream5_sessions.specs.declared.segment.Segment.{Segment}
 use Rattle.stream5_sessions.specs.declared.state.State.{State}
 use Rattle.stream5_sessions.specs.declared.state.Change.{Change}
-use Rattle.stream5_sessions.specs.declared.state.Reading.{Reading}
-use Rattle.stream5_sessions.specs.declared.state.Reading.TheVariants.{Then, EndsBefore}
+use Rattle.stream5_sessions.specs.Phases.{Reading}
+use Rattle.stream5_sessions.specs.Phases.Reading.{Then, EndsBefore}
 use Rattle.stream5_sessions.specs.declared.state.Phase.TheVariants.{Syn, Est}
 use Rattle.stream5_sessions.specs.declared.step.SessionRules.{SessionRules}
 use Rattle.stream5_sessions.specs.declared.step.Step.{Step}

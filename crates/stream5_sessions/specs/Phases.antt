@@ -26,8 +26,6 @@ use Rattle.stream5_sessions.specs.declared.state.Phase.{Phase}
 use Rattle.stream5_sessions.specs.declared.state.Phase.TheVariants.{NoSession, Syn, SynAck, Est, Mid, Closing, Off}
 use Rattle.stream5_sessions.specs.declared.state.State.{State}
 use Rattle.stream5_sessions.specs.declared.state.Change.{Change}
-use Rattle.stream5_sessions.specs.declared.state.Reading.{Reading}
-use Rattle.stream5_sessions.specs.declared.state.Reading.TheVariants.{Then, EndsBefore}
 use Rattle.stream5_sessions.specs.declared.step.SessionRules.{SessionRules}
 use Rattle.stream5_sessions.specs.declared.step.Step.{Step}
 use Rattle.stream5_sessions.specs.Keys.{same_end}
@@ -236,6 +234,18 @@ in_est s p =
     if p.rst then ends s else
     if not p.syn then counts_on s p else
     stays s
+
+-- what follows a packet in a phase
+pub data Reading : Type 0 where
+  -- this changes
+  Then : Change → Reading
+  -- the session ends before the packet, which is then read where there is no session
+  EndsBefore : Reading
+
+-- the session ends before the packet, or this changes
+abbrev pub reading : Bool → Change → Reading
+reading true change = EndsBefore
+reading false change = Then change
 
 -- each side has sent a FIN: CLOSING, LAST-ACK
 unfoldable pub in_closing : State → Segment → Reading

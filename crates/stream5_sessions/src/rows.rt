@@ -1,18 +1,19 @@
 //! The table of phases, a phase a function, a row a branch, in the order of specs/Phases.
 ghost use Rattle.std.specs.Prelude.{◌≡◌, Option, is_some, not, ◌&&◌};
-ghost use Rattle.stream5_sessions.specs.Phases.{is_from, is_from_server, is_base, unset, stays, ends, begins_none, begins_off};
+ghost use Rattle.stream5_sessions.specs.Phases.{is_from, is_from_server, is_base, unset, stays, ends, begins_none, begins_off, reading};
 ghost use Rattle.stream5_sessions.specs.Phases.{begins, begins_mid, goes_mid, counts_on, acks_fin, client_fin_after, larger_end};
 ghost use Rattle.stream5_sessions.specs.Phases.{server_fin_after, in_none, in_syn, in_syn_ack, in_est, in_closing, in_off};
 ghost use Rattle.stream5_sessions.specs.Phases.{in_udp, row_of, tcp_row};
+ghost use Rattle.stream5_sessions.specs.declared.state.State.{State};
 
 use crate::End;
 use crate::segment::{Segment, fin_end, plus};
-use crate::state::{Change, Phase, Reading, State};
+use crate::state::{Change, Phase, State};
 use crate::step::SessionRules;
 
 /// The packet is from the client, where one is known.
-pub(crate) fn is_from(client: Option<End>, segment: &Segment) -> bool
-    ensures { result ≡ is_from client segment.now }
+pub(crate) fn is_from(client: &Option<End>, segment: &Segment) -> bool
+    ensures { result ≡ is_from client.now segment.now }
 {
     match client {
         Some(client) => client.is(segment.sender),
@@ -24,7 +25,7 @@ pub(crate) fn is_from(client: Option<End>, segment: &Segment) -> bool
 fn is_from_server(state: &State, segment: &Segment) -> bool
     ensures { result ≡ is_from_server state.now segment.now }
 {
-    state.client.is_some() && !is_from(state.client, segment)
+    state.client.is_some() && !is_from(&state.client, segment)
 }
 
 /// The number is a base that is known.
@@ -48,55 +49,45 @@ fn unset(base: Option<u32>, number: u32) -> Option<u32>
 }
 
 /// The change of a packet that changes nothing.
-fn stays(state: &State) -> Change
-    ensures { result ≡ stays state.now }
+fn stays(state: &State, change: &mut Change)
+    ensures { change.new ≡ stays state.now }
 {
-    Change {
-        phase: state.phase,
-        client: state.client,
-        client_base: None,
-        server_base: None,
-        counts: false,
-        ends: false,
-    }
-}
-
-/// The session ends.
-fn ends(state: &State) -> Change
-    ensures { result ≡ ends state.now }
-{
-    Change {
-        ends: true,
-        ..stays(state)
-    }
+    change.phase = state.phase;
+    change.client = state.client;
+    change.client_base = None;
+    change.server_base = None;
+    change.counts = false;
+    change.ends = false;
 }
 
 /// No session begins.
-fn begins_none() -> Change
-    ensures { result ≡ begins_none }
+fn begins_none(change: &mut Change)
+    ensures { change.new ≡ begins_none }
 {
-    Change {
-        phase: Phase::NoSession,
-        client: None,
-        client_base: None,
-        server_base: None,
-        counts: false,
-        ends: false,
-    }
+    change.phase = Phase::NoSession;
+    change.client = None;
+    change.client_base = None;
+    change.server_base = None;
+    change.counts = false;
+    change.ends = false;
 }
 
 /// A session begins with this client.
-fn begins(phase: Phase, client: End, client_base: Option<u32>, server_base: Option<u32>) -> Change
-    ensures { result ≡ begins phase client client_base server_base }
+fn begins(
+    phase: Phase,
+    client: &End,
+    client_base: Option<u32>,
+    server_base: Option<u32>,
+    change: &mut Change,
+)
+    ensures { change.new ≡ begins phase client.now client_base server_base }
 {
-    Change {
-        phase,
-        client: Some(client),
-        client_base,
-        server_base,
-        counts: false,
-        ends: false,
-    }
+    change.phase = phase;
+    change.client = Some(*client);
+    change.client_base = client_base;
+    change.server_base = server_base;
+    change.counts = false;
+    change.ends = false;
 }
 
 /// The end with the larger port, the sender where the ports are equal.
@@ -111,8 +102,10 @@ fn larger_end(segment: &Segment) -> End
 }
 
 /// A session under way begins.
-fn begins_mid(segment: &Segment) -> Change
-    ensures { result ≡ begins_mid segment.now }
+// Few sessions begin so: kept out of the line of the others.
+#[inline(never)]
+fn begins_mid(segment: &Segment, change: &mut Change)
+    ensures { change.new ≡ begins_mid segment.now }
 {
     let client = larger_end(segment);
     let other = if segment.has_ack {
@@ -125,35 +118,33 @@ fn begins_mid(segment: &Segment) -> Change
     } else {
         (other, Some(segment.seq))
     };
-    Change {
-        counts: true,
-        ..begins(Phase::Mid, client, client_base, server_base)
-    }
+    begins(Phase::Mid, &client, client_base, server_base, change);
+    change.counts = true;
 }
 
 /// A session is taken up under way.
-fn goes_mid(state: &State, segment: &Segment) -> Change
-    ensures { result ≡ goes_mid state.now segment.now }
+// As few as begin under way.
+#[inline(never)]
+fn goes_mid(state: &State, segment: &Segment, change: &mut Change)
+    requires { change.old ≡ stays state.now }
+    ensures { change.new ≡ goes_mid state.now segment.now }
 {
-    let (client, server) = if is_from(state.client, segment) {
+    let (client, server) = if is_from(&state.client, segment) {
         (segment.seq, segment.ack)
     } else {
         (segment.ack, segment.seq)
     };
-    Change {
-        phase: Phase::Mid,
-        client_base: unset(state.client_base, client),
-        server_base: unset(state.server_base, server),
-        counts: true,
-        ..stays(state)
-    }
+    change.phase = Phase::Mid;
+    change.client_base = unset(state.client_base, client);
+    change.server_base = unset(state.server_base, server);
+    change.counts = true;
 }
 
 /// The end of the client's last FIN, with this packet counted.
-pub(crate) fn client_fin_after(state: &State, segment: &Segment) -> Option<u32>
+fn client_fin_after(state: &State, segment: &Segment) -> Option<u32>
     ensures { result ≡ client_fin_after state.now segment.now }
 {
-    if segment.fin && is_from(state.client, segment) {
+    if segment.fin && is_from(&state.client, segment) {
         Some(fin_end(segment))
     } else {
         state.client_fin
@@ -161,10 +152,10 @@ pub(crate) fn client_fin_after(state: &State, segment: &Segment) -> Option<u32>
 }
 
 /// The end of the server's last FIN, with this packet counted.
-pub(crate) fn server_fin_after(state: &State, segment: &Segment) -> Option<u32>
+fn server_fin_after(state: &State, segment: &Segment) -> Option<u32>
     ensures { result ≡ server_fin_after state.now segment.now }
 {
-    if segment.fin && !is_from(state.client, segment) {
+    if segment.fin && !is_from(&state.client, segment) {
         Some(fin_end(segment))
     } else {
         state.server_fin
@@ -172,24 +163,23 @@ pub(crate) fn server_fin_after(state: &State, segment: &Segment) -> Option<u32>
 }
 
 /// Acknowledgement and data count.
-fn counts_on(state: &State, segment: &Segment) -> Change
-    ensures { result ≡ counts_on state.now segment.now }
+fn counts_on(state: &State, segment: &Segment, change: &mut Change)
+    requires { change.old ≡ stays state.now }
+    ensures { change.new ≡ counts_on state.now segment.now }
 {
     let closing = client_fin_after(state, segment).is_some()
         && server_fin_after(state, segment).is_some();
-    let phase = if closing { Phase::Closing } else { state.phase };
-    Change {
-        phase,
-        counts: true,
-        ..stays(state)
+    if closing {
+        change.phase = Phase::Closing;
     }
+    change.counts = true;
 }
 
 /// The packet acknowledges the other side's last FIN.
 fn acks_fin(state: &State, segment: &Segment) -> bool
     ensures { result ≡ acks_fin state.now segment.now }
 {
-    let fin = if is_from(state.client, segment) {
+    let fin = if is_from(&state.client, segment) {
         state.server_fin
     } else {
         state.client_fin
@@ -200,162 +190,151 @@ fn acks_fin(state: &State, segment: &Segment) -> bool
 /// The rows where there is no session.
 #[tactic(auto, unfolding(crate::specs::Phases::in_none))]
 #[inline(never)]
-pub(crate) fn in_none(segment: &Segment, needed: bool) -> Change
-    ensures { result ≡ in_none segment.now needed }
+pub(crate) fn in_none(segment: &Segment, needed: bool, change: &mut Change)
+    ensures { change.new ≡ in_none segment.now needed }
 {
     if segment.rst {
-        begins_none()
+        begins_none(change);
     } else if segment.syn && !segment.has_ack {
-        begins(Phase::Syn, segment.sender, Some(plus(segment.seq, 1)), None)
+        let base = Some(plus(segment.seq, 1));
+        begins(Phase::Syn, &segment.sender, base, None, change);
     } else if segment.syn && segment.has_ack && !needed {
+        let base = Some(plus(segment.seq, 1));
         begins(
             Phase::SynAck,
-            segment.receiver,
+            &segment.receiver,
             Some(segment.ack),
-            Some(plus(segment.seq, 1)),
-        )
+            base,
+            change,
+        );
     } else if !segment.syn && !needed {
-        begins_mid(segment)
+        begins_mid(segment, change);
     } else {
-        Change {
-            phase: Phase::Off,
-            ..begins_none()
-        }
+        begins_none(change);
+        change.phase = Phase::Off;
     }
 }
 
 /// The rows of Syn.
 #[tactic(auto, unfolding(crate::specs::Phases::in_syn))]
-#[inline(never)]
-fn in_syn(state: &State, segment: &Segment, needed: bool) -> Change
-    ensures { result ≡ in_syn state.now segment.now needed }
+fn in_syn(state: &State, segment: &Segment, needed: bool, change: &mut Change)
+    requires { change.old ≡ stays state.now }
+    ensures { change.new ≡ in_syn state.now segment.now needed }
 {
     let acked = is_base(state.client_base, segment.ack);
     if segment.rst {
-        ends(state)
+        change.ends = true;
     } else if is_from_server(state, segment) && segment.syn && segment.has_ack && acked {
-        Change {
-            phase: Phase::SynAck,
-            server_base: Some(plus(segment.seq, 1)),
-            ..stays(state)
-        }
-    } else if is_from(state.client, segment) && segment.syn && !segment.has_ack {
-        Change {
-            client_base: Some(plus(segment.seq, 1)),
-            ..stays(state)
-        }
+        change.phase = Phase::SynAck;
+        change.server_base = Some(plus(segment.seq, 1));
+    } else if is_from(&state.client, segment) && segment.syn && !segment.has_ack {
+        change.client_base = Some(plus(segment.seq, 1));
     } else if segment.has_ack && !segment.syn && !needed {
-        goes_mid(state, segment)
-    } else {
-        stays(state)
+        goes_mid(state, segment, change);
     }
 }
 
 /// The rows of SynAck.
 #[tactic(auto, unfolding(crate::specs::Phases::in_syn_ack))]
-#[inline(never)]
-fn in_syn_ack(state: &State, segment: &Segment) -> Change
-    ensures { result ≡ in_syn_ack state.now segment.now }
+fn in_syn_ack(state: &State, segment: &Segment, change: &mut Change)
+    requires { change.old ≡ stays state.now }
+    ensures { change.new ≡ in_syn_ack state.now segment.now }
 {
     if segment.rst {
-        ends(state)
+        change.ends = true;
     } else if is_from_server(state, segment) && segment.syn && segment.has_ack {
-        Change {
-            server_base: Some(plus(segment.seq, 1)),
-            ..stays(state)
-        }
-    } else if is_from(state.client, segment) && segment.has_ack && !segment.syn {
-        Change {
-            phase: Phase::Est,
-            counts: true,
-            ..stays(state)
-        }
-    } else {
-        stays(state)
+        change.server_base = Some(plus(segment.seq, 1));
+    } else if is_from(&state.client, segment) && segment.has_ack && !segment.syn {
+        change.phase = Phase::Est;
+        change.counts = true;
     }
 }
 
 /// The rows of Est and Mid.
 #[tactic(auto, unfolding(crate::specs::Phases::in_est))]
-fn in_est(state: &State, segment: &Segment) -> Change
-    ensures { result ≡ in_est state.now segment.now }
+fn in_est(state: &State, segment: &Segment, change: &mut Change)
+    requires { change.old ≡ stays state.now }
+    ensures { change.new ≡ in_est state.now segment.now }
 {
     if segment.rst {
-        ends(state)
+        change.ends = true;
     } else if !segment.syn {
-        counts_on(state, segment)
-    } else {
-        stays(state)
+        counts_on(state, segment, change);
     }
 }
 
-/// The rows of Closing.
+/// The rows of Closing: true where the session ends before the packet.
 #[tactic(auto, unfolding(crate::specs::Phases::in_closing))]
-#[inline(never)]
-fn in_closing(state: &State, segment: &Segment) -> Reading
-    ensures { result ≡ in_closing state.now segment.now }
+fn in_closing(state: &State, segment: &Segment, change: &mut Change) -> bool
+    requires { change.old ≡ stays state.now }
+    ensures { reading result change.new ≡ in_closing state.now segment.now }
 {
     if segment.rst {
-        Reading::Then(ends(state))
+        change.ends = true;
+        false
     } else if segment.syn && !segment.has_ack {
-        Reading::EndsBefore
+        true
     } else if !segment.syn {
-        Reading::Then(Change {
-            counts: true,
-            ends: acks_fin(state, segment),
-            ..stays(state)
-        })
+        change.counts = true;
+        change.ends = acks_fin(state, segment);
+        false
     } else {
-        Reading::Then(stays(state))
+        false
     }
 }
 
-/// The rows of Off.
+/// The rows of Off: true where the session ends before the packet.
 #[tactic(auto, unfolding(crate::specs::Phases::in_off))]
-#[inline(never)]
-fn in_off(state: &State, segment: &Segment) -> Reading
-    ensures { result ≡ in_off state.now segment.now }
+fn in_off(segment: &Segment, change: &mut Change) -> bool
+    ensures { (state : State) → change.old ≡ stays state
+        → reading result change.new ≡ in_off state segment.now }
 {
     if segment.syn && !segment.has_ack {
-        Reading::EndsBefore
-    } else if segment.rst {
-        Reading::Then(ends(state))
-    } else {
-        Reading::Then(stays(state))
+        return true;
     }
+    if segment.rst {
+        change.ends = true;
+    }
+    false
 }
 
 /// The rows of UDP.
 #[tactic(auto, unfolding(crate::specs::Phases::in_udp))]
-fn in_udp(state: &State, segment: &Segment) -> Change
-    ensures { result ≡ in_udp state.now segment.now }
+fn in_udp(state: &State, segment: &Segment, change: &mut Change)
+    requires { change.old ≡ stays state.now }
+    ensures { change.new ≡ in_udp state.now segment.now }
 {
     if !state.phase.is_open() {
-        begins(Phase::Syn, segment.sender, None, None)
+        begins(Phase::Syn, &segment.sender, None, None, change);
     } else if is_from_server(state, segment) {
-        Change {
-            phase: Phase::Est,
-            ..stays(state)
-        }
-    } else {
-        stays(state)
+        change.phase = Phase::Est;
     }
 }
 
-/// The row that the packet meets, by the session's phase.
+/// The row that the packet meets, by the session's phase: true where the session ends before the packet, else `change`
+/// is then what it changes.
+// What changes is written in its place: moved from call to call, it would cost more than the table.
 #[tactic(auto, unfolding(crate::specs::Phases::row_of))]
-pub(crate) fn row_of(state: &State, segment: &Segment, rules: &SessionRules) -> Reading
-    ensures { result ≡ row_of state.now segment.now rules.now }
+pub(crate) fn row_of(
+    state: &State,
+    segment: &Segment,
+    rules: &SessionRules,
+    change: &mut Change,
+) -> bool
+    ensures { reading result change.new ≡ row_of state.now segment.now rules.now }
 {
+    stays(state, change);
     if !state.tcp {
-        return Reading::Then(in_udp(state, segment));
+        in_udp(state, segment, change);
+        return false;
     }
     match state.phase {
-        Phase::NoSession => Reading::Then(in_none(segment, rules.needed_new)),
-        Phase::Syn => Reading::Then(in_syn(state, segment, rules.needed)),
-        Phase::SynAck => Reading::Then(in_syn_ack(state, segment)),
-        Phase::Est | Phase::Mid => Reading::Then(in_est(state, segment)),
-        Phase::Closing => in_closing(state, segment),
-        Phase::Off => in_off(state, segment),
+        Phase::NoSession => in_none(segment, rules.needed_new, change),
+        Phase::Syn => in_syn(state, segment, rules.needed, change),
+        Phase::SynAck => in_syn_ack(state, segment, change),
+        Phase::Est | Phase::Mid => in_est(state, segment, change),
+        Phase::Closing => return in_closing(state, segment, change),
+        Phase::Off => return in_off(segment, change),
     }
+    false
 }

@@ -1,12 +1,13 @@
 //! The session of a flow, moved on by its packets.
-ghost use Rattle.std.specs.Prelude.{◌≡◌, ℕ, true, false, if◌then◌else◌};
+ghost use Rattle.std.specs.Prelude.{◌≡◌, ℕ, Bool, ◌||◌, true, false, if◌then◌else◌};
 ghost use Rattle.stream5_sessions.specs.Phases.{IsBodyOf, segment_of, no_session, base_after, step_of, state_after};
-ghost use Rattle.stream5_sessions.specs.Phases.{taken, by_row, is_timed_out, at_hand, session_step};
+ghost use Rattle.stream5_sessions.specs.Phases.{taken, by_row, client_fin_after, is_timed_out, at_hand, reading, server_fin_after, session_step};
 ghost use Rattle.stream5_sessions.specs.Staying.{stays_as_is};
 
-use crate::rows::{client_fin_after, in_none, is_from, row_of, server_fin_after};
-use crate::segment::{Segment, segment_of};
-use crate::state::{Change, Phase, Reading, State, is_timed_out};
+use crate::End;
+use crate::rows::{in_none, is_from, row_of};
+use crate::segment::{Segment, fin_end, segment_of};
+use crate::state::{Change, Phase, State, is_timed_out};
 use crate::staying::{staying_step, stays_as_is};
 use crate::step::{SessionRules, Step};
 use edge_io::Moment;
@@ -55,8 +56,30 @@ impl Session {
         ensures session { self.new ≡ (session_step self.old (segment_of ip.now body.now len moment) rules).state }
         ensures protocol { self.new.tcp ≡ self.old.tcp }
     {
+        let mut step = Step::default();
+        self.take(ip, body, len, moment, &rules, &mut step);
+        step
+    }
+
+    /// Takes one packet as `step` does, which writes there what the packet tells.
+    // It is written in its place: answered, it would be moved from call to call.
+    #[tactic(auto, using(crate::proofs::StepLaws::session_step_tcp))]
+    pub fn take(
+        &mut self,
+        ip: &IpHead,
+        body: &Body,
+        len: usize,
+        moment: Moment,
+        rules: &SessionRules,
+        step: &mut Step,
+    )
+        requires { IsBodyOf self.old.tcp body.now }
+        ensures step { step.new ≡ (session_step self.old (segment_of ip.now body.now len moment) rules.now).step }
+        ensures session { self.new ≡ (session_step self.old (segment_of ip.now body.now len moment) rules.now).state }
+        ensures protocol { self.new.tcp ≡ self.old.tcp }
+    {
         let segment = segment_of(ip, body, len, moment, self.state.tcp);
-        session_step(&mut self.state, &segment, &rules)
+        session_step(&mut self.state, &segment, rules, step);
     }
 
     /// Takes one packet of the flow where it leaves the session as it is, but for the moment of its last packet.
@@ -120,106 +143,98 @@ fn base_after(new: Option<u32>, old: Option<u32>) -> Option<u32>
 }
 
 /// What the packet tells.
-fn step_of(ended_before: bool, state: &State, change: Change, segment: &Segment) -> Step
-    ensures { result ≡ step_of ended_before state.now change segment.now }
+fn tell(ended_before: bool, state: &State, change: &Change, segment: &Segment, step: &mut Step)
+    ensures { step.new ≡ step_of ended_before state.now change.now segment.now }
 {
-    let from_client = match change.client {
+    step.ended_before = ended_before;
+    step.begun = !state.phase.is_open() && change.phase.is_open();
+    step.tracked = change.phase.is_open();
+    step.established = change.phase.is_established();
+    step.from_client = match &change.client {
         Some(client) => Some(client.is(segment.sender)),
         None => None,
     };
-    Step {
-        ended_before,
-        begun: !state.phase.is_open() && change.phase.is_open(),
-        tracked: change.phase.is_open(),
-        established: change.phase.is_established(),
-        from_client,
-        takes_data: change.counts,
-        counts_ack: change.counts && segment.has_ack,
-        ends: change.ends,
-        client_base: change.client_base,
-        server_base: change.server_base,
-    }
+    step.takes_data = change.counts;
+    step.counts_ack = change.counts && segment.has_ack;
+    step.ends = change.ends;
+    step.client_base = change.client_base;
+    step.server_base = change.server_base;
 }
 
-/// The ends of both sides' last FINs, with the packet counted where its data count.
-fn fins_after(state: &State, change: Change, segment: &Segment) -> (Option<u32>, Option<u32>)
-    ensures { result ≡ (
-      (state_after state.now change segment.now).client_fin,
-      (state_after state.now change segment.now).server_fin,
-    ) }
+/// Notes the end of a FIN that counts, with this client.
+fn note_fin(state: &mut State, client: &Option<End>, segment: &Segment)
+    ensures { state.new ≡ record state.old {
+      client_fin = client_fin_after (record state.old { client = client.now }) segment.now;
+      server_fin = server_fin_after (record state.old { client = client.now }) segment.now;
+    } }
 {
-    if change.counts {
-        let now = State {
-            client: change.client,
-            ..*state
-        };
-        (
-            client_fin_after(&now, segment),
-            server_fin_after(&now, segment),
-        )
+    if !segment.fin {
+        return;
+    }
+    let end = Some(fin_end(segment));
+    if is_from(client, segment) {
+        state.client_fin = end;
     } else {
-        (state.client_fin, state.server_fin)
+        state.server_fin = end;
     }
 }
 
 /// The session goes on after a packet that doesn't end it.
-fn go_on(state: &mut State, change: Change, segment: &Segment)
-    ensures { state.new ≡ state_after state.old change segment.now }
+fn go_on(state: &mut State, change: &Change, segment: &Segment)
+    ensures { state.new ≡ state_after state.old change.now segment.now }
 {
-    let (client_fin, server_fin) = fins_after(state, change, segment);
+    if change.counts {
+        note_fin(state, &change.client, segment);
+    }
     state.phase = change.phase;
     state.client = change.client;
     state.client_base = base_after(change.client_base, state.client_base);
     state.server_base = base_after(change.server_base, state.server_base);
-    state.client_fin = client_fin;
-    state.server_fin = server_fin;
     state.last = segment.moment;
 }
 
 /// What the packet tells; the session is then as it is after it.
 // It goes on in its place: moved from call to call, it would cost more than the table.
 #[tactic(auto, unfolding(crate::specs::Phases::taken))]
-fn taken(ended_before: bool, state: &mut State, change: Change, segment: &Segment) -> Step
-    ensures step { result ≡ (taken ended_before state.old change segment.now).step }
-    ensures state { state.new ≡ (taken ended_before state.old change segment.now).state }
+fn taken(ended_before: bool, state: &mut State, change: &Change, segment: &Segment, step: &mut Step)
+    ensures step { step.new ≡ (taken ended_before state.old change.now segment.now).step }
+    ensures state { state.new ≡ (taken ended_before state.old change.now segment.now).state }
 {
-    let step = step_of(ended_before, state, change, segment);
+    tell(ended_before, state, change, segment, step);
     if change.ends {
         *state = none(state.tcp, segment.moment);
     } else {
         go_on(state, change, segment);
     }
-    step
 }
 
-/// What the packet tells, by the row that it meets.
-fn by_row(
-    timed_out: bool,
+/// Where the session ends before the packet, none stands, and the row is that of none: what is read is then a change.
+fn end_before(
+    ends_before: bool,
     state: &mut State,
-    reading: Reading,
+    change: &mut Change,
     segment: &Segment,
     needed_new: bool,
-) -> Step
-    ensures step { result ≡ (by_row timed_out state.old reading segment.now needed_new).step }
-    ensures state { state.new ≡ (by_row timed_out state.old reading segment.now needed_new).state }
+)
+    ensures { (timed_out : Bool) → taken (timed_out || ends_before) state.new change.new segment.now
+        ≡ by_row timed_out state.old (reading ends_before change.old) segment.now needed_new }
 {
-    match reading {
-        Reading::Then(change) => taken(timed_out, state, change, segment),
-        Reading::EndsBefore => {
-            *state = none(state.tcp, state.last);
-            taken(true, state, in_none(segment, needed_new), segment)
-        }
+    if ends_before {
+        *state = none(state.tcp, state.last);
+        in_none(segment, needed_new, change);
     }
 }
 
 /// One packet of a session.
 #[tactic(auto, unfolding(crate::specs::Phases::session_step))]
-fn session_step(state: &mut State, segment: &Segment, rules: &SessionRules) -> Step
-    ensures step { result ≡ (session_step state.old segment.now rules.now).step }
+fn session_step(state: &mut State, segment: &Segment, rules: &SessionRules, step: &mut Step)
+    ensures step { step.new ≡ (session_step state.old segment.now rules.now).step }
     ensures state { state.new ≡ (session_step state.old segment.now rules.now).state }
 {
     let timed_out = is_timed_out(state, segment.moment, rules);
     meet(state, segment, rules);
-    let reading = row_of(state, segment, rules);
-    by_row(timed_out, state, reading, segment, rules.needed_new)
+    let mut change = Change::NONE;
+    let ends_before = row_of(state, segment, rules, &mut change);
+    end_before(ends_before, state, &mut change, segment, rules.needed_new);
+    taken(timed_out || ends_before, state, &change, segment, step);
 }

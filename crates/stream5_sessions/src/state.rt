@@ -75,12 +75,16 @@ pub(crate) struct Change {
     pub ends: bool,
 }
 
-/// What follows a packet in a phase.
-#[derive(Clone, Copy, Debug, PartialEq, Eq)]
-pub(crate) enum Reading {
-    Then(Change),
-    /// The session ends before the packet, which is then read where there is no session.
-    EndsBefore,
+impl Change {
+    /// No session stands then, and the packet tells nothing.
+    pub const NONE: Change = Change {
+        phase: Phase::NoSession,
+        client: None,
+        client_base: None,
+        server_base: None,
+        counts: false,
+        ends: false,
+    };
 }
 
 /// At this moment the last packet lies further back than the timeout.

@@ -27,6 +27,6 @@ returns-clause-items c =
     let p = packet_of c.args.p.now in
     let found = session_at_hand c.args.found.now in
     let session = session_at_hand c.enter.new.found in
-    items-on (making_of c.args.settings.now) p c.args.step.now c.args.state found session c.in_ok-left.left c.in_ok-queued.queued c.own_facts.result c.args.out.now.items c.accept_packet.new.out.items
+    items-on (making_of c.args.settings.now) p c.args.step.now c.args.state.now found session c.in_ok-left.left c.in_ok-queued.queued c.own_facts.result c.args.out.now.items c.accept_packet.new.out.items
     c.in_ok-left.ensures.left (c.enter.ensures.session found c.in_ok-left.ensures.session) c.in_ok-queued.ensures.items c.in_ok-queued.ensures.queued
     (c.own_facts.ensures (session_behind p c.args.step.now session) c.in_ok-queued.ensures.sizes)

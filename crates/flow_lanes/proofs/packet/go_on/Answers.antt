@@ -24,8 +24,8 @@ returns-clause-tallies g c =
     let step = c.args.step.now in
     let old = c.args.found.now in
     let own = own_item p c.in_ok-own.own in
-    gains-on making p step c.args.state (c.push_current.new.out.items ++ own) old c.push_current.new.found
-    (c.in_ok-own.ensures.items ∙ ap (λ (xs : List Item). xs ++ items_on making p step c.args.state (session_at_hand old)) c.new-items.ensures.items)
+    gains-on making p step c.args.state.now (c.push_current.new.out.items ++ own) old c.push_current.new.found
+    (c.in_ok-own.ensures.items ∙ ap (λ (xs : List Item). xs ++ items_on making p step c.args.state.now (session_at_hand old)) c.new-items.ensures.items)
     c.in_ok-own.ensures.bits by (so_far c.args.tally.now) (so_far c.try_and_settle.new.tally)
     (subst (λ (xs : List Item). Tallies by (of_session (bits_now step.tracked c.push_current.new.found) (xs ++ own)) (so_far c.args.tally.now) (so_far c.try_and_settle.new.tally))
     c.deref.ensures.value c.in_ok-try_and_settle.ensures.tallies)
@@ -37,7 +37,7 @@ returns-clause-goes g c = λ means trying tried.
     let step = c.args.step.now in
     let old = c.args.found.now in
     let own = own_item p c.in_ok-own.own in
-    goes-on making p step c.args.state (c.push_current.new.out.items ++ own) old c.push_current.new.found
-    (c.in_ok-own.ensures.items ∙ ap (λ (xs : List Item). xs ++ items_on making p step c.args.state (session_at_hand old)) c.new-items.ensures.items)
+    goes-on making p step c.args.state.now (c.push_current.new.out.items ++ own) old c.push_current.new.found
+    (c.in_ok-own.ensures.items ∙ ap (λ (xs : List Item). xs ++ items_on making p step c.args.state.now (session_at_hand old)) c.new-items.ensures.items)
     c.in_ok-own.ensures.bits trying c.try_and_settle.new.found c.in_ok-own.ensures.state
     (subst (λ (xs : List Item). Settles trying (xs ++ own) step c.push_current.new.found c.try_and_settle.new.found) c.deref.ensures.value (c.in_ok-try_and_settle.ensures.settles means trying tried))

@@ -21,23 +21,23 @@ returns-in_err-go_on-clause-grows g c = λ places h.
     let p = packet_of c.args.p.now in
     let found = session_at_hand c.args.found.now in
     let tcp = is_tcp c.args.p.now.head.now.body in
-    c.go_on.ensures.grows tcp places (ap (λ (s : State). s.tcp) c.step_and_state-state.ensures.state ∙ state_of-tcp (making_of c.args.settings.now) p found ∙ state_found-tcp p found c.requires.found.same) (c.end_before.ensures.keeps tcp places h)
+    c.go_on.ensures.grows tcp places (ap (λ (s : State). s.tcp) c.take_step.ensures.state ∙ state_of-tcp (making_of c.args.settings.now) p found ∙ state_found-tcp p found c.requires.found.same) (c.end_before.ensures.keeps tcp places h)
 
 pub returns-clause-grows : goal.returns-clause-grows
 returns-clause-grows g c = λ places h.
     let p = packet_of c.args.p.now in
     let found = session_at_hand c.args.found.now in
     let tcp = is_tcp c.args.p.now.head.now.body in
-    c.go_on.ensures.grows tcp places (ap (λ (s : State). s.tcp) c.step_and_state-state.ensures.state ∙ state_of-tcp (making_of c.args.settings.now) p found ∙ state_found-tcp p found c.requires.found.same) (c.end_before.ensures.keeps tcp places h)
+    c.go_on.ensures.grows tcp places (ap (λ (s : State). s.tcp) c.take_step.ensures.state ∙ state_of-tcp (making_of c.args.settings.now) p found ∙ state_found-tcp p found c.requires.found.same) (c.end_before.ensures.keeps tcp places h)
 
 pub returns-clause-tallies : goal.returns-clause-tallies
 returns-clause-tallies g c =
     let p = packet_of c.args.p.now in
     let making = making_of c.args.settings.now in
-    let step = c.step_and_state-state.result.0 in
+    let step = c.take_step.new.step in
     let anew : step.ended_before ≡ true → step.begun ≡ step.tracked =
-    subst (λ (s : Step). s.ended_before ≡ true → s.begun ≡ s.tracked) (sym c.step_and_state-state.ensures.step) (fresh making p (session_at_hand c.args.found.now)) in
-    told-gain making p c.args.found.now c.end_before.new.found step c.step_and_state-state.result.1 c.step_and_state-state.ensures.step c.step_and_state-state.ensures.state anew
+    subst (λ (s : Step). s.ended_before ≡ true → s.begun ≡ s.tracked) (sym c.take_step.ensures.step) (fresh making p (session_at_hand c.args.found.now)) in
+    told-gain making p c.args.found.now c.end_before.new.found step c.take_step.new.state c.take_step.ensures.step c.take_step.ensures.state anew
     c.in_ok-end_before.ensures.found
     (inspection_of g.P.Pattern.finds c.args.inspector.now) (so_far c.args.tally.now) (so_far c.end_before.new.tally) (so_far c.go_on.new.tally) c.in_ok-end_before.ensures.tallies
     c.in_ok-go_on.ensures.tallies
@@ -46,9 +46,9 @@ pub returns-clause-leaves : goal.returns-clause-leaves
 returns-clause-leaves g c = λ means trying tried.
     let p = packet_of c.args.p.now in
     let making = making_of c.args.settings.now in
-    let step = c.step_and_state-state.result.0 in
+    let step = c.take_step.new.step in
     let anew : step.ended_before ≡ true → step.begun ≡ step.tracked =
-    subst (λ (s : Step). s.ended_before ≡ true → s.begun ≡ s.tracked) (sym c.step_and_state-state.ensures.step) (fresh making p (session_at_hand c.args.found.now)) in
-    told-on making p c.args.found.now c.end_before.new.found step c.step_and_state-state.result.1 c.step_and_state-state.ensures.step c.step_and_state-state.ensures.state anew
+    subst (λ (s : Step). s.ended_before ≡ true → s.begun ≡ s.tracked) (sym c.take_step.ensures.step) (fresh making p (session_at_hand c.args.found.now)) in
+    told-on making p c.args.found.now c.end_before.new.found step c.take_step.new.state c.take_step.ensures.step c.take_step.ensures.state anew
     c.in_ok-end_before.ensures.found
     trying c.go_on.new.found (c.in_ok-go_on.ensures.goes means trying tried)

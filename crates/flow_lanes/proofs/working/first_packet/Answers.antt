@@ -15,8 +15,8 @@ use Rattle.flow_lanes.proofs.Jobs.KeptIn.{put-new, sets-from}
 use Rattle.flow_lanes.proofs.Sessions.IsKeptBy.{sound-first}
 use Rattle.flow_lanes.proofs.working.first_packet.Goals as goal
 
-pub packet-requires-clause-sound : goal.packet-requires-clause-sound
-packet-requires-clause-sound g c κs sound =
+pub begin-requires-clause-sound : goal.begin-requires-clause-sound
+begin-requires-clause-sound g c κs sound =
     let empty = put-new c.args.flow c.args.flows.now.entries (entry_value c.in_ok-flows.field-0) c.new.result c.or_insert-kept.result.now c.in_ok-flows.ensures.value c.requires.first c.or_insert-kept.ensures.value in
     sound-first (length c.args.settings.now.stream.now.engines) (packet_of c.args.p.now) c.or_insert-kept.result.now.facts (ap (λ (k : KeptFlow). k.facts) empty ∙ c.new.ensures.facts) c.requires.sound
 
@@ -26,7 +26,7 @@ returns g c =
     let by = inspection_of g.P.Pattern.finds c.args.inspector.now in
     let making = making_of c.args.settings.now in
     let old = c.args.flows.now.entries in
-    let kept = c.packet.new.self in
+    let kept = c.begin.new.self in
     let put = (map_with_value c.in_ok-flows.field-0 kept).entries in
     let given = so_far c.in_ok-tally.tally in
     let empty = put-new c.args.flow old (entry_value c.in_ok-flows.field-0) c.new.result c.or_insert-kept.result.now c.in_ok-flows.ensures.value c.requires.first c.or_insert-kept.ensures.value in
@@ -36,7 +36,7 @@ returns g c =
     (sets-from c.args.flow (Some kept) old put (λ other. (c.in_ok-flows.ensures.update.0 kept).0 other))
     (subst (λ (f : Option FlowState). Tallied by (gain_of making (packet_of p) f) given) none c.in_ok-tally.ensures.tallied)
     (λ means trying tried. subst (λ (f : Option FlowState). Leaves trying making (packet_of p) f kept.found) none (c.in_ok-tally.ensures.leaves means trying tried))
-    (c.packet.ensures.facts ∙ ap (λ (f : FlowFacts). record { ends = f.ends; packets = f.packets + 1 }) (ap (λ (k : KeptFlow). k.facts) empty ∙ c.new.ensures.facts)) in
+    (c.begin.ensures.facts ∙ ap (λ (f : FlowFacts). record { ends = f.ends; packets = f.packets + 1 }) (ap (λ (k : KeptFlow). k.facts) empty ∙ c.new.ensures.facts)) in
     subst
     (λ (new : List (ℕ × KeptFlow)). IsDone by making p.moment (works.Packet c.args.flow p.head.now p.payload.now p.to_dst p.to_src) old new given)
     (search rules) done
