@@ -35,8 +35,8 @@ unfolding marked_msg rule_mark
 marked_msg-pieces gid sid rev msg = simp append_assoc
 
 -- what was there is the front of what was appended to it
-pub take-behind : (old middle front new : List ℕ) → middle ≡ old ++ front → new ≡ middle → take (length old) new ≡ old
-take-behind old middle front new is same = ap (take (length old)) (same ∙ is) ∙ take-append_seam old front
+pub take-following : (old middle front new : List ℕ) → middle ≡ old ++ front → new ≡ middle → take (length old) new ≡ old
+take-following old middle front new is same = ap (take (length old)) (same ∙ is) ∙ take-append_seam old front
 
 -- what was there is the front of what keeps all that began with it
 pub take-kept : (old middle front new : List ℕ) → middle ≡ old ++ front → take (length middle) new ≡ middle → take (length old) new ≡ old

@@ -185,12 +185,12 @@ fn destination_port(body: Body) -> Option<u16>
 
 // The port after a colon, where there is one, and then these bytes.
 #[tactic(auto, unfolding(crate::specs::Line::port_text))]
-fn push_port(port: Option<u16>, behind: &[u8], out: &mut Vec<u8>) -> Result<(), NoMemory>
-    ensures appended { OnOk result (out.new.items ≡ out.old.items ++ (port_text port ++ behind.now)) }
+fn push_port(port: Option<u16>, following: &[u8], out: &mut Vec<u8>) -> Result<(), NoMemory>
+    ensures appended { OnOk result (out.new.items ≡ out.old.items ++ (port_text port ++ following.now)) }
     ensures unchanged { OnErr result (out.new.items ≡ out.old.items) }
 {
     match port {
-        None => push_pieces(out, &[Bytes(behind)]),
-        Some(port) => push_pieces(out, &[Bytes(b":"), Number(port as u64), Bytes(behind)]),
+        None => push_pieces(out, &[Bytes(following)]),
+        Some(port) => push_pieces(out, &[Bytes(b":"), Number(port as u64), Bytes(following)]),
     }
 }

@@ -13,8 +13,8 @@ fn date(text: &[u8]) -> Option<((u8, u8), &[u8])>
     ensures { MatchOption result (NoFront ArePair date_text text.now)
         (λ p. IsFront ArePair date_text text.now p.0 p.1.now) }
 {
-    let (month, behind) = two_to(text, b'/')?;
-    let (day, rest) = two_to(behind, b'-')?;
+    let (month, following) = two_to(text, b'/')?;
+    let (day, rest) = two_to(following, b'-')?;
     Some(((month, day), rest))
 }
 
@@ -23,8 +23,8 @@ fn hour(text: &[u8]) -> Option<((u8, u8), &[u8])>
     ensures { MatchOption result (NoFront ArePair hour_text text.now)
         (λ p. IsFront ArePair hour_text text.now p.0 p.1.now) }
 {
-    let (first, behind) = two_to(text, b':')?;
-    let (minute, rest) = two_to(behind, b':')?;
+    let (first, following) = two_to(text, b':')?;
+    let (minute, rest) = two_to(following, b':')?;
     Some(((first, minute), rest))
 }
 
@@ -33,8 +33,8 @@ fn second(text: &[u8]) -> Option<((u8, u32), &[u8])>
     ensures { MatchOption result (NoFront AreSeconds second_text text.now)
         (λ p. IsFront AreSeconds second_text text.now p.0 p.1.now) }
 {
-    let (first, behind) = two_to(text, b'.')?;
-    let (micros, rest) = six_to(behind, b' ')?;
+    let (first, following) = two_to(text, b'.')?;
+    let (micros, rest) = six_to(following, b' ')?;
     Some(((first, micros), rest))
 }
 
@@ -43,8 +43,8 @@ fn stamp(text: &[u8]) -> Option<(((u8, u8), ((u8, u8), (u8, u32))), &[u8])>
     ensures { MatchOption result (NoFront AreStamp stamp_text text.now)
         (λ p. IsFront AreStamp stamp_text text.now p.0 p.1.now) }
 {
-    let (day, behind) = date(text)?;
-    let (clock, later) = hour(behind)?;
+    let (day, following) = date(text)?;
+    let (clock, later) = hour(following)?;
     let (parts, rest) = second(later)?;
     Some(((day, (clock, parts)), rest))
 }
@@ -99,8 +99,8 @@ fn numbers(text: &[u8]) -> Option<((u32, (u32, u32)), &[u8])>
     ensures { MatchOption result (NoFront AreNumbers numbers_text text.now)
         (λ p. IsFront AreNumbers numbers_text text.now p.0 p.1.now) }
 {
-    let (gid, behind) = number_to(text, b':')?;
-    let (sid, later) = number_to(behind, b':')?;
+    let (gid, following) = number_to(text, b':')?;
+    let (sid, later) = number_to(following, b':')?;
     let (rev, rest) = number_to(later, b']')?;
     Some(((gid, (sid, rev)), rest))
 }
@@ -110,8 +110,8 @@ pub(crate) fn head(text: &[u8]) -> Option<((LineTime, (u32, (u32, u32))), &[u8])
     ensures { MatchOption result (NoFront IsHead head_text text.now)
         (λ p. IsFront IsHead head_text text.now p.0 p.1.now) }
 {
-    let (when, behind) = time(text)?;
-    let after = skip(behind, b" [**] [")?;
+    let (when, following) = time(text)?;
+    let after = skip(following, b" [**] [")?;
     let (marks, later) = numbers(after)?;
     let rest = skip(later, b" ")?;
     Some(((when, marks), rest))

@@ -76,8 +76,8 @@ pub(crate) fn ranked(text: &[u8]) -> Option<((u32, u8), &[u8])>
     ensures { MatchOption result (NoFront IsRanked ranked_text text.now)
         (λ p. IsFront IsRanked ranked_text text.now p.0 p.1.now) }
 {
-    let (priority, behind) = number_to(text, b']')?;
-    let after = skip(behind, b" {")?;
+    let (priority, following) = number_to(text, b']')?;
+    let after = skip(following, b" {")?;
     let (named, later) = protocol_to(after)?;
     let rest = skip(later, b" ")?;
     Some(((priority, named), rest))
@@ -87,8 +87,8 @@ pub(crate) fn ranked(text: &[u8]) -> Option<((u32, u8), &[u8])>
 pub(crate) fn arrow(text: &[u8]) -> Option<(&[u8], &[u8])>
     ensures { MatchOption result (NoArrow text.now) (λ p. IsArrow text.now p.0.now p.1.now) }
 {
-    let (from, behind) = word(text, b' ')?;
-    let back = skip(behind, b"-> ")?;
+    let (from, following) = word(text, b' ')?;
+    let back = skip(following, b"-> ")?;
     let (to, left) = word(back, b'\n')?;
     if left.is_empty() {
         Some((from, to))

@@ -86,7 +86,7 @@ text_of_value d text is utf8 whole shallow =
     record {
       utf8 = subst IsUtf8 (is ∙ sym same) utf8;
       one_line = one_line d whole;
-      stands = ap json.document same ∙ document-print (outline d) numbers (omega arith);
+      holds = ap json.document same ∙ document-print (outline d) numbers (omega arith);
       reads = ap (option_and_then of_json)
           (ap (option_and_then (λ p. json.if_last p.0 p.1)) (ap (json.value max_depth) found ∙ value-json_tokens (outline d) max_depth [] low))
           ∙ of_json-outline d whole;

@@ -39,7 +39,7 @@ IsOneLine text = All (λ (byte : ℕ). 32 ≤ byte) text
 pub record IsTextOf (value : Data) (text : List ℕ) : Type 0 where
   pub utf8 : IsUtf8 text
   pub one_line : IsOneLine text
-  pub stands : document text ≡ Some (outline value)
+  pub holds : document text ≡ Some (outline value)
   pub reads : read text ≡ Some (settled value)
 
 -- each number of the value is whole, and has at most 64 bits

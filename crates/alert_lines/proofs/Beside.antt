@@ -41,10 +41,10 @@ pub carried-append : {S X A : Type 0} (f : List X → X → List A) (before : Li
 carried-append f before [] back = ap (λ b. carried f b back) (sym (append-nil before))
 carried-append f before (b ∷ front) back =
     let one = map (beside b.source) (f before b.what) in
-    let behind = before ++ b.what ∷ [] in
-    ap (λ x. one ++ x) (carried-append f behind front back)
-    ∙ sym (append_assoc one (carried f behind front) (carried f (behind ++ whats front) back))
-    ∙ ap (λ x. (one ++ carried f behind front) ++ carried f x back) (append_assoc before (b.what ∷ []) (whats front))
+    let after = before ++ b.what ∷ [] in
+    ap (λ x. one ++ x) (carried-append f after front back)
+    ∙ sym (append_assoc one (carried f after front) (carried f (after ++ whats front) back))
+    ∙ ap (λ x. (one ++ carried f after front) ++ carried f x back) (append_assoc before (b.what ∷ []) (whats front))
 
 -- beside one source
 pub carried-beside : {S X A : Type 0} (f : List X → X → List A) (before : List X) (source : S) (xs : List X)
@@ -117,11 +117,11 @@ by_place-same source same place (x ∷ xs) is =
 
 -- ---- the places of answers
 
-get_behind : {X : Type 0} (front back : List X) (i : ℕ) → slice_get (front ++ back) (length front + i) ≡ slice_get back i
-get_behind [] back i = ap (slice_get back) (omega arith)
-get_behind (x ∷ front) back i =
+get_after : {X : Type 0} (front back : List X) (i : ℕ) → slice_get (front ++ back) (length front + i) ≡ slice_get back i
+get_after [] back i = ap (slice_get back) (omega arith)
+get_after (x ∷ front) back i =
     let is : length (x ∷ front) + i ≡ suc (length front + i) = omega arith in
-    ap (slice_get (x ∷ (front ++ back))) is ∙ get_behind front back i
+    ap (slice_get (x ∷ (front ++ back))) is ∙ get_after front back i
 
 get_replicate : {X : Type 0} (n : ℕ) (x : X) (back : List X) (i : ℕ) → i < n → slice_get (replicate n x ++ back) i ≡ Some x
 get_replicate zero x back i lt = absurd (omega (arith, lt))
@@ -134,9 +134,9 @@ source_there : {S : Type 0} (front : List S) (x : S) (later : List S) (last : S)
 source_there front x later last places count more i lt =
     let start : length front ≡ length front + 0 = omega arith in
     ap (λ found. unwrap_or (option_and_then (slice_get (front ++ x ∷ later)) found) last)
-    (get_behind places (replicate count (length front) ++ more) i ∙ get_replicate count (length front) more i lt)
+    (get_after places (replicate count (length front) ++ more) i ∙ get_replicate count (length front) more i lt)
     ∙ ap (λ n. unwrap_or (slice_get (front ++ x ∷ later) n) last) start
-    ∙ ap (λ found. unwrap_or found last) (get_behind front (x ∷ later) 0)
+    ∙ ap (λ found. unwrap_or found last) (get_after front (x ∷ later) 0)
 
 sources_from : {S A : Type 0} (f : List S → S → List A) (last : S) (front rest : List S) (places : List ℕ) (before : List S)
     → by_place (source_in (front ++ rest) last (places ++ places_along f before (length front) rest)) (length places) (trail_from f before rest)
@@ -144,12 +144,12 @@ sources_from : {S A : Type 0} (f : List S → S → List A) (last : S) (front re
 sources_from f last front [] places before = refl
 sources_from f last front (x ∷ rest) places before =
     let one = f before x in
-    let behind = before ++ x ∷ [] in
+    let after = before ++ x ∷ [] in
     let here = replicate (length one) (length front) in
-    let more = places_along f behind (length front + 1) rest in
+    let more = places_along f after (length front + 1) rest in
     let all = places ++ (here ++ more) in
     let source = source_in (front ++ x ∷ rest) last all in
-    let later = trail_from f behind rest in
+    let later = trail_from f after rest in
     let passed : length places + length one ≡ length (places ++ here) =
     sym (length-append places here ∙ ap (λ n. length places + n) (length-replicate (length one) (length front))) in
     let counted : length front + 1 ≡ length (front ++ x ∷ []) = sym (length-append front (x ∷ [])) in
@@ -159,8 +159,8 @@ sources_from f last front (x ∷ rest) places before =
     (ap (λ n. by_place source n later) passed
     ∙ ap (λ l. by_place (source_in l last all) (length (places ++ here)) later) (sym (append_assoc front (x ∷ []) rest))
     ∙ ap (λ p. by_place (source_in ((front ++ x ∷ []) ++ rest) last p) (length (places ++ here)) later) (sym (append_assoc places here more))
-    ∙ ap (λ n. by_place (source_in ((front ++ x ∷ []) ++ rest) last ((places ++ here) ++ places_along f behind n rest)) (length (places ++ here)) later) counted
-    ∙ sources_from f last (front ++ x ∷ []) rest (places ++ here) behind)
+    ∙ ap (λ n. by_place (source_in ((front ++ x ∷ []) ++ rest) last ((places ++ here) ++ places_along f after n rest)) (length (places ++ here)) later) counted
+    ∙ sources_from f last (front ++ x ∷ []) rest (places ++ here) after)
 
 -- the answers to inputs, each beside the input whose place is told for it
 pub sources_are : {S A : Type 0} (f : List S → S → List A) (last : S) (before xs : List S)

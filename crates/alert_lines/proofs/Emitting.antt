@@ -3,19 +3,19 @@ use Rattle.std.proofs.Common.{◌≡◌, ℕ, ◌≤◌, List, [], ◌++◌, Opt
 use Rattle.std.specs.Prelude.{⊤, OnOk}
 use Rattle.std.proofs.lemmas.Bool.Decides.{nat_tests}
 use Rattle.std.proofs.lemmas.List.{append-nil}
-use Rattle.edge_io.specs.Told.{behind, Rose}
-use Rattle.edge_io.proofs.Told.{behind-nil, behind-behind}
+use Rattle.edge_io.specs.Told.{grown, Rose}
+use Rattle.edge_io.proofs.Told.{grown-nil, grown-grown}
 use Rattle.alert_lines.specs.declared.fault.WriteFault.{WriteFault}
 use Rattle.alert_lines.specs.declared.fault.WriteFault.TheVariants as write
 use Rattle.alert_lines.specs.Written.{WritesPart}
 use Rattle.alert_lines.specs.Gathering.{Gathers, Sending, Emits, EmitsAny, EmitsBy}
-use Rattle.alert_lines.proofs.Prefixes.{WritesPart-behind, WritesPart-longer, WritesPart-none, WritesPart-take}
+use Rattle.alert_lines.proofs.Prefixes.{WritesPart-after, WritesPart-longer, WritesPart-none, WritesPart-take}
 
 -- ---- texts that wait in a block
 
 -- a text came after the block, and waits
 gathers_waits : (text : List ℕ) (old new : Sending) → new.block ≡ old.block ++ text → new.written ≡ old.written → Gathers text old new
-gathers_waits text old new waits same = record { part = []; joined = sym waits; wrote = same ∙ sym (behind-nil old.written) }
+gathers_waits text old new waits same = record { part = []; joined = sym waits; wrote = same ∙ sym (grown-nil old.written) }
 
 -- a text came, and then another one
 gathers_both : (first second : List ℕ) (old middle new : Sending) → Gathers first old middle → Gathers second middle new → Gathers (first ++ second) old new
@@ -26,7 +26,7 @@ gathers_both first second old middle new one two = record {
       ∙ append_assoc one.part middle.block second
       ∙ ap (λ (x : List ℕ). one.part ++ x) two.joined
       ∙ sym (append_assoc one.part two.part new.block);
-  wrote = two.wrote ∙ ap (λ (x : Option (List ℕ)). behind x two.part) one.wrote ∙ behind-behind old.written one.part two.part;
+  wrote = two.wrote ∙ ap (λ (x : Option (List ℕ)). grown x two.part) one.wrote ∙ grown-grown old.written one.part two.part;
 }
 
 -- a text came, and then a part of what waits and of another text was written
@@ -35,12 +35,12 @@ gathers_part : (first second : List ℕ) (old middle : Sending) (new : Option (L
 gathers_part first second old middle new one part =
     let joined : one.part ++ (middle.block ++ second) ≡ old.block ++ (first ++ second) =
     sym (append_assoc one.part middle.block second) ∙ ap (λ (x : List ℕ). x ++ second) (sym one.joined) ∙ append_assoc old.block first second in
-    subst (λ (x : List ℕ). WritesPart old.written x new) joined (WritesPart-behind old.written middle.written new one.part (middle.block ++ second) one.wrote part)
+    subst (λ (x : List ℕ). WritesPart old.written x new) joined (WritesPart-after old.written middle.written new one.part (middle.block ++ second) one.wrote part)
 
 -- where no text waits before and afterwards, it was written
-pub gathers_settled : (text : List ℕ) (old new : Sending) → old.block ≡ [] → new.block ≡ [] → Gathers text old new → new.written ≡ behind old.written text
+pub gathers_settled : (text : List ℕ) (old new : Sending) → old.block ≡ [] → new.block ≡ [] → Gathers text old new → new.written ≡ grown old.written text
 gathers_settled text old new before after came =
-    came.wrote ∙ ap (behind old.written)
+    came.wrote ∙ ap (grown old.written)
     (sym (append-nil came.part) ∙ ap (λ (x : List ℕ). came.part ++ x) (sym after) ∙ sym came.joined ∙ ap (λ (x : List ℕ). x ++ text) before)
 
 -- ---- one step
@@ -70,7 +70,7 @@ emits_nothing text old new written faults =
     (λ is. absurd cc) (omega (arith, faults))
 
 -- all that waits was offered, and a part of it was written
-pub offered_part : {A : Type 0} (old new : Sending) (count : ℕ) → new.written ≡ behind old.written (take count old.block) → Rose old.faults new.faults → old.faults ≤ new.faults
+pub offered_part : {A : Type 0} (old new : Sending) (count : ℕ) → new.written ≡ grown old.written (take count old.block) → Rose old.faults new.faults → old.faults ≤ new.faults
     → Emits {A = A} [] old new (Err write.Unwritten)
 offered_part old new count wrote rose later =
     partly (λ known. WritesPart-longer old.written new.written old.block [] (WritesPart-take old.written new.written count old.block wrote)) (λ is. rose) later

@@ -23,7 +23,7 @@ use Rattle.alert_lines.specs.Beside.{beside, by_place, carried, whats}
 use Rattle.alert_lines.specs.Events.{hit_count}
 use Rattle.alert_lines.specs.Lines.{text_of, texts_from}
 use Rattle.alert_lines.specs.Matching.{AreMatchesOf, ShowsMatches, matched_sourced}
-use Rattle.alert_lines.specs.Showing.{EventsStand, Showing, Shows, SourcedItem, sending_of, items_lines, tally_of}
+use Rattle.alert_lines.specs.Showing.{IsWriterAfter, Showing, Shows, SourcedItem, sending_of, items_lines, tally_of}
 use Rattle.alert_lines.specs.Sourcing.{sourced_items}
 use Rattle.alert_lines.specs.Events.{event_at, filtered_item, item_events}
 use Rattle.alert_lines.proofs.Emitting.{emits_nothing, emits_stopped, emits_told}
@@ -60,8 +60,8 @@ events-same config rules = trail-passed is_matched (item_events config rules) (i
 
 -- the events of items beside their records are those of the items that a rule matches
 module _ (config : Config) (rules : List Rule) where
-  behind : (b : Bool) (item : Hits) → is_matched item ≡ b → (before : List Hits) → matched (before ++ item ∷ []) ≡ matched before ++ cond b (item ∷ []) []
-  behind b item is before = filter-append is_matched before (item ∷ []) ∙ ap (λ c. matched before ++ cond c (item ∷ []) []) is
+  after : (b : Bool) (item : Hits) → is_matched item ≡ b → (before : List Hits) → matched (before ++ item ∷ []) ≡ matched before ++ cond b (item ∷ []) []
+  after b item is before = filter-append is_matched before (item ∷ []) ∙ ap (λ c. matched before ++ cond c (item ∷ []) []) is
 
   carried-matched : (before other : List Hits) (items : List SourcedItem) → matched before ≡ matched other → carried (item_events config rules) before items ≡ carried (item_events config rules) other (matched_sourced items)
   carried-matched before other [] same = refl
@@ -72,11 +72,11 @@ module _ (config : Config) (rules : List Rule) where
           → map (beside b.source) (item_events config rules before b.what) ++ carried (item_events config rules) (before ++ b.what ∷ []) items
           ≡ carried (item_events config rules) other (cond (is_matched b.what) (b ∷ matched_sourced items) (matched_sourced items))
       by_test true is rest =
-          let both : matched (before ++ b.what ∷ []) ≡ matched (other ++ b.what ∷ []) = behind true b.what is before ∙ ap (λ front. front ++ b.what ∷ []) same ∙ sym (behind true b.what is other) in
+          let both : matched (before ++ b.what ∷ []) ≡ matched (other ++ b.what ∷ []) = after true b.what is before ∙ ap (λ front. front ++ b.what ∷ []) same ∙ sym (after true b.what is other) in
           (λ i. map (beside b.source) (item_events-same config rules before other b.what same i) ++ rest (other ++ b.what ∷ []) both i)
           ∙ ap (λ c. carried (item_events config rules) other (cond c (b ∷ matched_sourced items) (matched_sourced items))) (sym is)
       by_test false is rest =
-          let left : matched (before ++ b.what ∷ []) ≡ matched other = behind false b.what is before ∙ append-nil (matched before) ∙ same in
+          let left : matched (before ++ b.what ∷ []) ≡ matched other = after false b.what is before ∙ append-nil (matched before) ∙ same in
           ap (λ events. map (beside b.source) events ++ carried (item_events config rules) (before ++ b.what ∷ []) items) (item_events-none config rules before b.what is)
           ∙ rest other left
           ∙ ap (λ c. carried (item_events config rules) other (cond c (b ∷ matched_sourced items) (matched_sourced items))) (sym is)
@@ -111,8 +111,8 @@ whats-matched (b ∷ items) = by_test (is_matched b.what) (whats-matched items)
     by_test true rest = ap (λ (later : List Hits). b.what ∷ later) rest
     by_test false rest = rest
 
-behind-matched : (before : List Hits) (items : List SourcedItem) → matched (before ++ whats (matched_sourced items)) ≡ matched (before ++ whats items)
-behind-matched before items =
+after-matched : (before : List Hits) (items : List SourcedItem) → matched (before ++ whats (matched_sourced items)) ≡ matched (before ++ whats items)
+after-matched before items =
     filter-append is_matched before (whats (matched_sourced items))
     ∙ ap (λ (later : List Hits). matched before ++ later) (ap matched (whats-matched items) ∙ matched-twice (whats items))
     ∙ sym (filter-append is_matched before (whats items))
@@ -147,15 +147,15 @@ with_items showing count = record {
 }
 
 -- the matched items were given, and all were counted
-stands_matched : (config : Config) (rules : List Rule) (before : List Hits) (items : List SourcedItem) (old new : Showing) (count : ℕ) → count ≡ old.writer.tally.items + length items
-    → EventsStand config rules before old.writer → EventsStand config rules (before ++ whats (matched_sourced items)) new.writer
-    → EventsStand config rules (before ++ whats items) (with_items new count).writer
+holds_matched : (config : Config) (rules : List Rule) (before : List Hits) (items : List SourcedItem) (old new : Showing) (count : ℕ) → count ≡ old.writer.tally.items + length items
+    → IsWriterAfter config rules before old.writer → IsWriterAfter config rules (before ++ whats (matched_sourced items)) new.writer
+    → IsWriterAfter config rules (before ++ whats items) (with_items new count).writer
 unfolding tally_of
-stands_matched config rules before items old new count counted stands shown =
+holds_matched config rules before items old new count counted holds shown =
     let few : List Hits = before ++ whats (matched_sourced items) in
     let all : List Hits = before ++ whats items in
-    let same : matched few ≡ matched all = behind-matched before items in
-    let so_far : old.writer.tally.items ≡ length before = ap (λ (t : Tally). t.items) stands.tally in
+    let same : matched few ≡ matched all = after-matched before items in
+    let so_far : old.writer.tally.items ≡ length before = ap (λ (t : Tally). t.items) holds.tally in
     let joined : length all ≡ length before + length (whats items) = length-append before (whats items) in
     let sized : length (whats items) ≡ length items = length-map items (λ (b : SourcedItem). b.what) in
     record {
@@ -210,10 +210,10 @@ pub shows_matches : (form : Form) (config : Config) (rules : List Rule) (source 
     → Shows (shown_in form config rules) (sourced_items (by_place source 0 found.hits.items)) old new (Ok done)
     → ShowsMatches {A = Unit {0}} (shown_in form config rules) source found old (with_items new count) (Ok tt)
 shows_matches form config rules source found old new done count counted shows = record {
-  stands = λ jobs are before stands.
+  holds = λ jobs are before holds.
       let all : List SourcedItem = sourced_items (by_place source 0 jobs) in
-      stands_matched config rules before all old new count (counted ∙ ap (λ (n : ℕ). old.writer.tally.items + n) (are.items ∙ sym (length-told source 0 jobs))) stands
-      (subst (λ (x : List SourcedItem). EventsStand config rules (before ++ whats x) new.writer) (few_of_all source found jobs are) (shows.stands before stands));
+      holds_matched config rules before all old new count (counted ∙ ap (λ (n : ℕ). old.writer.tally.items + n) (are.items ∙ sym (length-told source 0 jobs))) holds
+      (subst (λ (x : List SourcedItem). IsWriterAfter config rules (before ++ whats x) new.writer) (few_of_all source found jobs are) (shows.holds before holds));
   emits = emits_told shows.emits (λ known. (known.before, matches_lines form config rules source found known.before.items known.jobs known.are));
 }
 
@@ -221,10 +221,10 @@ pub matches_part : (form : Form) (config : Config) (rules : List Rule) (source :
     → Shows {A = Unit {0}} (shown_in form config rules) (sourced_items (by_place source 0 found.hits.items)) old new (Err why)
     → ShowsMatches {A = Unit {0}} (shown_in form config rules) source found old new (Err why)
 matches_part form config rules source found old new why shows = record {
-  stands = tt;
+  holds = tt;
   emits = emits_stopped shows.emits (λ known. (known.before, matches_lines form config rules source found known.before.items known.jobs known.are));
 }
 
 pub matches_nothing : (form : Form) (config : Config) (rules : List Rule) (source : ℕ → LinkedRecord) (found : Matches) (old : Showing)
     → ShowsMatches {A = Unit {0}} (shown_in form config rules) source found old old (Err write.NoMemory)
-matches_nothing form config rules source found old = record { stands = tt; emits = emits_nothing _ (sending_of old) (sending_of old) refl refl }
+matches_nothing form config rules source found old = record { holds = tt; emits = emits_nothing _ (sending_of old) (sending_of old) refl refl }

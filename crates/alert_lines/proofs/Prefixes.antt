@@ -2,8 +2,8 @@
 use Rattle.std.proofs.Common.{◌≡◌, ℕ, List, [], ◌++◌, Option, take, drop, refl, sym, ap, append_assoc, ◌∙◌}
 use Rattle.std.proofs.lemmas.List.{append-nil, take-append-drop}
 use mathlib.Core.List.{IsPrefix}
-use Rattle.edge_io.specs.Told.{behind}
-use Rattle.edge_io.proofs.Told.{behind-nil, behind-behind}
+use Rattle.edge_io.specs.Told.{grown}
+use Rattle.edge_io.proofs.Told.{grown-nil, grown-grown}
 use Rattle.alert_lines.specs.Written.{WritesPart}
 
 -- a text is a beginning of itself
@@ -19,31 +19,31 @@ pub IsPrefix-longer : (part text rest : List ℕ) → IsPrefix part text → IsP
 IsPrefix-longer part text rest (more, e) = (more ++ rest, sym (append_assoc part more rest) ∙ ap (λ (x : List ℕ). x ++ rest) e)
 
 -- a beginning stays one after the same front
-pub IsPrefix-behind : (front part whole : List ℕ) → IsPrefix part whole → IsPrefix (front ++ part) (front ++ whole)
-IsPrefix-behind front part whole (rest, e) = (rest, append_assoc front part rest ∙ ap (λ (x : List ℕ). front ++ x) e)
+pub IsPrefix-after : (front part whole : List ℕ) → IsPrefix part whole → IsPrefix (front ++ part) (front ++ whole)
+IsPrefix-after front part whole (rest, e) = (rest, append_assoc front part rest ∙ ap (λ (x : List ℕ). front ++ x) e)
 
 -- ---- parts that were written
 
 -- the whole is a part
-pub WritesPart-all : (old new : Option (List ℕ)) (text : List ℕ) → new ≡ behind old text → WritesPart old text new
+pub WritesPart-all : (old new : Option (List ℕ)) (text : List ℕ) → new ≡ grown old text → WritesPart old text new
 unfolding WritesPart
 WritesPart-all old new text e = (text, IsPrefix-same text, e)
 
 -- nothing was written
 pub WritesPart-none : (old : Option (List ℕ)) (text : List ℕ) → WritesPart old text old
 unfolding WritesPart
-WritesPart-none old text = ([], IsPrefix-nil text, sym (behind-nil old))
+WritesPart-none old text = ([], IsPrefix-nil text, sym (grown-nil old))
 
 -- the first bytes of a text were written
-pub WritesPart-take : (old new : Option (List ℕ)) (count : ℕ) (text : List ℕ) → new ≡ behind old (take count text) → WritesPart old text new
+pub WritesPart-take : (old new : Option (List ℕ)) (count : ℕ) (text : List ℕ) → new ≡ grown old (take count text) → WritesPart old text new
 unfolding WritesPart
 WritesPart-take old new count text e = (take count text, (drop count text, take-append-drop count text), e)
 
 -- a front was written, and then a part of what follows it
-pub WritesPart-behind : (old middle new : Option (List ℕ)) (front text : List ℕ) → middle ≡ behind old front → WritesPart middle text new → WritesPart old (front ++ text) new
+pub WritesPart-after : (old middle new : Option (List ℕ)) (front text : List ℕ) → middle ≡ grown old front → WritesPart middle text new → WritesPart old (front ++ text) new
 unfolding WritesPart
-WritesPart-behind old middle new front text first (part, prefix, e) =
-    (front ++ part, IsPrefix-behind front part text prefix, e ∙ ap (λ (x : Option (List ℕ)). behind x part) first ∙ behind-behind old front part)
+WritesPart-after old middle new front text first (part, prefix, e) =
+    (front ++ part, IsPrefix-after front part text prefix, e ∙ ap (λ (x : Option (List ℕ)). grown x part) first ∙ grown-grown old front part)
 
 -- a part of a text is a part of a longer one
 pub WritesPart-longer : (old new : Option (List ℕ)) (text rest : List ℕ) → WritesPart old text new → WritesPart old (text ++ rest) new

@@ -20,7 +20,7 @@ use Rattle.flow_lanes.specs.declared.answer.Hits.{Hits}
 use Rattle.flow_lanes.specs.declared.answer.JobHits.{JobHits}
 use Rattle.record_jobs.specs.Way.{LinkedRecord}
 use Rattle.event_filters.specs.Events.{Item, kept}
-use Rattle.event_filters.specs.Standing.{FiltersState, IsGiven, Passes}
+use Rattle.event_filters.specs.Filtering.{FiltersState, IsGiven, Passes}
 use Rattle.alert_lines.specs.declared.writer.AlertWriter.{AlertWriter}
 use Rattle.alert_lines.specs.declared.tally.Tally.{Tally}
 use Rattle.command_words.specs.declared.asked.Form.{Form}
@@ -31,7 +31,7 @@ use Rattle.alert_lines.specs.Events.{Alert, Event, event_of, event_at, filtered_
 use Rattle.alert_lines.specs.Lines.{text_of, texts_from}
 use Rattle.alert_lines.specs.Events.{hit_count}
 use Rattle.alert_lines.specs.Gathering.{Sending, Emits}
-use Rattle.alert_lines.specs.Showing.{Subject, SourcedItem, places_lines, places_count, ShowsPlaces, items_lines, tally_of, EventsStand, Earlier, Showing, Shown, sending_of, Shows}
+use Rattle.alert_lines.specs.Showing.{Subject, SourcedItem, places_lines, places_count, ShowsPlaces, items_lines, tally_of, IsWriterAfter, Earlier, Showing, Shown, sending_of, Shows}
 use Rattle.alert_lines.specs.Sourcing.{sourced_items}
 use Rattle.alert_lines.proofs.Emitting.{emits_both, emits_lacking, emits_longer, emits_none, emits_nothing, emits_stopped, emits_then, emits_told}
 use Rattle.alert_lines.proofs.Texts.{texts_from-append}
@@ -237,9 +237,9 @@ tally_with old size count = record { items = old.items + 1; hits = old.hits + si
 item_lines : (form : Form) (config : Config) (rules : List Rule) (source : LinkedRecord) (hits : Hits) (before : List Hits) (tally : Tally) (places : List ℕ) → tally ≡ tally_of config rules before
     → places ≡ kept config rules (map filtered_item before) (filtered_item hits)
     → places_lines (subject_for form config rules source hits) tally.alerts places ≡ items_lines form config rules before (beside source hits ∷ [])
-item_lines form config rules source hits before tally places stands are =
+item_lines form config rules source hits before tally places holds are =
     let s = subject_for form config rules source hits in
-    ap (λ (n : ℕ). places_lines s n places) (tally_alerts config rules before tally stands)
+    ap (λ (n : ℕ). places_lines s n places) (tally_alerts config rules before tally holds)
     ∙ ap (places_lines s (length (trail (item_events config rules) before))) are
     ∙ sym (items_lines-one form config rules before source hits)
 
@@ -247,7 +247,7 @@ item_lines_by : (form : Form) (config : Config) (rules : List Rule) (source : Li
     → Passes config rules old.filters [] (filtered_item hits) after places → (before : Earlier config rules old)
     → items_lines form config rules before.items (beside source hits ∷ []) ≡ places_lines (subject_for form config rules source hits) old.tally.alerts places
 item_lines_by form config rules source hits old after places passes before =
-    sym (item_lines form config rules source hits before.items old.tally places before.stand.tally (passes (map filtered_item before.items) before.stand.given).1)
+    sym (item_lines form config rules source hits before.items old.tally places before.hold.tally (passes (map filtered_item before.items) before.hold.given).1)
 
 -- an item was given to the filters, and the lines of what they keep of it are on their way
 pub shows_one : (form : Form) (config : Config) (rules : List Rule) (source : LinkedRecord) (hits : Hits) (old new : Showing) (places : List ℕ) (count size : ℕ)
@@ -256,12 +256,12 @@ pub shows_one : (form : Form) (config : Config) (rules : List Rule) (source : Li
     → new.writer.tally ≡ record { items = old.writer.tally.items + 1; hits = old.writer.tally.hits + size; alerts = old.writer.tally.alerts + count } → size ≡ length hits.rules
     → Shows {A = Unit {0}} (shown_in form config rules) (beside source hits ∷ []) old new (Ok tt)
 shows_one form config rules source hits old new places count size passes shown tally is = record {
-  stands = λ before stands.
-      let passed = passes (map filtered_item before) stands.given in record {
+  holds = λ before holds.
+      let passed = passes (map filtered_item before) holds.given in record {
         given = subst (λ (x : List Item). IsGiven config rules x new.writer.filters) (sym (map-append filtered_item before (hits ∷ []))) passed.0;
         tally = tally
             ∙ ap (λ (n : ℕ). tally_with old.writer.tally n count) is
-            ∙ tally_of-more config rules before hits count old.writer.tally stands.tally (shown.counted ∙ ap (places_count rules hits.head) passed.1);
+            ∙ tally_of-more config rules before hits count old.writer.tally holds.tally (shown.counted ∙ ap (places_count rules hits.head) passed.1);
       };
   emits = emits_told shown.emits (λ before. (tt, item_lines_by form config rules source hits old.writer new.writer.filters places passes before));
 }
@@ -269,7 +269,7 @@ shows_one form config rules source hits old new places count size passes shown t
 -- memory was lacking before it was shown
 pub shows_nothing : (form : Form) (config : Config) (rules : List Rule) (items : List SourcedItem) (old new : Showing) → new.written ≡ old.written → new.faults ≡ old.faults
     → Shows {A = Unit {0}} (shown_in form config rules) items old new (Err write.NoMemory)
-shows_nothing form config rules items old new written faults = record { stands = tt; emits = emits_nothing _ (sending_of old) (sending_of new) written faults }
+shows_nothing form config rules items old new written faults = record { holds = tt; emits = emits_nothing _ (sending_of old) (sending_of new) written faults }
 
 -- an item was stopped while its lines were shown
 pub shows_part_of : (form : Form) (config : Config) (rules : List Rule) (source : LinkedRecord) (hits : Hits) (old new : Showing) (after : FiltersState) (places : List ℕ) (why : WriteFault)
@@ -277,7 +277,7 @@ pub shows_part_of : (form : Form) (config : Config) (rules : List Rule) (source 
     → ShowsPlaces (subject_for form config rules source hits) old.writer.tally.alerts places (sending_of old) (sending_of new) (Err why)
     → Shows {A = Unit {0}} (shown_in form config rules) (beside source hits ∷ []) old new (Err why)
 shows_part_of form config rules source hits old new after places why passes shown = record {
-  stands = tt;
+  holds = tt;
   emits = emits_stopped shown.emits (λ before. (tt, item_lines_by form config rules source hits old.writer after places passes before));
 }
 
@@ -287,7 +287,7 @@ pub shows_uncounted : (form : Form) (config : Config) (rules : List Rule) (sourc
     → ShowsPlaces (subject_for form config rules source hits) old.writer.tally.alerts places (sending_of old) (sending_of new) (Ok count)
     → Shows {A = Unit {0}} (shown_in form config rules) (beside source hits ∷ []) old new (Err write.NoMemory)
 shows_uncounted form config rules source hits old new after places count passes shown = record {
-  stands = tt;
+  holds = tt;
   emits = emits_lacking shown.emits (λ before. (tt, [], item_lines_by form config rules source hits old.writer after places passes before ∙ sym (append-nil _)));
 }
 
@@ -298,7 +298,7 @@ items_lines-none form config rules before = refl
 
 pub shows_none : (form : Form) (config : Config) (rules : List Rule) (old : Showing) → Shows {A = Unit {0}} (shown_in form config rules) [] old old (Ok tt)
 shows_none form config rules old = record {
-  stands = λ before stands. subst (λ (x : List Hits). EventsStand config rules x old.writer) (sym (append-nil before)) stands;
+  holds = λ before holds. subst (λ (x : List Hits). IsWriterAfter config rules x old.writer) (sym (append-nil before)) holds;
   emits = emits_none (sending_of old) (λ before. items_lines-none form config rules before.items);
 }
 
@@ -306,24 +306,24 @@ shows_none form config rules old = record {
 pub shows_then : (form : Form) (config : Config) (rules : List Rule) (front back : List SourcedItem) (old middle new : Showing) (done : Unit {0}) (outcome : Result (Unit {0}) WriteFault)
     → Shows (shown_in form config rules) front old middle (Ok done) → Shows (shown_in form config rules) back middle new outcome → Shows (shown_in form config rules) (front ++ back) old new outcome
 shows_then form config rules front back old middle new done outcome one two = record {
-  stands = by_outcome outcome two.stands;
-  emits = emits_then one.emits two.emits (λ before. (before, record { items = before.items ++ whats front; stand = one.stands before.items before.stand }, items_lines-append form config rules before.items front back));
+  holds = by_outcome outcome two.holds;
+  emits = emits_then one.emits two.emits (λ before. (before, record { items = before.items ++ whats front; hold = one.holds before.items before.hold }, items_lines-append form config rules before.items front back));
 }
   where
     by_outcome : (so : Result (Unit {0}) WriteFault)
-        → OnOk so ((before : List Hits) → EventsStand config rules before middle.writer → EventsStand config rules (before ++ whats back) new.writer)
-        → OnOk so ((before : List Hits) → EventsStand config rules before old.writer → EventsStand config rules (before ++ whats (front ++ back)) new.writer)
-    by_outcome (Ok more) on = λ before stands.
-        subst (λ (x : List Hits). EventsStand config rules x new.writer)
+        → OnOk so ((before : List Hits) → IsWriterAfter config rules before middle.writer → IsWriterAfter config rules (before ++ whats back) new.writer)
+        → OnOk so ((before : List Hits) → IsWriterAfter config rules before old.writer → IsWriterAfter config rules (before ++ whats (front ++ back)) new.writer)
+    by_outcome (Ok more) on = λ before holds.
+        subst (λ (x : List Hits). IsWriterAfter config rules x new.writer)
         (append_assoc before (whats front) (whats back) ∙ ap (λ (x : List Hits). before ++ x) (sym (whats-append front back)))
-        (on (before ++ whats front) (one.stands before stands))
+        (on (before ++ whats front) (one.holds before holds))
     by_outcome (Err why) on = tt
 
 -- a part of the lines of items is one of those of more items
 shows_longer : (form : Form) (config : Config) (rules : List Rule) (front back : List SourcedItem) (old new : Showing) (why : WriteFault)
     → Shows {A = Unit {0}} (shown_in form config rules) front old new (Err why) → Shows {A = Unit {0}} (shown_in form config rules) (front ++ back) old new (Err why)
 shows_longer form config rules front back old new why one = record {
-  stands = tt;
+  holds = tt;
   emits = emits_longer one.emits (λ before. (before, items_lines form config rules (before.items ++ whats front) back, items_lines-append form config rules before.items front back));
 }
 

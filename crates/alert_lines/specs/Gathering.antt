@@ -5,7 +5,7 @@
 -- written, and the line with it; where the sink fails after 100 of these bytes, they were written, its count of
 -- faults rose, and the step ends with `Unwritten`.
 use Rattle.std.specs.Prelude.{◌≡◌, ℕ, ◌≤◌, List, [], ◌++◌, Option, Result, ⊤, OnOk, OnErr, IsErrOf}
-use Rattle.edge_io.specs.Told.{behind, Rose}
+use Rattle.edge_io.specs.Told.{grown, Rose}
 use Rattle.edge_io.specs.declared.sink.Sink.{Ghosts as SinkOf}
 use Rattle.alert_lines.specs.declared.fault.WriteFault.{WriteFault}
 use Rattle.alert_lines.specs.declared.fault.WriteFault.TheVariants as write
@@ -25,7 +25,7 @@ sending a block alerts = record { written = a.written alerts; block = block; fau
 pub record Gathers (text : List ℕ) (old new : Sending) : Type 0 where
   pub part : List ℕ
   pub joined : old.block ++ text ≡ part ++ new.block
-  pub wrote : new.written ≡ behind old.written part
+  pub wrote : new.written ≡ grown old.written part
 
 -- a text is on its way; or the step was stopped, and a part of what waited and of the text was written. What stopped it
 -- is a fault of the sink, which was counted, or want of memory. The text may go by what is known of earlier steps

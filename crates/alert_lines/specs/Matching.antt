@@ -16,7 +16,7 @@ use Rattle.alert_lines.specs.declared.writer.AlertWriter.{AlertWriter}
 use Rattle.alert_lines.specs.declared.fault.WriteFault.{WriteFault}
 use Rattle.alert_lines.specs.Beside.{by_place, whats}
 use Rattle.alert_lines.specs.Gathering.{EmitsBy}
-use Rattle.alert_lines.specs.Showing.{EventsStand, Earlier, Showing, Shown, SourcedItem, sending_of, items_lines}
+use Rattle.alert_lines.specs.Showing.{IsWriterAfter, Earlier, Showing, Shown, SourcedItem, sending_of, items_lines}
 use Rattle.alert_lines.specs.Sourcing.{sourced_items}
 
 -- these are the matches of jobs with these items, and the number of all their items
@@ -37,9 +37,9 @@ pub record Matched (config : Config) (rules : List Rule) (found : Matches) (writ
 -- whatever jobs these are the matches of, all their items are shown
 pub record ShowsMatches {A : Type 0} (by : Shown) (source : ℕ → LinkedRecord) (found : Matches) (old new : Showing)
     (outcome : Result A WriteFault) : Type 0 where
-  pub stands : OnOk outcome ((jobs : List JobHits) → AreMatchesOf jobs found
-      → (before : List Hits) → EventsStand by.config by.rules before old.writer
-      → EventsStand by.config by.rules (before ++ whats (sourced_items (by_place source 0 jobs))) new.writer)
+  pub holds : OnOk outcome ((jobs : List JobHits) → AreMatchesOf jobs found
+      → (before : List Hits) → IsWriterAfter by.config by.rules before old.writer
+      → IsWriterAfter by.config by.rules (before ++ whats (sourced_items (by_place source 0 jobs))) new.writer)
   pub emits : EmitsBy (λ (known : Matched by.config by.rules found old.writer).
       items_lines by.form by.config by.rules known.before.items (sourced_items (by_place source 0 known.jobs)))
       (sending_of old) (sending_of new) outcome

@@ -14,7 +14,7 @@ use Rattle.conf_types.specs.declared.config.Config.{Config}
 use Rattle.rule_types.specs.declared.rule.Rule.{Rule}
 use Rattle.flow_lanes.specs.declared.answer.Hits.{Hits}
 use Rattle.flow_lanes.specs.declared.answer.JobHits.{JobHits}
-use Rattle.event_filters.specs.Standing.{IsGiven}
+use Rattle.event_filters.specs.Filtering.{IsGiven}
 use Rattle.record_jobs.specs.Way.{LinkedRecord}
 use Rattle.command_words.specs.declared.asked.Form.{Form}
 use Rattle.alert_lines.specs.declared.lines.Subject as code
@@ -92,20 +92,20 @@ abbrev pub waiting_in : AlertWriter → List ℕ
 waiting_in writer = writer.block.items
 
 -- a writer's filters were given these items, and these were counted
-pub record EventsStand (config : Config) (rules : List Rule) (before : List Hits) (writer : AlertWriter) : Type 0 where
+pub record IsWriterAfter (config : Config) (rules : List Rule) (before : List Hits) (writer : AlertWriter) : Type 0 where
   pub given : IsGiven config rules (map filtered_item before) writer.filters
   pub tally : tally_in writer ≡ tally_of config rules before
 
 -- whatever items were given, the one stands for them where the other did
-abbrev pub StandsFurther : AlertWriter → AlertWriter → Type 0
-StandsFurther old new =
-    (config : Config) (rules : List Rule) (before : List Hits) → EventsStand config rules before old
-    → EventsStand config rules before new
+abbrev pub StaysAfter : AlertWriter → AlertWriter → Type 0
+StaysAfter old new =
+    (config : Config) (rules : List Rule) (before : List Hits) → IsWriterAfter config rules before old
+    → IsWriterAfter config rules before new
 
 -- items that were given before
 pub record Earlier (config : Config) (rules : List Rule) (writer : AlertWriter) : Type 0 where
   pub items : List Hits
-  pub stand : EventsStand config rules items writer
+  pub hold : IsWriterAfter config rules items writer
 
 -- a writer, and the sink
 pub record Showing : Type 0 where
@@ -131,8 +131,8 @@ shown_by by = record { form = by.form; config = by.config.now; rules = by.rules.
 -- whatever items were given before: the filters were given these too, and their lines are on their way
 pub record Shows {A : Type 0} (by : Shown) (items : List SourcedItem) (old new : Showing) (outcome : Result A WriteFault) :
     Type 0 where
-  pub stands : OnOk outcome ((before : List Hits) → EventsStand by.config by.rules before old.writer
-      → EventsStand by.config by.rules (before ++ whats items) new.writer)
+  pub holds : OnOk outcome ((before : List Hits) → IsWriterAfter by.config by.rules before old.writer
+      → IsWriterAfter by.config by.rules (before ++ whats items) new.writer)
   pub emits : EmitsBy (λ (before : Earlier by.config by.rules old.writer).
       items_lines by.form by.config by.rules before.items items)
       (sending_of old) (sending_of new) outcome

@@ -5,7 +5,7 @@ ghost use Rattle.rule_types.specs.Sound.{IsSound};
 ghost use Rattle.alert_lines.specs.Beside.{beside, by_place};
 ghost use Rattle.alert_lines.specs.Gathering.{Emits};
 ghost use Rattle.alert_lines.specs.Matching.{ShowsMatches};
-ghost use Rattle.alert_lines.specs.Showing.{EventsStand, Shows, StandsFurther, sending_of, showing, shown_by, tally_in, waiting_in};
+ghost use Rattle.alert_lines.specs.Showing.{IsWriterAfter, Shows, StaysAfter, sending_of, showing, shown_by, tally_in, waiting_in};
 ghost use Rattle.alert_lines.specs.Sourcing.{source_by, sourced_items};
 
 use crate::fault::WriteFault;
@@ -31,7 +31,7 @@ pub struct Shown<'a> {
 
 /// The events of items, and their texts on the way to a sink.
 ///
-/// Contracts see which items it was given (`EventsStand`), what it counted (`tally_in`), and the texts that wait
+/// Contracts see which items it was given (`IsWriterAfter`), what it counted (`tally_in`), and the texts that wait
 /// (`waiting_in`).
 #[derive(Drop)]
 pub struct AlertWriter {
@@ -49,7 +49,7 @@ impl AlertWriter {
     pub fn new(alloc: Global, config: &Config, rules: &[Rule]) -> Result<AlertWriter, NoMemory>
         requires config { conf.IsSound config.now }
         requires rules { All (IsSound config.now.classes) rules.now }
-        ensures stand { IfOk result (EventsStand config.now rules.now []) }
+        ensures hold { IfOk result (IsWriterAfter config.now rules.now []) }
         ensures none { IfOk result (λ writer. waiting_in writer ≡ []) }
     {
         Ok(AlertWriter {
@@ -96,7 +96,7 @@ impl AlertWriter {
             (sending_of (showing A.Sink self.old alerts.old)) (sending_of (showing A.Sink self.new alerts.new)) result }
         ensures emptied { OnOk result (waiting_in self.new ≡ []) }
         ensures kind { result ≢ Err WriteFault.NoMemory }
-        ensures stands { StandsFurther self.old self.new }
+        ensures holds { StaysAfter self.old self.new }
         ensures tally { tally_in self.new ≡ tally_in self.old }
     {
         offer(&mut self.block, alerts)

@@ -40,15 +40,15 @@ module _ {X : Type 0} (known : List Choice) (all : AllFound known known) (out : 
       → guard (short_fault c false (Some (rule (record { label = label; takes_value = takes }))) (encode_utf8_all rest) (held rows pending) fault)
       (out_of (short_met c (Some (rule (record { label = label; takes_value = takes }))) (encode_utf8_all rest) (held rows pending) met))
       ≡ after_word next c (held rows pending) (letter_uses (Some (record { label = label; takes_value = takes })) rest tail)
-  letter_found label true rest tail fault met behind rows pending found =
+  letter_found label true rest tail fault met following rows pending found =
       option_step known out next none some label (attached_value (encode_utf8_all rest)) rows pending found
-  letter_found label false rest tail fault met behind rows pending found =
+  letter_found label false rest tail fault met following rows pending found =
       let a : Rule = rule (record { label = label; takes_value = false }) in
       let h : Held = held rows pending in
       guard-or_else (react_fault c false a [] h) (fault (reacted c a [] h)) (out_of (met (reacted c a [] h)))
       ∙ flag_step known out next none some label rows pending (λ r. guard (fault (held r None)) (out_of (met (held r None))))
       ∙ ap (λ (f : List Row → Option X). settle c h >>= f)
-      (λ i r. (ap (λ (f : List Row → Option X). add (record { label = text_of label; value = codes "true" }) r >>= f) (λ j after. behind after j)
+      (λ i r. (ap (λ (f : List Row → Option X). add (record { label = text_of label; value = codes "true" }) r >>= f) (λ j after. following after j)
       ∙ flag_then (record { label = text_of label; value = codes "true" }) (record { label = label; takes_value = false }) tail r refl) i)
 
   letter_step : (choice : Option Choice) (rest : List ℕ) (tail : Option Reading) (fault : Held → Kinds) (met : Held → Held × Outcome)
@@ -57,9 +57,9 @@ module _ {X : Type 0} (known : List Choice) (all : AllFound known known) (out : 
       → guard (short_fault c false (option_map rule choice) (encode_utf8_all rest) (held rows pending) fault)
       (out_of (short_met c (option_map rule choice) (encode_utf8_all rest) (held rows pending) met))
       ≡ after_word next c (held rows pending) (letter_uses choice rest tail)
-  letter_step None rest tail fault met behind rows pending found = sym (bind-none (settle c (held rows pending)))
-  letter_step (Some choice) rest tail fault met behind rows pending found =
-      letter_found choice.label choice.takes_value rest tail fault met behind rows pending (found choice refl)
+  letter_step None rest tail fault met following rows pending found = sym (bind-none (settle c (held rows pending)))
+  letter_step (Some choice) rest tail fault met following rows pending found =
+      letter_found choice.label choice.takes_value rest tail fault met following rows pending (found choice refl)
 
   -- the first letter, where those after it are read as they should be
   pub first_letter : (k x : ℕ) (xs : List ℕ) (so_far : Outcome) (rows : List Row) (pending : Option (Text × List Text)) → all_scalars (x ∷ xs) ≡ true
@@ -68,14 +68,14 @@ module _ {X : Type 0} (known : List Choice) (all : AllFound known known) (out : 
       → guard (flags_fault c false (suc k) (encode_utf8_all (x ∷ xs)) 0 (held rows pending)) (out_of (bundle_met c (suc k) (encode_utf8_all (x ∷ xs)) 0 so_far (held rows pending)))
       ≡ after_word next c (held rows pending) (letters_uses known (x ∷ xs))
   unfolding flags_fault bundle_met
-  first_letter k x xs so_far rows pending scalars behind =
+  first_letter k x xs so_far rows pending scalars following =
       let h : Held = held rows pending in
       let flags : Text = encode_utf8_all (x ∷ xs) in
       let here : slice_get (chars flags) 0 ≡ Some x = ap (λ (cs : List ℕ). slice_get cs 0) (chars-encodes (x ∷ xs) scalars) in
       let left : drop (length (encode_utf8 x)) flags ≡ encode_utf8_all xs = drop_at (encode_utf8 x) (encode_utf8_all xs) _ refl in
       ap (λ (o : Option ℕ). guard (bundle_step_fault c false o flags 0 h (flags_fault c false k)) (out_of (bundle_step c o flags 0 so_far h (bundle_met c k)))) here
       ∙ ap₂ (λ (a : Option Rule) (rest : Text). guard (short_fault c false a rest h (flags_fault c false k rest 0)) (out_of (short_met c a rest h (bundle_met c k rest 0 done)))) (by_short known x) left
-      ∙ letter_step (find (λ choice. is_letter x choice.label) known) xs (letters_uses known xs) (flags_fault c false k (encode_utf8_all xs) 0) (bundle_met c k (encode_utf8_all xs) 0 done) behind rows pending
+      ∙ letter_step (find (λ choice. is_letter x choice.label) known) xs (letters_uses known xs) (flags_fault c false k (encode_utf8_all xs) 0) (bundle_met c k (encode_utf8_all xs) 0 done) following rows pending
       (λ choice e. found_is known (λ choice. is_letter x choice.label) known choice all e)
 
   -- the letters after a flag

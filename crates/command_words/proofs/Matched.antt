@@ -11,7 +11,7 @@ use Rattle.edge_io.specs.OnOption.{◌>>=◌}
 use Rattle.command_words.specs.Table.{Choice, Label, table, text_of}
 use Rattle.command_words.specs.Uses.{Use, uses_of, value_in}
 use Rattle.command_words.specs.Clap.{asked_in, clap_rows, given_in, given_text, others_in}
-use Rattle.command_words.specs.CommandLine.{asked_by, command_line, has_others, stands_beside}
+use Rattle.command_words.specs.CommandLine.{asked_by, command_line, has_others, may_be_beside}
 use Rattle.command_words.proofs.Rules.{at_end, row_for, rule}
 use Rattle.command_words.proofs.Rows.{rows_are, with_defaults}
 use Rattle.command_words.proofs.Whole.{AllText}
@@ -31,13 +31,13 @@ first_in (use_here ∷ uses) label = go (bytes_eq use_here.label label) (first_i
 -- ---- the defaults
 
 -- a row after the others that is no given one
-given_behind : (label : Text) (rows : List Row) (new_row : Row) → given_text new_row ≡ None → given_in (rows ++ new_row ∷ []) label ≡ given_in rows label
-given_behind label [] new_row lacks = go (bytes_eq new_row.id label)
+given_after : (label : Text) (rows : List Row) (new_row : Row) → given_text new_row ≡ None → given_in (rows ++ new_row ∷ []) label ≡ given_in rows label
+given_after label [] new_row lacks = go (bytes_eq new_row.id label)
   where
     go : (b : Bool) → option_and_then given_text (cond b (Some new_row) None) ≡ None
     go true = lacks
     go false = refl
-given_behind label (r ∷ rows) new_row lacks = go (bytes_eq r.id label) (given_behind label rows new_row lacks)
+given_after label (r ∷ rows) new_row lacks = go (bytes_eq r.id label) (given_after label rows new_row lacks)
   where
     go : (b : Bool) → given_in (rows ++ new_row ∷ []) label ≡ given_in rows label
         → option_and_then given_text (cond b (Some r) (find (λ x. bytes_eq x.id label) (rows ++ new_row ∷ [])))
@@ -81,7 +81,7 @@ add_default view own false rows same = go (has_row (text_of own) rows) refl
 
 given_kept : (choice : Choice) (rows : List Row) (label : Text) → given_in (with_default rows (rule choice)) label ≡ given_in rows label
 given_kept choice rows label =
-    add_default (λ rs. given_in rs label) choice.label choice.takes_value rows (λ none. given_behind label rows (default_row choice.label) refl)
+    add_default (λ rs. given_in rs label) choice.label choice.takes_value rows (λ none. given_after label rows (default_row choice.label) refl)
 
 all_kept : (known : List Choice) (rows : List Row) (label : Text) → given_in (with_defaults known rows) label ≡ given_in rows label
 all_kept [] rows label = refl
@@ -90,18 +90,18 @@ all_kept (choice ∷ known) rows label = all_kept known (with_default rows (rule
 -- ---- others
 
 abbrev is_other : (Text → Option Text) → Text → Bool
-is_other look label = not (stands_beside label) && is_some (look label)
+is_other look label = not (may_be_beside label) && is_some (look label)
 
 abbrev any_other : (Text → Option Text) → List Row → Bool
 any_other look rows = list_any (λ row. is_other look row.id) rows
 
-any_behind : (look : Text → Option Text) (rows : List Row) (new_row : Row) → look new_row.id ≡ None → any_other look (rows ++ new_row ∷ []) ≡ any_other look rows
-any_behind look [] new_row lacks = ap (λ (o : Option Text). (not (stands_beside new_row.id) && is_some o) || false) lacks ∙ go (not (stands_beside new_row.id))
+any_after : (look : Text → Option Text) (rows : List Row) (new_row : Row) → look new_row.id ≡ None → any_other look (rows ++ new_row ∷ []) ≡ any_other look rows
+any_after look [] new_row lacks = ap (λ (o : Option Text). (not (may_be_beside new_row.id) && is_some o) || false) lacks ∙ go (not (may_be_beside new_row.id))
   where
     go : (b : Bool) → ((b && false) || false) ≡ false
     go true = refl
     go false = refl
-any_behind look (r ∷ rows) new_row lacks = ap (λ (b : Bool). is_other look r.id || b) (any_behind look rows new_row lacks)
+any_after look (r ∷ rows) new_row lacks = ap (λ (b : Bool). is_other look r.id || b) (any_after look rows new_row lacks)
 
 others_kept : (known : List Choice) (look : Text → Option Text) (rows : List Row) → ((label : Text) → given_in rows label ≡ look label)
     → any_other look (with_defaults known rows) ≡ any_other look rows
@@ -109,7 +109,7 @@ others_kept [] look rows is = refl
 others_kept (choice ∷ known) look rows is =
     others_kept known look (with_default rows (rule choice)) (λ label. given_kept choice rows label ∙ is label)
     ∙ add_default (any_other look) choice.label choice.takes_value rows
-    (λ none. any_behind look rows (default_row choice.label) (sym (is (text_of choice.label)) ∙ no_row (text_of choice.label) rows none))
+    (λ none. any_after look rows (default_row choice.label) (sym (is (text_of choice.label)) ∙ no_row (text_of choice.label) rows none))
 
 -- each of these uses is seen
 abbrev AllSeen : (Text → Option Text) → List Use → Type 0
@@ -119,16 +119,16 @@ AllSeen look (use_here ∷ uses) = (is_some (look use_here.label) ≡ true) × A
 any_seen : (look : Text → Option Text) (uses : List Use) → AllSeen look uses → list_any (λ u. is_other look u.label) uses ≡ has_others uses
 any_seen look [] seen = refl
 any_seen look (use_here ∷ uses) seen =
-    ap₂ (λ (here : Bool) (behind : Bool). here || behind)
-    (ap (λ (b : Bool). not (stands_beside use_here.label) && b) seen.0 ∙ go (not (stands_beside use_here.label))) (any_seen look uses seen.1)
+    ap₂ (λ (here : Bool) (following : Bool). here || following)
+    (ap (λ (b : Bool). not (may_be_beside use_here.label) && b) seen.0 ∙ go (not (may_be_beside use_here.label))) (any_seen look uses seen.1)
   where
     go : (b : Bool) → (b && true) ≡ b
     go true = refl
     go false = refl
 
-seen_behind : (use_here : Use) (uses some : List Use) → AllSeen (value_in uses) some → AllSeen (value_in (use_here ∷ uses)) some
-seen_behind use_here uses [] seen = tt
-seen_behind use_here uses (u ∷ some) seen = (go (bytes_eq use_here.label u.label) seen.0, seen_behind use_here uses some seen.1)
+seen_after : (use_here : Use) (uses some : List Use) → AllSeen (value_in uses) some → AllSeen (value_in (use_here ∷ uses)) some
+seen_after use_here uses [] seen = tt
+seen_after use_here uses (u ∷ some) seen = (go (bytes_eq use_here.label u.label) seen.0, seen_after use_here uses some seen.1)
   where
     go : (b : Bool) → is_some (value_in uses u.label) ≡ true
         → is_some (option_map (λ v. v.value) (cond b (Some use_here) (find (λ v. bytes_eq v.label u.label) uses))) ≡ true
@@ -140,7 +140,7 @@ all_seen [] = tt
 all_seen (use_here ∷ uses) = (
   ap (λ (b : Bool). is_some (option_map (λ v. v.value) (cond b (Some use_here) (find (λ v. bytes_eq v.label use_here.label) uses))))
       ((bytes_eq-Decides use_here.label use_here.label).1 refl),
-  seen_behind use_here uses uses (all_seen uses),
+  seen_after use_here uses uses (all_seen uses),
 )
 
 -- ---- all of the words

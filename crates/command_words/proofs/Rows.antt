@@ -76,10 +76,10 @@ level_is known words checked =
     let walking : Kinds = walk_fault (shape known) [] (at (held [] None) idle false) words in
     let settling : Kinds = settle_fault (rules known) false (last known words) in
     let rows : List Row = (settled (rules known) (last known words)).rows in
-    let behind : Kinds = or_else (defaults_fault rows (rules known)) (check_fault (shape known) (finished (rules known) (last known words)) false) in
+    let following : Kinds = or_else (defaults_fault rows (rules known)) (check_fault (shape known) (finished (rules known) (last known words)) false) in
     let whole : Option (List Row) = Some (with_defaults known rows) in
-    guard-or_else walking (or_else settling behind) whole
-    ∙ ap (guard walking) (guard-or_else settling behind whole
+    guard-or_else walking (or_else settling following) whole
+    ∙ ap (guard walking) (guard-or_else settling following whole
     ∙ ap (λ (kinds : Kinds). guard settling (guard kinds whole)) (ap₂ or_else (defaults_are_valid known rows) (checked (finished (rules known) (last known words)))))
     ∙ sym (guard_map (with_defaults known) walking (settle (rules known) (last known words))
     ∙ ap (guard walking) (guard_map (with_defaults known) settling (Some rows)))

@@ -9,7 +9,7 @@ use Rattle.std.proofs.lemmas.Option.{option_and_then_some, cond_some}
 use Rattle.net_lists.specs.Addresses.{cut}
 use Rattle.net_lists.specs.Numbers.{whole_number, kept_in, number_in}
 use Rattle.net_lists.specs.Variables.{IsName, is_name}
-use Rattle.command_words.specs.CommandLine.{Asked, help, version, records_of, run, Run, Defined, maybe, named, definition, has_its_capture, is_console, mode_named, number_or, run_with, asked_by, asked_of, first_asked, run_by, values_behind, values_by, command_line, has_others}
+use Rattle.command_words.specs.CommandLine.{Asked, help, version, records_of, run, Run, Defined, maybe, named, definition, has_its_capture, is_console, mode_named, number_or, run_with, asked_by, asked_of, first_asked, run_by, values_after, values_by, command_line, has_others}
 use Rattle.command_words.specs.Table.{table}
 use Rattle.command_words.specs.Uses.{Use, uses_of, value_in}
 use Rattle.command_words.specs.declared.values.Values.{Values}
@@ -133,8 +133,8 @@ mapped_from f (Some x) y is next = next x cc
 abbrev pub AreRanged : ℕ → ℕ → Type 0
 AreRanged lanes flush = ((1 ≤ lanes) × (lanes ≤ 64)) × ((1 ≤ flush) × (flush ≤ 65536))
 
-behind_ranged : (text_of : List ℕ → Option (List ℕ)) (values : Values) → values_behind text_of ≡ Some values → AreRanged values.lanes values.flush_point
-behind_ranged text_of values is =
+after_ranged : (text_of : List ℕ → Option (List ℕ)) (values : Values) → values_after text_of ≡ Some values → AreRanged values.lanes values.flush_point
+after_ranged text_of values is =
     option_and_then_some _ (maybe mode_named (text_of (codes "k"))) values is (λ checks read_checks is_checks.
     option_and_then_some _ (maybe (number_in 1 4294967295) (text_of (codes "n"))) values is_checks (λ limit read_limit is_limit.
     option_and_then_some _ (number_or 1 1 64 (text_of (codes "lanes"))) values is_limit (λ lanes read_lanes is_lanes.
@@ -153,7 +153,7 @@ by_console false rest values is = absurd cc
 
 values_ranged : (text_of : List ℕ → Option (List ℕ)) (values : Values) → values_by text_of ≡ Some values → AreRanged values.lanes values.flush_point
 unfolding values_by
-values_ranged text_of values is = behind_ranged text_of values (by_console (is_console (text_of (codes "A"))) (values_behind text_of) values is)
+values_ranged text_of values is = after_ranged text_of values (by_console (is_console (text_of (codes "A"))) (values_after text_of) values is)
 
 -- the numbers of a run lie in their ranges
 pub run_ranged : (words : List (List ℕ)) (wanted : Run) → command_line words ≡ Some (run wanted) → AreRanged wanted.lanes wanted.flush_point

@@ -31,8 +31,8 @@ append_uses (use_here ∷ first) second rows = go (add use_here rows) (append_us
     go (Some r) more = more r
 
 -- the uses of a word, and those of the words after it
-joined_uses : (reading : Reading) (behind : Option (List Use)) (rows : List Row)
-    → (add_all reading.uses rows >>= λ r. behind >>= λ uses. add_all uses r) ≡ (option_map (λ uses. reading.uses ++ uses) behind >>= λ uses. add_all uses rows)
+joined_uses : (reading : Reading) (following : Option (List Use)) (rows : List Row)
+    → (add_all reading.uses rows >>= λ r. following >>= λ uses. add_all uses r) ≡ (option_map (λ uses. reading.uses ++ uses) following >>= λ uses. add_all uses rows)
 joined_uses reading None rows = bind-none (add_all reading.uses rows)
 joined_uses reading (Some uses) rows = append_uses reading.uses uses rows
 
@@ -80,13 +80,13 @@ short_text : (word flags : Text) → IsUtf8 word → short_of word ≡ Some flag
 short_text [] flags text is = absurd (true≢false (sym (ap is_some is)))
 short_text (b ∷ bs) flags text is = go (b == 45) refl is
   where
-    behind : (x : ℕ) (xs : List ℕ) (t : Bool) → IsUtf8 (x ∷ xs) → cond t None (Some (x ∷ xs)) ≡ Some flags → IsUtf8 flags × (0 < length flags)
-    behind x xs true u e = absurd (true≢false (sym (ap is_some e)))
-    behind x xs false u e = subst (λ (o : Option (List ℕ)). IsUtf8 (unwrap_or o []) × (0 < length (unwrap_or o []))) e (u, omega arith)
+    following : (x : ℕ) (xs : List ℕ) (t : Bool) → IsUtf8 (x ∷ xs) → cond t None (Some (x ∷ xs)) ≡ Some flags → IsUtf8 flags × (0 < length flags)
+    following x xs true u e = absurd (true≢false (sym (ap is_some e)))
+    following x xs false u e = subst (λ (o : Option (List ℕ)). IsUtf8 (unwrap_or o []) × (0 < length (unwrap_or o []))) e (u, omega arith)
 
     rest_of : (xs : List ℕ) → IsUtf8 xs → option_and_then short_of_rest (Some xs) ≡ Some flags → IsUtf8 flags × (0 < length flags)
     rest_of [] u e = absurd (true≢false (sym (ap is_some e)))
-    rest_of (x ∷ xs) u e = behind x xs (x == 45) u e
+    rest_of (x ∷ xs) u e = following x xs (x == 45) u e
 
     go : (t : Bool) → (b == 45) ≡ t → option_and_then short_of_rest (cond t (Some bs) None) ≡ Some flags → IsUtf8 flags × (0 < length flags)
     go false is e = absurd (true≢false (sym (ap is_some e)))
@@ -104,16 +104,16 @@ module _ (known : List Choice) (all : AllFound known known) where
   abbrev plain_next : List Text → Option Choice → List Row → Option (List Row)
   plain_next rest waiting rows = uses_in known waiting rest >>= λ uses. add_all uses rows
 
-  abbrev plain_behind : List Text → Option Reading → Option (List Use)
-  plain_behind rest word = word >>= λ reading. option_map (λ uses. reading.uses ++ uses) (uses_in known reading.waiting rest)
+  abbrev plain_after : List Text → Option Reading → Option (List Use)
+  plain_after rest word = word >>= λ reading. option_map (λ uses. reading.uses ++ uses) (uses_in known reading.waiting rest)
 
   joined : (rest : List Text) (word : Option Reading) (rows : List Row)
-      → (word >>= λ reading. after_reading (plain_next rest) reading rows) ≡ (plain_behind rest word >>= λ uses. add_all uses rows)
+      → (word >>= λ reading. after_reading (plain_next rest) reading rows) ≡ (plain_after rest word >>= λ uses. add_all uses rows)
   joined rest None rows = refl
   joined rest (Some reading) rows = joined_uses reading (uses_in known reading.waiting rest) rows
 
   all_joined : (rest : List Text) (word : Option Reading) (h : Held)
-      → after_word (plain_next rest) (rules known) h word ≡ (settle (rules known) h >>= λ r. plain_behind rest word >>= λ uses. add_all uses r)
+      → after_word (plain_next rest) (rules known) h word ≡ (settle (rules known) h >>= λ r. plain_after rest word >>= λ uses. add_all uses r)
   all_joined rest word h = ap (λ (f : List Row → Option (List Row)). settle (rules known) h >>= f) (λ i r. joined rest word r i)
 
   -- a word where no option waits, by whether it is `--`, its name and its letters
@@ -128,8 +128,8 @@ module _ (known : List Choice) (all : AllFound known known) where
   idle_word word rest false (Some p) short rows pending text is none some =
       by_name known all idle word rest (plain_next rest) none some rows pending p short ∙ all_joined rest (word_uses known (Some p) short) (held rows pending)
   idle_word word rest false None (Some flags) rows pending text is none some =
-      let behind = short_text word flags text is in
-      by_letters known all idle word rest (plain_next rest) none some rows pending flags behind.0 behind.1 ∙ all_joined rest (word_uses known None (Some flags)) (held rows pending)
+      let following = short_text word flags text is in
+      by_letters known all idle word rest (plain_next rest) none some rows pending flags following.0 following.1 ∙ all_joined rest (word_uses known None (Some flags)) (held rows pending)
   idle_word word rest false None None rows pending text is none some =
       let h : Held = held rows pending in
       ap (λ (a : Option Rule). guard (option_map_or (λ x. positional_fault (rules known) false x h) a (stray_fault (shape known)))
@@ -151,8 +151,8 @@ module _ (known : List Choice) (all : AllFound known known) where
   one_value label word rows found =
       settle_waiting label (word ∷ []) rows found ∙ option_used label word rows (λ r. Some r) ∙ bind_some (add (record { label = text_of label; value = word }) rows)
 
-  use_then : (use_here : Use) (behind : Option (List Use)) (rows : List Row)
-      → (add use_here rows >>= λ r. behind >>= λ uses. add_all uses r) ≡ (option_map (λ uses. use_here ∷ uses) behind >>= λ uses. add_all uses rows)
+  use_then : (use_here : Use) (following : Option (List Use)) (rows : List Row)
+      → (add use_here rows >>= λ r. following >>= λ uses. add_all uses r) ≡ (option_map (λ uses. use_here ∷ uses) following >>= λ uses. add_all uses rows)
   use_then use_here None rows = bind-none (add use_here rows)
   use_then use_here (Some uses) rows = refl
 
@@ -183,18 +183,18 @@ module _ (known : List Choice) (all : AllFound known known) where
       → parts known b long short (option (text_of label)) word (held rows (Some (text_of label, []))) rest
       ≡ (cond (not b && (not (is_some long) && not (is_some short)))
       (option_map (λ uses. use_of (record { label = label; takes_value = true }) word ∷ uses) (uses_in known None rest)) None >>= λ uses. add_all uses rows)
-  option_word_is label word rest true long short rows text is found behind none some =
+  option_word_is label word rest true long short rows text is found following none some =
       trailed known (held rows (Some (text_of label, []))) (option (text_of label)) rest
       ∙ ap (λ (o : Option (List Row)). o >>= λ r. if_last rest >>= λ uses. add_all uses r) (no_value label rows found)
-  option_word_is label word rest false (Some p) short rows text is found behind none some =
+  option_word_is label word rest false (Some p) short rows text is found following none some =
       by_name known all (option (text_of label)) word rest (plain_next rest) none some rows (Some (text_of label, [])) p short
       ∙ ap (λ (o : Option (List Row)). o >>= λ r. word_uses known (Some p) short >>= λ reading. after_reading (plain_next rest) reading r) (no_value label rows found)
-  option_word_is label word rest false None (Some flags) rows text is found behind none some =
+  option_word_is label word rest false None (Some flags) rows text is found following none some =
       let read = short_text word flags text is in
       by_letters known all (option (text_of label)) word rest (plain_next rest) none some rows (Some (text_of label, [])) flags read.0 read.1
       ∙ ap (λ (o : Option (List Row)). o >>= λ r. word_uses known None (Some flags) >>= λ reading. after_reading (plain_next rest) reading r) (no_value label rows found)
-  option_word_is label word rest false None None rows text is found behind none some =
-      value_read label word rest rows found ∙ behind rows (Some (text_of label, word ∷ []))
+  option_word_is label word rest false None None rows text is found following none some =
+      value_read label word rest rows found ∙ following rows (Some (text_of label, word ∷ []))
       ∙ ap (λ (o : Option (List Row)). o >>= λ r. uses_in known None rest >>= λ uses. add_all uses r) (one_value label word rows found)
       ∙ use_then (record { label = text_of label; value = word }) (uses_in known None rest) rows
 
@@ -220,8 +220,8 @@ module _ (known : List Choice) (all : AllFound known known) where
     (λ choice found takes rows. option_stop choice.label choice.takes_value rows found takes),
   )
   ends (word ∷ rest) text =
-      let behind = ends rest text.1 in (
+      let following = ends rest text.1 in (
         (λ rows pending. idle_turn known word (held rows pending) rest
-            ∙ idle_word word rest (bytes_eq word (codes "--")) (long_of word) (short_of word) rows pending text.0 refl (λ r. behind.0 r None) behind.1),
-        (λ choice found takes rows. option_end choice.label choice.takes_value word rest rows text.0 behind.0 behind.1 found takes),
+            ∙ idle_word word rest (bytes_eq word (codes "--")) (long_of word) (short_of word) rows pending text.0 refl (λ r. following.0 r None) following.1),
+        (λ choice found takes rows. option_end choice.label choice.takes_value word rest rows text.0 following.0 following.1 found takes),
       )

@@ -16,7 +16,7 @@ use Rattle.clap.specs.declared.parser.matches.ValueSource.{ValueSource}
 use Rattle.clap.specs.declared.parser.matches.ValueSource.TheVariants.{CommandLine, DefaultValue}
 use Rattle.command_words.specs.declared.syntax.Choice.{Choice as Kept}
 use Rattle.command_words.specs.declared.syntax.Choice.TheVariants as kept
-use Rattle.command_words.specs.CommandLine.{Asked, asked_by, stands_beside}
+use Rattle.command_words.specs.CommandLine.{Asked, asked_by, may_be_beside}
 use Rattle.command_words.specs.Table.{Choice, Label, letter, name, table, text_of}
 
 abbrev pub name_of : Label → Option Text
@@ -85,7 +85,7 @@ given_in rows label = option_and_then given_text (find (λ row. bytes_eq row.id 
 
 -- the words gave one of these, and it may not be given beside `--read-unified2`
 abbrev pub others_among : List Row → List Text → Bool
-others_among rows labels = list_any (λ label. not (stands_beside label) && is_some (given_in rows label)) labels
+others_among rows labels = list_any (λ label. not (may_be_beside label) && is_some (given_in rows label)) labels
 
 abbrev pub others_in : List Row → Bool
 others_in rows = others_among rows (map (λ row. row.id) rows)

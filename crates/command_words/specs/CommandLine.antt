@@ -83,8 +83,8 @@ is_console None = true
 is_console (Some text) = bytes_eq text (codes "console")
 
 -- the values after `-A`, by the text that each option has
-abbrev pub values_behind : (List ℕ → Option (List ℕ)) → Option Values
-values_behind text_of =
+abbrev pub values_after : (List ℕ → Option (List ℕ)) → Option Values
+values_after text_of =
     maybe mode_named (text_of (codes "k")) >>= λ checks.
     maybe (number_in 1 4294967295) (text_of (codes "n")) >>= λ limit.
     number_or 1 1 64 (text_of (codes "lanes")) >>= λ lanes.
@@ -101,7 +101,7 @@ values_behind text_of =
 
 -- the values that have a form of their own, by the text that each option has
 unfoldable pub values_by : (List ℕ → Option (List ℕ)) → Option Values
-values_by text_of = if is_console (text_of (codes "A")) then values_behind text_of else None
+values_by text_of = if is_console (text_of (codes "A")) then values_after text_of else None
 
 -- ---- the steps after the reading
 
@@ -176,13 +176,13 @@ asked_by text_of others = values_by text_of >>= first_asked text_of others
 -- ---- the command
 
 -- what may be given beside `--read-unified2`
-abbrev pub stands_beside : List ℕ → Bool
-stands_beside label =
+abbrev pub may_be_beside : List ℕ → Bool
+may_be_beside label =
     bytes_eq label (codes "read-unified2") || (bytes_eq label (codes "help") || bytes_eq label (codes "V"))
 
 -- anything else is used
 abbrev pub has_others : List Use → Bool
-has_others uses = list_any (λ use_here. not (stands_beside use_here.label)) uses
+has_others uses = list_any (λ use_here. not (may_be_beside use_here.label)) uses
 
 -- what the words of a command ask for, the program's name among them
 unfoldable pub command_line : List (List ℕ) → Option Asked

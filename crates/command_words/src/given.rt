@@ -3,7 +3,7 @@ ghost use Rattle.std.specs.Prelude.{◌≡◌, is_some, option_map};
 ghost use Rattle.clap.specs.Matches.{ids_left};
 ghost use Rattle.clap.specs.Words.{found_of, rows_of};
 ghost use Rattle.command_words.specs.Clap.{given_in, if_given, others_among, others_in};
-ghost use Rattle.command_words.specs.CommandLine.{stands_beside};
+ghost use Rattle.command_words.specs.CommandLine.{may_be_beside};
 ghost use Rattle.command_words.specs.Told.{lent};
 
 use clap::ArgMatches;
@@ -34,8 +34,8 @@ pub(crate) fn is_given(matches: &ArgMatches<'_>, id: &str) -> bool
 }
 
 /// Whether this letter or name may be given beside `--read-unified2`.
-fn stands_beside(id: &str) -> bool
-    ensures { result ≡ stands_beside id.now }
+fn may_be_beside(id: &str) -> bool
+    ensures { result ≡ may_be_beside id.now }
 {
     id == "read-unified2" || id == "help" || id == "V"
 }
@@ -45,7 +45,7 @@ pub(crate) fn has_others(matches: &ArgMatches<'_>) -> bool
     ensures { result ≡ others_in (rows_of (found_of matches.now)) }
 {
     for id in matches.ids() {
-        if !stands_beside(id) && is_given(matches, id) {
+        if !may_be_beside(id) && is_given(matches, id) {
             return true;
         }
     }

@@ -8,11 +8,11 @@ use Rattle.std.proofs.lemmas.Bool.Decides.{nat_tests}
 use Rattle.std.proofs.lemmas.List.Sums.{suffix_len-take_no, suffix_len-take_yes}
 use Rattle.std.proofs.lemmas.List.{take_all}
 use Rattle.std.proofs.lemmas.Str.{IsUtf8-append, IsUtf8-take, IsUtf8-nil, IsCharBoundary-after_ascii, IsUtf8-from_is_utf8, is_utf8-from_IsUtf8}
-use Rattle.net_lists.specs.Cutting.{first_word, behind_word}
+use Rattle.net_lists.specs.Cutting.{first_word, after_word}
 use Rattle.net_lists.specs.Variables.{Variables}
 use Rattle.conf_parser.specs.declared.draft.Draft.{Draft}
 use Rattle.conf_parser.specs.declared.draft.Settings.{Settings}
-use Rattle.conf_parser.specs.declared.given.Behind.{Behind}
+use Rattle.conf_parser.specs.declared.given.Onward.{Onward}
 use Rattle.conf_parser.specs.declared.line.ConfKind.{ConfKind}
 use Rattle.conf_parser.specs.declared.line.ConfKind.TheVariants as kinds
 use Rattle.conf_parser.specs.declared.name.ConfigName.{ConfigName}
@@ -20,12 +20,12 @@ use Rattle.conf_parser.specs.declared.name.PreprocessorName.{PreprocessorName}
 use Rattle.conf_parser.specs.declared.name.Directive.{Directive}
 use Rattle.conf_parser.specs.declared.name.Directive.TheVariants as directive
 use Rattle.conf_parser.specs.declared.variables.ValueForm.{ValueForm}
-use Rattle.conf_parser.specs.Values.{◌>>=◌, or_kind, mapped, is_empty, expanded, name_of, behind_name}
+use Rattle.conf_parser.specs.Values.{◌>>=◌, or_kind, mapped, is_empty, expanded, name_of, after_name}
 use Rattle.conf_parser.specs.Spots.{Spot}
 use Rattle.conf_parser.specs.Names.{directive_named, config_name, preprocessor_name}
 use Rattle.conf_parser.specs.Variables.{definition, directory, is_rooted, beside, within_files, is_file_name, include}
 use Rattle.conf_parser.specs.Events.{event_filter, suppress}
-use Rattle.conf_parser.specs.ConfLine.{silent, drafted, with_variables, definition_line, include_line, skipped, config_value, behind_draft, named_or_skipped, config_line, preprocessor_draft, preprocessor_line, filter_line, suppress_line, directive_line, conf_line}
+use Rattle.conf_parser.specs.ConfLine.{silent, drafted, with_variables, definition_line, include_line, skipped, config_value, after_draft, named_or_skipped, config_line, preprocessor_draft, preprocessor_line, filter_line, suppress_line, directive_line, conf_line}
 use Rattle.conf_parser.specs.Steps.{MayBeRead, MayGive}
 
 -- ---- names
@@ -131,10 +131,10 @@ include-read variables spot rest f =
     (λ n h. within_files-read spot n f h))
 
 -- what a line hands on may be read
-abbrev Fine : ℕ → Behind → Type 0
-Fine count behind = MayGive count behind.given
+abbrev Fine : ℕ → Onward → Type 0
+Fine count after = MayGive count after.given
 
-drafted-fine : (count : ℕ) (settings : Settings) (r : Result Draft ConfKind) → IfOk (behind_draft settings r) (Fine count)
+drafted-fine : (count : ℕ) (settings : Settings) (r : Result Draft ConfKind) → IfOk (after_draft settings r) (Fine count)
 drafted-fine count settings r = mapped_if (λ d. Unit {0}) (Fine count) (λ draft. silent (drafted settings draft)) r (any_if r) (λ d _. tt)
 
 named-fine : {N : Type 0} (count : ℕ) (settings : Settings) (word name : List ℕ) (known : Option N) (read : N → Result Draft ConfKind) → IfOk (named_or_skipped settings word name known read) (Fine count)
@@ -160,8 +160,8 @@ conf_line-fine : (spot : Spot) (settings : Settings) (line : List ℕ) → is_ut
 unfolding conf_line
 conf_line-fine spot settings line f =
     bind_if (λ d. Unit {0}) (Fine spot.files) (or_kind kinds.UnknownDirective (directive_named (first_word line))) _ (any_if _)
-    (λ known _. directive_line-fine spot settings known (first_word line) (behind_word line) f)
+    (λ known _. directive_line-fine spot settings known (first_word line) (after_word line) f)
 
 -- what an accepted line hands on may be read
-pub given_may : (spot : Spot) (settings : Settings) (line : List ℕ) (behind : Behind) → conf_line spot settings line ≡ Ok behind → is_utf8 spot.file ≡ true → MayGive spot.files behind.given
-given_may spot settings line behind meant f = subst (λ (r : Result Behind ConfKind). IfOk r (Fine spot.files)) meant (conf_line-fine spot settings line f)
+pub given_may : (spot : Spot) (settings : Settings) (line : List ℕ) (after : Onward) → conf_line spot settings line ≡ Ok after → is_utf8 spot.file ≡ true → MayGive spot.files after.given
+given_may spot settings line after meant f = subst (λ (r : Result Onward ConfKind). IfOk r (Fine spot.files)) meant (conf_line-fine spot settings line f)

@@ -4,7 +4,7 @@ use Rattle.std.specs.Prelude.{⊤}
 use Rattle.net_lists.specs.declared.stop.Stop.{Stop}
 use Rattle.net_lists.specs.declared.stop.Stop.TheVariants.{Wrong, NoMemory}
 use Rattle.net_lists.specs.Stops.{Gives}
-use Rattle.conf_parser.specs.declared.given.Behind.{Behind}
+use Rattle.conf_parser.specs.declared.given.Onward.{Onward}
 use Rattle.conf_parser.specs.declared.line.ConfKind.{ConfKind}
 use Rattle.net_lists.specs.declared.lines.Numbered.{Numbered}
 use Rattle.conf_parser.specs.declared.reading.Next.{Next}
@@ -20,14 +20,14 @@ abbrev pub spot_of : Source → Read → Spot
 spot_of source read = record { file = source.name; depth = source.depth; files = file_count read }
 
 -- a line that is accepted
-pub step-ok : (source : Source) (line : Numbered) (read : Read) (behind : Behind) (next : Next) → conf_line (spot_of source read) read.settings line.text ≡ Ok behind
-    → ((including : Including) → given_read including source line behind.settings read.output behind.given ≡ next_read including source line next)
+pub step-ok : (source : Source) (line : Numbered) (read : Read) (after : Onward) (next : Next) → conf_line (spot_of source read) read.settings line.text ≡ Ok after
+    → ((including : Including) → given_read including source line after.settings read.output after.given ≡ next_read including source line next)
     → StepsTo source line read (Ok next)
 unfolding line_read
-step-ok source line read behind next meant goes = λ including. ap (meaning_read including source line read.output) meant ∙ goes including
+step-ok source line read after next meant goes = λ including. ap (meaning_read including source line read.output) meant ∙ goes including
 
 -- a line that is refused
-abbrev pub refusal : Stop ConfKind → Result Behind (Stop ConfKind)
+abbrev pub refusal : Stop ConfKind → Result Onward (Stop ConfKind)
 refusal stop = Err stop
 
 pub step-err : (source : Source) (line : Numbered) (read : Read) (stop : Stop ConfKind) → Gives (refusal stop) (conf_line (spot_of source read) read.settings line.text)

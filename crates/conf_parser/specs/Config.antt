@@ -9,7 +9,7 @@ use Rattle.edge_io.specs.Bytes.{trimmed}
 use Rattle.net_lists.specs.Addresses.{cut}
 use Rattle.net_lists.specs.Numbers.{number_in}
 use Rattle.net_lists.specs.Cutting.{words, settings}
-use Rattle.net_lists.specs.Folds.{draft_behind}
+use Rattle.net_lists.specs.Folds.{draft_after}
 use Rattle.packet_decode.specs.declared.checks.Checks.{Checks}
 use Rattle.conf_types.specs.Classes.{class_place}
 use Rattle.conf_types.specs.declared.classes.Class.{Class}
@@ -17,7 +17,7 @@ use Rattle.conf_types.specs.declared.config.QueueLimits.{QueueLimits}
 use Rattle.conf_parser.specs.declared.line.ConfKind.{ConfKind}
 use Rattle.conf_parser.specs.declared.line.ConfKind.TheVariants.{BadValue, Limit}
 use Rattle.conf_parser.specs.Values.{◌>>=◌, or_kind, mapped, is_word, is_empty}
-use Rattle.conf_parser.specs.Options.{settings_behind}
+use Rattle.conf_parser.specs.Options.{settings_after}
 use Rattle.conf_parser.specs.Settings.{all_checks, no_checks}
 
 -- a class of this name, text and priority, whose name and text are not empty
@@ -45,8 +45,8 @@ unfoldable pub classification : List Class → List ℕ → Result (List Class) 
 classification classes value = class_of value >>= with_class classes
 
 -- one word of `checksum_mode`
-unfoldable pub checks_behind : Checks → List ℕ → Result Checks ConfKind
-checks_behind checks word =
+unfoldable pub checks_after : Checks → List ℕ → Result Checks ConfKind
+checks_after checks word =
     if is_word word (codes "all") then Ok all_checks
     else if is_word word (codes "none") then Ok no_checks
     else if is_word word (codes "noip") then Ok (record checks { ip = false })
@@ -57,7 +57,7 @@ checks_behind checks word =
 
 -- `checksum_mode`: at least one word, from left to right, each on what the words and lines before it left
 unfoldable pub checksum_mode : Checks → List ℕ → Result Checks ConfKind
-checksum_mode checks value = if is_empty value then Err BadValue else draft_behind checks_behind checks (words value)
+checksum_mode checks value = if is_empty value then Err BadValue else draft_after checks_after checks (words value)
 
 -- the order of events: by priority or by the length of their contents
 unfoldable pub event_order : List ℕ → Option Bool
@@ -79,7 +79,7 @@ queue_setting queue name (Some value) =
 
 -- `event_queue`: its settings, each with a value, on what the lines before left
 unfoldable pub event_queue : QueueLimits → List ℕ → Result QueueLimits ConfKind
-event_queue queue value = settings_behind (λ name. false) queue_setting queue value
+event_queue queue value = settings_after (λ name. false) queue_setting queue value
 
 -- the word of `detection` that has a meaning
 abbrev pub stops_inserts : List ℕ → Bool

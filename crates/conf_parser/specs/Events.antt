@@ -8,8 +8,8 @@ use Rattle.std.specs.Prelude.{ℕ, ◌==◌, ◌&&◌, ◌||◌, ◌++◌, not, 
 use Rattle.std.specs.List.{list_any}
 use Rattle.net_lists.specs.Numbers.{number_in}
 use Rattle.net_lists.specs.Variables.{Variables}
-use Rattle.net_lists.specs.Cutting.{comma_parts, first_word, behind_word}
-use Rattle.net_lists.specs.Folds.{draft_behind}
+use Rattle.net_lists.specs.Cutting.{comma_parts, first_word, after_word}
+use Rattle.net_lists.specs.Folds.{draft_after}
 use Rattle.conf_types.specs.declared.filter.EventFilter.{EventFilter}
 use Rattle.conf_types.specs.declared.filter.FilterKind.{FilterKind}
 use Rattle.conf_types.specs.declared.filter.FilterKind.TheVariants as kind
@@ -74,7 +74,7 @@ filter_value draft name.Seconds value =
 
 -- one part of an event filter
 unfoldable pub filter_part : FilterDraft → List ℕ → Result FilterDraft ConfKind
-filter_part draft part = or_kind BadValue (filter_name (first_word part)) >>= λ name. filter_value draft name (behind_word part)
+filter_part draft part = or_kind BadValue (filter_name (first_word part)) >>= λ name. filter_value draft name (after_word part)
 
 -- the draft of a filter before the first part
 abbrev pub no_parts : FilterDraft
@@ -115,7 +115,7 @@ with_filter filters filter =
 
 -- the filter that a line gives
 unfoldable pub read_filter : List ℕ → Result EventFilter ConfKind
-read_filter rest = draft_behind filter_part no_parts (comma_parts rest) >>= filter_of
+read_filter rest = draft_after filter_part no_parts (comma_parts rest) >>= filter_of
 
 -- `event_filter`: the filters after the line
 unfoldable pub event_filter : List EventFilter → List ℕ → Result (List EventFilter) ConfKind
@@ -130,17 +130,17 @@ next_word next.Ip = Some (codes "ip")
 next_word next.End = None
 
 -- the part after a part
-abbrev pub part_behind : NextPart → NextPart
-part_behind next.GenId = next.SigId
-part_behind next.SigId = next.Track
-part_behind next.Track = next.Ip
-part_behind next.Ip = next.End
-part_behind next.End = next.End
+abbrev pub part_after : NextPart → NextPart
+part_after next.GenId = next.SigId
+part_after next.SigId = next.Track
+part_after next.Track = next.Ip
+part_after next.Ip = next.End
+part_after next.End = next.End
 
 -- the word is the one that the next part begins with
-abbrev pub stands : Option (List ℕ) → List ℕ → Bool
-stands None word = false
-stands (Some wanted) word = is_word word wanted
+abbrev pub is_named : Option (List ℕ) → List ℕ → Bool
+is_named None word = false
+is_named (Some wanted) word = is_word word wanted
 
 -- the value of the next part
 abbrev pub suppress_value : Variables → SuppressDraft → NextPart → List ℕ → Result SuppressDraft ConfKind
@@ -156,18 +156,18 @@ suppress_value variables draft next.End value = Err BadValue
 
 -- the draft, with the part after this one as the next
 abbrev pub past : NextPart → SuppressDraft → SuppressDraft
-past part draft = record draft { next = part_behind part }
+past part draft = record draft { next = part_after part }
 
 -- the draft after a part that is in its place, with its value or without
 unfoldable pub placed_part : Variables → SuppressDraft → List ℕ → Result SuppressDraft ConfKind
 placed_part variables draft value =
-    if is_empty value then Ok (record draft { next = part_behind draft.next; lacks = true })
+    if is_empty value then Ok (record draft { next = part_after draft.next; lacks = true })
     else mapped (past draft.next) (suppress_value variables draft draft.next value)
 
 -- one part of a suppress line
 unfoldable pub suppress_part : Variables → SuppressDraft → List ℕ → Result SuppressDraft ConfKind
 suppress_part variables draft part =
-    if stands (next_word draft.next) (first_word part) then placed_part variables draft (behind_word part) else Err BadValue
+    if is_named (next_word draft.next) (first_word part) then placed_part variables draft (after_word part) else Err BadValue
 
 -- the draft of a suppress line before the first part
 abbrev pub first_part : SuppressDraft
@@ -196,7 +196,7 @@ with_suppress lines line = if nat_le 1024 (length lines) then Err Limit else Ok 
 
 -- the suppress line that a text gives
 unfoldable pub read_suppress : Variables → List ℕ → Result Suppress ConfKind
-read_suppress variables rest = draft_behind (suppress_part variables) first_part (comma_parts rest) >>= suppress_of
+read_suppress variables rest = draft_after (suppress_part variables) first_part (comma_parts rest) >>= suppress_of
 
 -- `suppress`: the lines after it
 unfoldable pub suppress : Variables → List Suppress → List ℕ → Result (List Suppress) ConfKind

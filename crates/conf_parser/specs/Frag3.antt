@@ -15,7 +15,7 @@ use Rattle.conf_parser.specs.declared.line.ConfKind.{ConfKind}
 use Rattle.conf_parser.specs.declared.line.ConfKind.TheVariants.{BadValue, Duplicate, Limit}
 use Rattle.conf_parser.specs.Values.{◌>>=◌, or_kind, mapped, is_word, setting_text, expanded_addresses}
 use Rattle.edge_io.specs.Policies.{frag_policy}
-use Rattle.conf_parser.specs.Options.{settings_behind}
+use Rattle.conf_parser.specs.Options.{settings_after}
 
 -- settings of `frag3_global` that change nothing
 unfoldable pub is_unread_global : List ℕ → Bool
@@ -38,12 +38,12 @@ with_max_frags draft frags = if is_some draft.max_frags then Err Duplicate else 
 unfoldable pub frag3_global : FragDraft → List ℕ → Result FragDraft ConfKind
 frag3_global draft rest = do
   text ← setting_text rest
-  frags ← settings_behind (λ name. false) global_setting 8192 text
+  frags ← settings_after (λ name. false) global_setting 8192 text
   with_max_frags draft frags
 
 -- the setting of an engine that has no value, and changes nothing
-abbrev pub stands_alone : List ℕ → Bool
-stands_alone name = is_word name (codes "detect_anomalies")
+abbrev pub is_alone : List ℕ → Bool
+is_alone name = is_word name (codes "detect_anomalies")
 
 -- settings of an engine with a number that change nothing
 unfoldable pub is_unread : List ℕ → Bool
@@ -52,7 +52,7 @@ is_unread name =
 
 -- one setting of an engine
 unfoldable pub engine_setting : Variables → FragEngine → List ℕ → Option (List ℕ) → Result FragEngine ConfKind
-engine_setting variables engine name None = if stands_alone name then Ok engine else Err BadValue
+engine_setting variables engine name None = if is_alone name then Ok engine else Err BadValue
 engine_setting variables engine name (Some value) =
     if is_word name (codes "policy") then mapped (λ p. record engine { policy = p }) (or_kind BadValue (frag_policy value))
     else if is_word name (codes "timeout") then mapped (λ n. record engine { timeout = n })
@@ -79,5 +79,5 @@ with_engine draft engine =
 unfoldable pub frag3_engine : Variables → FragDraft → List ℕ → Result FragDraft ConfKind
 frag3_engine variables draft rest = do
   text ← setting_text rest
-  engine ← settings_behind stands_alone (engine_setting variables) default_frag_engine text
+  engine ← settings_after is_alone (engine_setting variables) default_frag_engine text
   with_engine draft engine

@@ -3,7 +3,7 @@
 -- To try it on: where `c` has no value, the words `a 1 c b` are the settings `a` with the value `1`, `c`, and
 -- `b`, which lacks its value.
 use Rattle.std.specs.Prelude.{ℕ, Bool, Option, Some, None, Result, List, [], ◌∷◌, if◌then◌else◌}
-use Rattle.net_lists.specs.Folds.{draft_behind}
+use Rattle.net_lists.specs.Folds.{draft_after}
 use Rattle.net_lists.specs.Cutting.{settings}
 use Rattle.conf_parser.specs.declared.line.ConfKind.{ConfKind}
 
@@ -24,7 +24,7 @@ paired alone (name ∷ value ∷ rest) =
     if alone name then setting name None ∷ paired alone (value ∷ rest) else setting name (Some value) ∷ paired alone rest
 
 -- the draft after all settings of a text, or the kind of the first that is refused
-abbrev pub settings_behind : {D : Type 0} → (List ℕ → Bool) → (D → List ℕ → Option (List ℕ) → Result D ConfKind) → D → List ℕ
+abbrev pub settings_after : {D : Type 0} → (List ℕ → Bool) → (D → List ℕ → Option (List ℕ) → Result D ConfKind) → D → List ℕ
     → Result D ConfKind
-settings_behind alone step draft text =
-    draft_behind (λ d setting. step d setting.name setting.value) draft (paired alone (settings text))
+settings_after alone step draft text =
+    draft_after (λ d setting. step d setting.name setting.value) draft (paired alone (settings text))

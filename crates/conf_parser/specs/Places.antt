@@ -17,8 +17,8 @@ abbrev pub RulesAreIn : ℕ → List Line → Type 0
 RulesAreIn count rules = All (λ (rule : Line). rule.file < count) rules
 
 -- what is handed out after an answer is in the files there, a fault among it
-abbrev pub StandInFiles : {A : Type 0} → Result A LoadStop → Loaded → Type 0
-StandInFiles (Ok x) out = RulesAreIn (length out.files) out.rules × WarningsAreIn (length out.files) out.warnings
-StandInFiles (Err (stop.Conf fault)) out = (fault.file < length out.files) × WarningsAreIn (length out.files) out.warnings
-StandInFiles (Err (stop.HostFailed name)) out = WarningsAreIn (length out.files) out.warnings
-StandInFiles (Err stop.NoMemory) out = ⊤
+abbrev pub LieInFiles : {A : Type 0} → Result A LoadStop → Loaded → Type 0
+LieInFiles (Ok x) out = RulesAreIn (length out.files) out.rules × WarningsAreIn (length out.files) out.warnings
+LieInFiles (Err (stop.Conf fault)) out = (fault.file < length out.files) × WarningsAreIn (length out.files) out.warnings
+LieInFiles (Err (stop.HostFailed name)) out = WarningsAreIn (length out.files) out.warnings
+LieInFiles (Err stop.NoMemory) out = ⊤

@@ -13,7 +13,7 @@ use Rattle.net_lists.specs.Variables.{Variables}
 use Rattle.conf_parser.specs.declared.draft.Settings.{Settings}
 use Rattle.conf_parser.specs.declared.given.Given.{Given}
 use Rattle.conf_parser.specs.declared.given.Given.TheVariants.{Nothing, Rule, Skipped, Include}
-use Rattle.conf_parser.specs.declared.given.Behind.{Behind}
+use Rattle.conf_parser.specs.declared.given.Onward.{Onward}
 use Rattle.conf_parser.specs.declared.line.Line.{Line}
 use Rattle.conf_parser.specs.declared.line.Warning.{Warning}
 use Rattle.conf_parser.specs.declared.line.ConfFault.{ConfFault}
@@ -103,8 +103,8 @@ given_read including source line settings output (Skipped directive name) =
 given_read including source line settings output (Include name) = including name (line_at source line) (read_with settings output)
 
 -- the reading after the meaning of a line
-abbrev pub meaning_read : Including → Source → Numbered → Output → Result Behind ConfKind → Ended
-meaning_read including source line output (Ok behind) = given_read including source line behind.settings output behind.given
+abbrev pub meaning_read : Including → Source → Numbered → Output → Result Onward ConfKind → Ended
+meaning_read including source line output (Ok after) = given_read including source line after.settings output after.given
 meaning_read including source line output (Err kind) = Refused (fault_at (line_at source line) kind) output
 
 -- the reading after one line

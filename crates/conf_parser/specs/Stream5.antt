@@ -13,8 +13,8 @@ use Rattle.net_lists.specs.declared.part.Bounds.{Bounds}
 use Rattle.net_lists.specs.Parts.{one_port}
 use Rattle.net_lists.specs.Numbers.{number_in}
 use Rattle.net_lists.specs.Variables.{Variables}
-use Rattle.net_lists.specs.Cutting.{words, comma_parts, first_word, behind_word}
-use Rattle.net_lists.specs.Folds.{draft_behind}
+use Rattle.net_lists.specs.Cutting.{words, comma_parts, first_word, after_word}
+use Rattle.net_lists.specs.Folds.{draft_after}
 use Rattle.conf_types.specs.declared.config.StreamEngine.{StreamEngine}
 use Rattle.conf_types.specs.Defaults.{default_ports, default_stream_engine}
 use Rattle.conf_parser.specs.declared.draft.StreamDraft.{StreamDraft}
@@ -103,11 +103,11 @@ named_global partial name value =
 -- one setting of `stream5_global`
 unfoldable pub global_part : Partial StreamGlobal → List ℕ → Result (Partial StreamGlobal) ConfKind
 global_part partial part =
-    or_kind BadValue (global_name (first_word part)) >>= λ name. named_global partial name (behind_word part)
+    or_kind BadValue (global_name (first_word part)) >>= λ name. named_global partial name (after_word part)
 
 -- the values that the settings of a text give
 unfoldable pub global_values : List ℕ → Result StreamGlobal ConfKind
-global_values text = draft_behind global_part (complete default_global) (stream_parts text) >>= whole
+global_values text = draft_after global_part (complete default_global) (stream_parts text) >>= whole
 
 -- the global line, which may be given once
 unfoldable pub with_global : StreamDraft → StreamGlobal → Result StreamDraft ConfKind
@@ -124,15 +124,15 @@ stream5_global draft rest = do
 unfoldable pub udp_part : Partial ℕ → List ℕ → Result (Partial ℕ) ConfKind
 udp_part partial part =
     if is_word (first_word part) (codes "ignore_any_rules") then
-    if is_empty (behind_word part) then Ok partial else Err BadValue
+    if is_empty (after_word part) then Ok partial else Err BadValue
     else if is_word (first_word part) (codes "timeout") then
-    if is_empty (behind_word part) then Ok (lacking partial)
-    else onward partial (or_kind BadValue (number_in 1 86400 (behind_word part)))
+    if is_empty (after_word part) then Ok (lacking partial)
+    else onward partial (or_kind BadValue (number_in 1 86400 (after_word part)))
     else Err BadValue
 
 -- the timeout that the settings of a text give
 unfoldable pub udp_timeout : List ℕ → Result ℕ ConfKind
-udp_timeout text = draft_behind udp_part (complete 30) (stream_parts text) >>= whole
+udp_timeout text = draft_after udp_part (complete 30) (stream_parts text) >>= whole
 
 -- the line of UDP, which may be given once
 unfoldable pub with_udp : StreamDraft → ℕ → Result StreamDraft ConfKind
@@ -197,7 +197,7 @@ unfoldable pub port_words : List ℕ → Result (Option (List (Part (Bounds ℕ)
 port_words value =
     if is_word value (codes "all") then Ok (Some [])
     else if is_word value (codes "none") then Ok None
-    else mapped (λ ports. Some ports) (draft_behind port_word [] (words value))
+    else mapped (λ ports. Some ports) (draft_after port_word [] (words value))
 
 -- the ports of both, where a list without parts has every port
 abbrev pub joined_ports : Option (List (Part (Bounds ℕ))) → Option (List (Part (Bounds ℕ))) → Option (List (Part (Bounds ℕ)))
@@ -225,7 +225,7 @@ with_ports draft Both ports = with_server (with_client draft ports) ports
 unfoldable pub ports_value : TcpDraft → List ℕ → Result TcpDraft ConfKind
 ports_value draft value = do
   side ← or_kind BadValue (side (first_word value))
-  ports ← port_words (behind_word value)
+  ports ← port_words (after_word value)
   Ok (with_ports draft side ports)
 
 -- the value of a setting other than `ports`
@@ -253,7 +253,7 @@ tcp_value variables draft name value =
 
 -- a `ports` setting without a side, or without ports after one
 unfoldable pub lacks_ports : List ℕ → Bool
-lacks_ports value = is_empty value || (is_some (side (first_word value)) && is_empty (behind_word value))
+lacks_ports value = is_empty value || (is_some (side (first_word value)) && is_empty (after_word value))
 
 -- the setting lacks its value
 abbrev pub lacks_value : TcpName → List ℕ → Bool
@@ -270,7 +270,7 @@ named_tcp variables partial name value =
 -- one setting of `stream5_tcp`
 unfoldable pub tcp_part : Variables → Partial TcpDraft → List ℕ → Result (Partial TcpDraft) ConfKind
 tcp_part variables partial part =
-    or_kind BadValue (tcp_name (first_word part)) >>= λ name. named_tcp variables partial name (behind_word part)
+    or_kind BadValue (tcp_name (first_word part)) >>= λ name. named_tcp variables partial name (after_word part)
 
 -- an engine before its settings: its ports come after the last of them
 abbrev pub first_engine : StreamEngine
@@ -290,7 +290,7 @@ engine_of draft = record (draft.engine) { client_ports = client_ports_of draft; 
 
 -- what the settings of a text give
 unfoldable pub tcp_settings : Variables → List ℕ → Result TcpDraft ConfKind
-tcp_settings variables text = draft_behind (tcp_part variables) (complete first_tcp) (stream_parts text) >>= whole
+tcp_settings variables text = draft_after (tcp_part variables) (complete first_tcp) (stream_parts text) >>= whole
 
 -- an engine for all hosts is there
 unfoldable pub has_default : List StreamEngine → Bool

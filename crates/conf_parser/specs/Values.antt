@@ -87,17 +87,17 @@ unfoldable pub name_of : List ℕ → List ℕ
 name_of text = take (prefix_len in_name text) text
 
 -- what comes after the name, without blanks at its ends
-unfoldable pub behind_name : List ℕ → List ℕ
-behind_name text = trimmed (drop (prefix_len in_name text) text)
+unfoldable pub after_name : List ℕ → List ℕ
+after_name text = trimmed (drop (prefix_len in_name text) text)
 
 -- what comes after a colon in front
-unfoldable pub behind_colon : List ℕ → Option (List ℕ)
-behind_colon [] = None
-behind_colon (first ∷ rest) = if first == 58 then Some (trimmed rest) else None
+unfoldable pub after_colon : List ℕ → Option (List ℕ)
+after_colon [] = None
+after_colon (first ∷ rest) = if first == 58 then Some (trimmed rest) else None
 
 -- the settings of a preprocessor line: nothing, or what comes after a colon
 unfoldable pub setting_text : List ℕ → Result (List ℕ) ConfKind
-setting_text rest = if is_empty rest then Ok [] else or_kind BadValue (behind_colon rest)
+setting_text rest = if is_empty rest then Ok [] else or_kind BadValue (after_colon rest)
 
 -- `yes` or `no`
 unfoldable pub yes_or_no : List ℕ → Option Bool

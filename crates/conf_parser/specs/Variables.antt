@@ -9,7 +9,7 @@ use Rattle.std.specs.Prelude.{ℕ, ◌==◌, ◌&&◌, ◌++◌, ◌-◌, not, B
 use Rattle.std.specs.List.{suffix_len}
 use Rattle.std.specs.Str.{is_utf8}
 use Rattle.net_lists.specs.Variables.{Variables, defined, is_name}
-use Rattle.net_lists.specs.Cutting.{first_word, behind_word}
+use Rattle.net_lists.specs.Cutting.{first_word, after_word}
 use Rattle.conf_parser.specs.declared.variables.ValueForm.{ValueForm}
 use Rattle.conf_parser.specs.declared.variables.ValueForm.TheVariants.{Any, Addresses, Ports}
 use Rattle.conf_parser.specs.declared.line.ConfKind.{ConfKind}
@@ -36,7 +36,7 @@ named variables form name text =
 
 -- `var`, `ipvar` and `portvar`: the variables after the line
 unfoldable pub definition : Variables → ValueForm → List ℕ → Result Variables ConfKind
-definition variables form rest = named variables form (first_word rest) (behind_word rest)
+definition variables form rest = named variables form (first_word rest) (after_word rest)
 
 -- the directory part of a file's name: up to its last `/` (47), that included
 unfoldable pub directory : List ℕ → List ℕ

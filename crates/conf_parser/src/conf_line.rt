@@ -1,21 +1,21 @@
 //! What one line of a configuration means.
 ghost use Rattle.std.specs.Prelude.{Ok};
 ghost use Rattle.net_lists.specs.Stops.{Gives};
-ghost use Rattle.conf_parser.specs.ConfLine.{definition_line, include_line, config_draft, config_value, config_line, preprocessor_draft, preprocessor_line, filter_line, suppress_line, directive_line, conf_line, given_behind};
+ghost use Rattle.conf_parser.specs.ConfLine.{definition_line, include_line, config_draft, config_value, config_line, preprocessor_draft, preprocessor_line, filter_line, suppress_line, directive_line, conf_line, given_after};
 ghost use Rattle.conf_parser.specs.Values.{with_new};
 
 use crate::config_lines::{checksum_mode, classification, detection, event_queue};
 use crate::draft::{Draft, Settings, Spot};
 use crate::events::{event_filter, suppress};
 use crate::frag3::{frag3_engine, frag3_global};
-use crate::given::{Behind, Given};
+use crate::given::{Onward, Given};
 use crate::line::ConfKind;
 use crate::name::{
     ConfigName, Directive, PreprocessorName, config_name, directive_named, preprocessor_name,
 };
 use crate::stream5::{stream5_global, stream5_udp};
 use crate::tcp::stream5_tcp;
-use crate::value::{behind_colon, name_and_rest};
+use crate::value::{after_colon, name_and_rest};
 use crate::variables::{ValueForm, definition, include};
 use edge_io::Text;
 use net_lists::{Stop, Vars, first_word};
@@ -29,7 +29,7 @@ fn definition_line(
     form: ValueForm,
     rest: &[u8],
 ) -> Result<Given, Stop<ConfKind>>
-    ensures { Gives (given_behind result settings.new) (definition_line settings.old form rest.now) }
+    ensures { Gives (given_after result settings.new) (definition_line settings.old form rest.now) }
 {
     definition(alloc, &mut settings.vars, form, rest)?;
     Ok(Given::Nothing)
@@ -43,7 +43,7 @@ fn include_line(
     spot: &Spot<'_>,
     rest: &[u8],
 ) -> Result<Given, Stop<ConfKind>>
-    ensures { Gives (given_behind result settings.now) (include_line settings.now spot.now rest.now) }
+    ensures { Gives (given_after result settings.now) (include_line settings.now spot.now rest.now) }
 {
     let name = include(alloc, &settings.vars, spot, rest)?;
     Ok(Given::Include(name))
@@ -88,7 +88,7 @@ fn config_value(
     if matches!(name, ConfigName::Unread) {
         return Ok(());
     }
-    let Some(value) = behind_colon(rest) else {
+    let Some(value) = after_colon(rest) else {
         return Err(Stop::Wrong(ConfKind::BadValue));
     };
     config_draft(alloc, draft, name, value)
@@ -111,13 +111,13 @@ fn config_line(
     word: &[u8],
     rest: &[u8],
 ) -> Result<Given, Stop<ConfKind>>
-    ensures { Gives (given_behind result settings.new) (config_line settings.old word.now rest.now) }
+    ensures { Gives (given_after result settings.new) (config_line settings.old word.now rest.now) }
 {
-    let (name, behind) = name_and_rest(rest);
+    let (name, after) = name_and_rest(rest);
     let Some(known) = config_name(name) else {
         return skipped(alloc, word, name);
     };
-    config_value(alloc, &mut settings.draft, known, behind)?;
+    config_value(alloc, &mut settings.draft, known, after)?;
     Ok(Given::Nothing)
 }
 
@@ -150,20 +150,20 @@ fn preprocessor_line(
     word: &[u8],
     rest: &[u8],
 ) -> Result<Given, Stop<ConfKind>>
-    ensures { Gives (given_behind result settings.new) (preprocessor_line settings.old word.now rest.now) }
+    ensures { Gives (given_after result settings.new) (preprocessor_line settings.old word.now rest.now) }
 {
-    let (name, behind) = name_and_rest(rest);
+    let (name, after) = name_and_rest(rest);
     let Some(known) = preprocessor_name(name) else {
         return skipped(alloc, word, name);
     };
-    preprocessor_draft(alloc, &settings.vars, &mut settings.draft, known, behind)?;
+    preprocessor_draft(alloc, &settings.vars, &mut settings.draft, known, after)?;
     Ok(Given::Nothing)
 }
 
 /// An `event_filter` line.
 #[tactic(auto, unfolding(crate::specs::ConfLine::filter_line))]
 fn filter_line(settings: &mut Settings, rest: &[u8]) -> Result<Given, Stop<ConfKind>>
-    ensures { Gives (given_behind result settings.new) (filter_line settings.old rest.now) }
+    ensures { Gives (given_after result settings.new) (filter_line settings.old rest.now) }
 {
     event_filter(&mut settings.draft.filters, rest)?;
     Ok(Given::Nothing)
@@ -176,7 +176,7 @@ fn suppress_line(
     settings: &mut Settings,
     rest: &[u8],
 ) -> Result<Given, Stop<ConfKind>>
-    ensures { Gives (given_behind result settings.new) (suppress_line settings.old rest.now) }
+    ensures { Gives (given_after result settings.new) (suppress_line settings.old rest.now) }
 {
     suppress(alloc, &settings.vars, &mut settings.draft.suppress, rest)?;
     Ok(Given::Nothing)
@@ -192,7 +192,7 @@ fn directive_line(
     word: &[u8],
     rest: &[u8],
 ) -> Result<Given, Stop<ConfKind>>
-    ensures { Gives (given_behind result settings.new) (directive_line spot.now settings.old directive word.now rest.now) }
+    ensures { Gives (given_after result settings.new) (directive_line spot.now settings.old directive word.now rest.now) }
 {
     match directive {
         Directive::Rule => Ok(Given::Rule),
@@ -217,7 +217,7 @@ pub fn conf_line(
     spot: &Spot<'_>,
     settings: Settings,
     line: &[u8],
-) -> Result<Behind, Stop<ConfKind>>
+) -> Result<Onward, Stop<ConfKind>>
     ensures { Gives result (conf_line spot.now settings line.now) }
 {
     let (word, rest) = first_word(line);
@@ -226,5 +226,5 @@ pub fn conf_line(
     };
     let mut settings = settings;
     let given = directive_line(alloc, spot, &mut settings, directive, word, rest)?;
-    Ok(Behind { settings, given })
+    Ok(Onward { settings, given })
 }

@@ -1,7 +1,7 @@
 //! The `config` lines.
 ghost use Rattle.std.specs.Prelude.{◌≡◌, false, option_copied};
 ghost use Rattle.net_lists.specs.Stops.{Gives};
-ghost use Rattle.conf_parser.specs.Config.{class_with, class_of, with_class, classification, checks_behind, checksum_mode, event_order, queue_setting, event_queue, stops_inserts, detection};
+ghost use Rattle.conf_parser.specs.Config.{class_with, class_of, with_class, classification, checks_after, checksum_mode, event_order, queue_setting, event_queue, stops_inserts, detection};
 ghost use Rattle.std.specs.List.{list_any};
 ghost use Rattle.net_lists.specs.Cutting.{settings};
 ghost use Rattle.conf_parser.specs.Values.{with_new};
@@ -44,10 +44,10 @@ fn class_with(
 fn class_of(alloc: Global, value: &[u8]) -> Result<Class, Stop<ConfKind>>
     ensures { Gives result (class_of value.now) }
 {
-    let Some((name, behind)) = cut(value, b',') else {
+    let Some((name, after)) = cut(value, b',') else {
         return Err(Stop::Wrong(ConfKind::BadValue));
     };
-    let Some((text, priority)) = cut(behind, b',') else {
+    let Some((text, priority)) = cut(after, b',') else {
         return Err(Stop::Wrong(ConfKind::BadValue));
     };
     let Some(priority) = number_in(1, 2147483647, trimmed(priority)) else {
@@ -90,9 +90,9 @@ pub fn classification(
 struct ChecksStep;
 
 impl PartStep<Checks, ConfKind> for ChecksStep {
-    ghost next_draft = { λ step checks word. checks_behind checks word };
+    ghost next_draft = { λ step checks word. checks_after checks word };
 
-    #[tactic(auto, unfolding(crate::specs::Config::checks_behind))]
+    #[tactic(auto, unfolding(crate::specs::Config::checks_after))]
     fn next(&self, checks: Checks, word: &[u8]) -> Result<Checks, ConfKind> {
         if is(word, b"all") {
             Ok(ALL_CHECKS)
@@ -181,7 +181,7 @@ impl SettingStep<QueueLimits> for QueueStep {
 
     ghost next_draft = { λ step queue name value. queue_setting queue name value };
 
-    fn stands_alone(&self, _name: &[u8]) -> bool {
+    fn is_alone(&self, _name: &[u8]) -> bool {
         false
     }
 

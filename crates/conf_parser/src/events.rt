@@ -2,7 +2,7 @@
 ghost use Rattle.std.specs.Prelude.{◌≡◌, Some, option_copied};
 ghost use Rattle.conf_parser.specs.Values.{mapped, with_new};
 ghost use Rattle.net_lists.specs.Stops.{Gives};
-ghost use Rattle.conf_parser.specs.Events.{track_of, is_source, filter_name, filter_kind, once, filter_value, filter_part, no_parts, filter_of, read_filter, has_filter, with_filter, event_filter, next_word, part_behind, stands, suppress_value, placed_part, suppress_part, first_part, tracked, suppress_of, read_suppress, with_suppress, suppress};
+ghost use Rattle.conf_parser.specs.Events.{track_of, is_source, filter_name, filter_kind, once, filter_value, filter_part, no_parts, filter_of, read_filter, has_filter, with_filter, event_filter, next_word, part_after, is_named, suppress_value, placed_part, suppress_part, first_part, tracked, suppress_of, read_suppress, with_suppress, suppress};
 
 use crate::line::ConfKind;
 use crate::value::{put_addresses, put_or_stop, put_some};
@@ -263,8 +263,8 @@ impl NextPart {
     }
 
     /// The part after this one.
-    fn behind(self) -> NextPart
-        ensures { result ≡ part_behind self }
+    fn after(self) -> NextPart
+        ensures { result ≡ part_after self }
     {
         match self {
             NextPart::GenId => NextPart::SigId,
@@ -276,8 +276,8 @@ impl NextPart {
     }
 
     /// Whether a part that begins with this word may come here.
-    fn stands(self, word: &[u8]) -> bool
-        ensures { result ≡ stands (next_word self) word.now }
+    fn is_named(self, word: &[u8]) -> bool
+        ensures { result ≡ is_named (next_word self) word.now }
     {
         match self.word() {
             Some(wanted) => is(word, wanted),
@@ -317,12 +317,12 @@ fn placed_part(
 {
     let next = draft.next;
     if value.is_empty() {
-        draft.next = next.behind();
+        draft.next = next.after();
         draft.lacks = true;
         return Ok(());
     }
     suppress_value(alloc, vars, draft, next, value)?;
-    draft.next = next.behind();
+    draft.next = next.after();
     Ok(())
 }
 
@@ -339,7 +339,7 @@ impl<'a> TryPartStep<SuppressDraft, ConfKind> for SuppressStep<'a> {
     #[tactic(auto, unfolding(crate::specs::Events::suppress_part))]
     fn try_next(&self, draft: SuppressDraft, part: &[u8]) -> Result<SuppressDraft, Stop<ConfKind>> {
         let (word, value) = first_word(part);
-        if !draft.next.stands(word) {
+        if !draft.next.is_named(word) {
             return Err(Stop::Wrong(ConfKind::BadValue));
         }
         let mut draft = draft;

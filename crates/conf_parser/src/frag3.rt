@@ -3,7 +3,7 @@ ghost use Rattle.std.specs.Prelude.{◌≡◌, false, Some, option_copied};
 ghost use Rattle.net_lists.specs.Numbers.{number_in};
 ghost use Rattle.net_lists.specs.Stops.{Gives, or_kind};
 ghost use Rattle.conf_parser.specs.Values.{mapped, with_new};
-ghost use Rattle.conf_parser.specs.Frag3.{is_unread_global, global_setting, with_max_frags, frag3_global, stands_alone, is_unread, engine_setting, has_default, with_engine, frag3_engine};
+ghost use Rattle.conf_parser.specs.Frag3.{is_unread_global, global_setting, with_max_frags, frag3_global, is_alone, is_unread, engine_setting, has_default, with_engine, frag3_engine};
 
 use crate::draft::FragDraft;
 use crate::line::ConfKind;
@@ -62,7 +62,7 @@ impl SettingStep<u32> for GlobalStep {
 
     ghost next_draft = { λ step frags name value. global_setting frags name value };
 
-    fn stands_alone(&self, _name: &[u8]) -> bool {
+    fn is_alone(&self, _name: &[u8]) -> bool {
         false
     }
 
@@ -100,8 +100,8 @@ pub fn frag3_global(draft: &mut FragDraft, rest: &[u8]) -> Result<(), Stop<ConfK
 }
 
 /// Whether this setting of an engine has no value.
-fn stands_alone(name: &[u8]) -> bool
-    ensures { result ≡ stands_alone name.now }
+fn is_alone(name: &[u8]) -> bool
+    ensures { result ≡ is_alone name.now }
 {
     is(name, b"detect_anomalies")
 }
@@ -158,12 +158,12 @@ struct EngineStep<'a> {
 }
 
 impl<'a> SettingStep<FragEngine> for EngineStep<'a> {
-    ghost alone = { λ step name. stands_alone name };
+    ghost alone = { λ step name. is_alone name };
 
     ghost next_draft = { λ step engine name value. engine_setting step.vars.now engine name value };
 
-    fn stands_alone(&self, name: &[u8]) -> bool {
-        stands_alone(name)
+    fn is_alone(&self, name: &[u8]) -> bool {
+        is_alone(name)
     }
 
     #[tactic(auto, unfolding(crate::specs::Frag3::engine_setting))]
@@ -176,7 +176,7 @@ impl<'a> SettingStep<FragEngine> for EngineStep<'a> {
         match value {
             Some(value) => valued_setting(self.alloc, self.vars, engine, name, value),
             None => {
-                if stands_alone(name) {
+                if is_alone(name) {
                     return Ok(());
                 }
                 Err(Stop::Wrong(ConfKind::BadValue))

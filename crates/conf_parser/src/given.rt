@@ -17,7 +17,7 @@ pub enum Given {
 
 /// What comes after a line.
 #[derive(Drop)]
-pub struct Behind {
+pub struct Onward {
     pub settings: Settings,
     pub given: Given,
 }

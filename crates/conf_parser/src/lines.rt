@@ -51,10 +51,10 @@ fn joined_line<'a>(alloc: Global, text: &'a [u8], number: u32) -> Result<Joined<
     let mut rest = text;
     let mut next = number;
     'joining: while !rest.is_empty() {
-        let (line, behind) = cut_line(rest);
+        let (line, after) = cut_line(rest);
         let goes_on = is_open(line);
         joined = with_line(joined, line, goes_on)?;
-        rest = behind;
+        rest = after;
         next += 1;
         if !goes_on {
             return Ok(Joined {

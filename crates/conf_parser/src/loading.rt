@@ -7,7 +7,7 @@ ghost use Rattle.edge_io.specs.Frames.{OnlyLoaded};
 ghost use Rattle.conf_parser.specs.Reading.{told, with_file, file_count, file_read, lines_read, line_read, most_bytes, read_files, nothing_read};
 ghost use Rattle.conf_parser.specs.Steps.{MayBeRead, most_files};
 ghost use Rattle.conf_parser.specs.Loaded.{loaded_of};
-ghost use Rattle.conf_parser.specs.Places.{StandInFiles};
+ghost use Rattle.conf_parser.specs.Places.{LieInFiles};
 ghost use Rattle.conf_types.specs.Sound.{IsSound};
 ghost use Rattle.conf_parser.specs.Loading.{GoesOn, HasCause, LoadsFile, StopsAtLarge, StopsAtFile, whole_next, inner, opened_of, opened_count, opened_next, IsLoading, EndsUnlessFailed, HandsOut, HasFailed, UnlessAsks, UnlessHostFailed};
 
@@ -165,9 +165,9 @@ fn read_lines<H: Host>(
 {
     let mut read = read;
     let mut rest = lines;
-    'lines: while let Some((line, behind)) = rest.split_first() {
+    'lines: while let Some((line, after)) = rest.split_first() {
         read = read_line(alloc, host, left, source, line, read)?;
-        rest = behind;
+        rest = after;
     }
     Ok(read)
 }
@@ -341,7 +341,7 @@ pub fn load<H: Host>(
     ensures sound { OnOk result (IsSound out.new.config) }
 
     // The lines that are handed out, and a fault, are in files that are named there.
-    ensures places { StandInFiles result out.new }
+    ensures places { LieInFiles result out.new }
 
     // The host is as before, but for its count.
     ensures same { (H.contents host.new ≡ H.contents host.old) × (H.left host.new ≡ H.left host.old)

@@ -2,7 +2,7 @@
 ghost use Rattle.std.specs.Prelude.{◌≡◌, ◌≤◌, ◌∷◌, length, Bool, List, ℕ, Option, Result, option_copied};
 ghost use Rattle.net_lists.specs.Stops.{Gives};
 ghost use Rattle.conf_parser.specs.declared.line.ConfKind.{ConfKind};
-ghost use Rattle.conf_parser.specs.Options.{setting, paired, settings_behind};
+ghost use Rattle.conf_parser.specs.Options.{setting, paired, settings_after};
 ghost use Rattle.conf_parser.specs.Values.{with_new};
 
 use crate::line::ConfKind;
@@ -15,7 +15,7 @@ pub trait SettingStep<D> {
     ghost next_draft: { Self → D → List ℕ → Option (List ℕ) → Result D ConfKind };
 
     /// Whether the setting of this name has no value.
-    fn stands_alone(&self, name: &[u8]) -> bool
+    fn is_alone(&self, name: &[u8]) -> bool
         ensures { result ≡ alone self.now name.now };
 
     /// Changes the draft by a setting; a value lacks only where the setting has none, or at the end.
@@ -25,7 +25,7 @@ pub trait SettingStep<D> {
 
 /// The value after a name: the next word, if the name takes a value and there is one.
 #[tactic(auto, using(crate::proofs::Pairs::pairs))]
-fn value_behind<'a>(words: &mut Parts<'a>, alone: bool) -> Option<&'a [u8]>
+fn value_after<'a>(words: &mut Parts<'a>, alone: bool) -> Option<&'a [u8]>
     ensures pairs { (test : List ℕ → Bool) → (name : List ℕ) → test name ≡ alone
         → paired test (name ∷ words.old) ≡ setting name (option_copied result) ∷ paired test words.new }
     ensures shorter { length words.new ≤ length words.old }
@@ -41,11 +41,11 @@ pub fn change_by_settings<D, S: SettingStep<D>>(
     draft: &mut D,
 ) -> Result<(), Stop<ConfKind>>
     ensures { Gives (with_new result draft.new)
-        (settings_behind (S.alone step.now) (S.next_draft step.now) draft.old text.now) }
+        (settings_after (S.alone step.now) (S.next_draft step.now) draft.old text.now) }
 {
     let mut words = Parts::settings(text);
     'settings: while let Some(name) = words.next() {
-        let value = value_behind(&mut words, step.stands_alone(name));
+        let value = value_after(&mut words, step.is_alone(name));
         step.change(draft, name, value)?;
     }
     Ok(())

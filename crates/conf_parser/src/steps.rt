@@ -135,8 +135,8 @@ pub fn line_step(
         files: output.files.as_slice().len(),
     };
     match conf_line(alloc, &spot, settings, line.text.bytes()) {
-        Ok(behind) => {
-            let next = given_next(alloc, source, line, behind.settings, output, behind.given)?;
+        Ok(after) => {
+            let next = given_next(alloc, source, line, after.settings, output, after.given)?;
             Ok(next)
         }
         Err(stop) => Err(line_stop(source, line, output, stop)),

@@ -3,7 +3,7 @@ ghost use Rattle.std.specs.Prelude.{◌≡◌, ◌≤◌, Some, not, length, pos
 ghost use Rattle.std.specs.List.{prefix_len};
 ghost use Rattle.net_lists.specs.Stops.{Gives, or_kind};
 ghost use Rattle.edge_io.specs.Bytes.{slice};
-ghost use Rattle.conf_parser.specs.Values.{expanded, address_list, port_list, expanded_addresses, name_of, behind_name, behind_colon, setting_text, yes_or_no, in_name, mapped, with_new};
+ghost use Rattle.conf_parser.specs.Values.{expanded, address_list, port_list, expanded_addresses, name_of, after_name, after_colon, setting_text, yes_or_no, in_name, mapped, with_new};
 
 use crate::line::ConfKind;
 use crate::word::is;
@@ -44,16 +44,16 @@ pub fn put_some<T: Copy>(place: &mut Option<T>, value: Option<T>) -> Result<(), 
 fn slice(text: &[u8], from: usize, to: usize) -> &[u8]
     ensures { result.now ≡ slice text.now from to }
 {
-    let behind = if from <= text.len() {
+    let after = if from <= text.len() {
         &text[from..]
     } else {
         &text[text.len()..]
     };
     let len = to.saturating_sub(from);
-    if len <= behind.len() {
-        &behind[..len]
+    if len <= after.len() {
+        &after[..len]
     } else {
-        behind
+        after
     }
 }
 
@@ -153,19 +153,19 @@ fn name_len(text: &[u8]) -> usize
 
 /// The name in front, which ends at a blank or a colon, and what comes after it, without blanks at its
 /// ends.
-#[tactic(auto, unfolding(crate::specs::Values::name_of, crate::specs::Values::behind_name))]
+#[tactic(auto, unfolding(crate::specs::Values::name_of, crate::specs::Values::after_name))]
 pub fn name_and_rest(text: &[u8]) -> (&[u8], &[u8])
     ensures name { result.0.now ≡ name_of text.now }
-    ensures rest { result.1.now ≡ behind_name text.now }
+    ensures rest { result.1.now ≡ after_name text.now }
 {
     let (name, rest) = text.split_at(name_len(text));
     (name, trimmed(rest))
 }
 
 /// What comes after a colon in front.
-#[tactic(auto, unfolding(crate::specs::Values::behind_colon))]
-pub fn behind_colon(text: &[u8]) -> Option<&[u8]>
-    ensures { option_copied result ≡ behind_colon text.now }
+#[tactic(auto, unfolding(crate::specs::Values::after_colon))]
+pub fn after_colon(text: &[u8]) -> Option<&[u8]>
+    ensures { option_copied result ≡ after_colon text.now }
 {
     match text {
         [b':', rest @ ..] => Some(trimmed(rest)),
@@ -181,7 +181,7 @@ pub fn setting_text(rest: &[u8]) -> Result<&[u8], ConfKind>
     if rest.is_empty() {
         return Ok(rest);
     }
-    behind_colon(rest).ok_or(ConfKind::BadValue)
+    after_colon(rest).ok_or(ConfKind::BadValue)
 }
 
 /// `yes` or `no`.

@@ -29,11 +29,11 @@ filter-none p fails (x ∷ xs) = ap (λ b. cond b (x ∷ filter p xs) (filter p 
 split_class : {X : Type 0} (class : X → ℕ) (k : ℕ) (xs : List X) → IsPermutation (filter (λ x. nat_le k (class x)) xs) (filter (λ x. nat_eq (class x) k) xs ++ filter (λ x. nat_le (suc k) (class x)) xs)
 split_class {X} class k xs =
     let here = filter-both (λ x. nat_eq (class x) k) (λ x. nat_le k (class x)) xs in
-    let behind = filter-both (λ x. not (nat_eq (class x) k)) (λ x. nat_le k (class x)) xs in
+    let after = filter-both (λ x. not (nat_eq (class x) k)) (λ x. nat_le k (class x)) xs in
     let same : (n : ℕ) → (nat_le k n && nat_eq n k) ≡ nat_eq n k = λ n. grind (arith, nat_tests) in
     let later : (n : ℕ) → (nat_le k n && not (nat_eq n k)) ≡ nat_le (suc k) n = λ n. grind (arith, nat_tests) in
     let first = here ∙ filter_agree (λ x. nat_le k (class x) && nat_eq (class x) k) (λ x. nat_eq (class x) k) (λ x. same (class x)) xs in
-    let rest = behind ∙ filter_agree (λ x. nat_le k (class x) && not (nat_eq (class x) k)) (λ x. nat_le (suc k) (class x)) (λ x. later (class x)) xs in
+    let rest = after ∙ filter_agree (λ x. nat_le k (class x) && not (nat_eq (class x) k)) (λ x. nat_le (suc k) (class x)) (λ x. later (class x)) xs in
     subst (IsPermutation (filter (λ x. nat_le k (class x)) xs))
     (ap (λ front. front ++ filter (λ x. not (nat_eq (class x) k)) (filter (λ x. nat_le k (class x)) xs)) first ∙ ap (λ back. filter (λ x. nat_eq (class x) k) xs ++ back) rest)
     (IsPermutation-filter_both (λ x. nat_eq (class x) k) (λ x. not (nat_eq (class x) k)) (λ x. refl) (filter (λ x. nat_le k (class x)) xs))

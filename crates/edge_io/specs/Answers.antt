@@ -43,13 +43,13 @@ answers_code =
     coded_list (code_by Parts (coded× coded_ℕ (coded× (coded_list coded_ℕ) (coded_list coded_ℕ))) to_parts from_parts from_to)
 
 -- what these files have left of the open capture after these answers
-abbrev pub left_behind : List Answer → Files → Option (List ℕ)
-left_behind [] files = None
-left_behind (loaded name bytes ∷ earlier) files = left_behind earlier files
-left_behind (longer name limit ∷ earlier) files = left_behind earlier files
-left_behind (opened name ∷ earlier) files = get files name
-left_behind (closed ∷ earlier) files = None
-left_behind (gave bytes ∷ earlier) files = option_map (drop (length bytes)) (left_behind earlier files)
+abbrev pub left_after : List Answer → Files → Option (List ℕ)
+left_after [] files = None
+left_after (loaded name bytes ∷ earlier) files = left_after earlier files
+left_after (longer name limit ∷ earlier) files = left_after earlier files
+left_after (opened name ∷ earlier) files = get files name
+left_after (closed ∷ earlier) files = None
+left_after (gave bytes ∷ earlier) files = option_map (drop (length bytes)) (left_after earlier files)
 
 -- these bytes are next, and none only at the end
 abbrev pub AreNext : Option (List ℕ) → List ℕ → Type 0
@@ -67,7 +67,7 @@ GivesAnswer files left (gave bytes) = AreNext left bytes
 -- these files give all of these answers
 abbrev pub Agree : List Answer → Files → Type 0
 Agree [] files = ⊤
-Agree (answer ∷ earlier) files = Agree earlier files × GivesAnswer files (left_behind earlier files) answer
+Agree (answer ∷ earlier) files = Agree earlier files × GivesAnswer files (left_after earlier files) answer
 
 -- the bytes that a sink took, by its answers
 abbrev pub taken_of : List Answer → List ℕ

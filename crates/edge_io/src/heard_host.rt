@@ -1,7 +1,7 @@
 //! Real files whose answers are noted for contracts.
 ghost use Rattle.std.specs.Prelude.{◌≡◌, ◌<◌, ◌≤◌, ◌+◌, ◌++◌, ◌∷◌, [], None, length, vec_len, take, drop, IfOk, OnOk, OnErr, IsSome, IsErrOf, refl};
 ghost use Rattle.std.specs.Io.KnownBytes.{Consumes, Keeps, IsAtEnd};
-ghost use Rattle.edge_io.specs.Answers.{Agree, left_behind, loaded, longer, opened, closed, gave};
+ghost use Rattle.edge_io.specs.Answers.{Agree, left_after, loaded, longer, opened, closed, gave};
 ghost use Rattle.edge_io.specs.RealFiles.{coming, SomeHasLeft, SomeHasMoreLeft};
 ghost use Rattle.edge_io.specs.Told.{one_more};
 
@@ -38,7 +38,7 @@ impl<R: Files> Host for HeardHost<R> {
 
     ghost agrees = { λ h files. Agree h.heard.answers files };
 
-    ghost left_of = { λ h files. left_behind h.heard.answers files };
+    ghost left_of = { λ h files. left_after h.heard.answers files };
 
     ghost faults = { λ h. h.host.faults };
 

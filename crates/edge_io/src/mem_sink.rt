@@ -1,7 +1,7 @@
 //! A sink in memory, with short writes and failures.
 ghost use Rattle.std.specs.Prelude.{◌≡◌, ◌≤◌, ◌<◌, Some, false, length, take, OnOk, OnErr, IfOk, IsTrue};
 ghost use Rattle.edge_io.specs.HeldBytes.{nothing_written, refuses, taken_count, after_write};
-ghost use Rattle.edge_io.specs.Told.{behind};
+ghost use Rattle.edge_io.specs.Told.{grown};
 
 use crate::calls::CallPlan;
 use crate::fault::FaultCount;
@@ -75,13 +75,13 @@ impl Sink for MemSink {
 
     ghost faults = { λ sink. sink.faults };
 
-    #[tactic(auto, unfolding(crate::specs::Told::behind))]
+    #[tactic(auto, unfolding(crate::specs::Told::grown))]
     fn write(&mut self, piece: &[u8]) -> Result<usize, Failed>
         requires { 0 < length piece.now }
         ensures state { self.new ≡ after_write self.old piece.now }
         ensures count { IfOk result (λ count. count ≡ taken_count self.old (length piece.now)) }
         ensures some { IfOk result (λ count. 1 ≤ count) }
-        ensures appended { IfOk result (λ count. Some self.new.written ≡ behind (Some self.old.written) (take count piece.now)) }
+        ensures appended { IfOk result (λ count. Some self.new.written ≡ grown (Some self.old.written) (take count piece.now)) }
         ensures accepted { OnOk result (refuses self.old ≡ false) }
         ensures failed { OnErr result (IsTrue (refuses self.old)) }
         ensures unfailed { OnOk result (self.new.faults ≡ self.old.faults) }

@@ -14,9 +14,9 @@ use Rattle.event_filters.specs.declared.counting.Window.{Window}
 use Rattle.event_filters.specs.Counting.{Event, counted}
 use Rattle.event_filters.specs.Counts.{match_count, event_count}
 use Rattle.event_filters.specs.Events.{event_of, events_of, places_of, match_key, match_line, match_stays, own_place, global_place, event_key, event_line, own_kept, global_kept, filtered, is_suppressed}
-use Rattle.event_filters.specs.Runs.{AreSome, Matched, Stays, Lines, AreTables, Filtered, unsuppressed, BothStand, Keeps}
-use Rattle.event_filters.specs.Windows.{window_at, windows_after, answer_of, StandFor}
-use Rattle.event_filters.proofs.Stages.{counted-answer, stand-more, StandFor-same}
+use Rattle.event_filters.specs.Runs.{AreSome, Matched, Stays, Lines, AreTables, Filtered, unsuppressed, AreBothOf, Keeps}
+use Rattle.event_filters.specs.Windows.{window_at, windows_after, answer_of, AreAfter}
+use Rattle.event_filters.proofs.Stages.{counted-answer, hold-more, AreAfter-same}
 use Rattle.event_filters.proofs.Tallies.{IsCountOf-match, IsCountOf-event}
 
 -- what was written by two runs, one after the other
@@ -43,32 +43,32 @@ pub Stays-one : (rules : List Rule) (head : ItemHead) (place : ℕ) (old new : L
     → after ≡ before ++ cond answer (place ∷ []) []
     → Stays rules head (matched old before) (place ∷ []) (matched new after)
 unfolding Stays
-Stays-one rules head place old new before after answer is windows written = λ some earlier stand.
+Stays-one rules head place old new before after answer is windows written = λ some earlier hold.
     let event = event_of head place in
     let count = match_count rules head place in
     let tells = IsCountOf-match rules head place in
-    let kept = counted-answer (match_key rules) (match_line rules) some earlier event (window_at old) count tells stand in (
-      stand-more (match_key rules) (match_line rules) some earlier event (window_at old) (window_at new) count tells stand windows,
+    let kept = counted-answer (match_key rules) (match_line rules) some earlier event (window_at old) count tells hold in (
+      hold-more (match_key rules) (match_line rules) some earlier event (window_at old) (window_at new) count tells hold windows,
       written ∙ ap (λ l. before ++ l) (one_place head place answer
           ∙ ap (λ b. places_of (cond b (event ∷ []) [] ++ [])) is ∙ ap (λ l. places_of (l ++ [])) (sym kept)),
     )
 
 pub Stays-none : (rules : List Rule) (head : ItemHead) (state : Matched) → Stays rules head state [] state
 unfolding Stays
-Stays-none rules head state = λ some earlier stand. (
-  subst (λ (events : List Event). StandFor (match_key rules) (match_line rules) events (window_at state.matches)) (sym (append-nil earlier)) stand,
+Stays-none rules head state = λ some earlier hold. (
+  subst (λ (events : List Event). AreAfter (match_key rules) (match_line rules) events (window_at state.matches)) (sym (append-nil earlier)) hold,
   sym (append-nil state.written),
 )
 
 pub Stays-more : (rules : List Rule) (head : ItemHead) (old mid new : Matched) (places : List ℕ) (place : ℕ) → Stays rules head old places mid → Stays rules head mid (place ∷ []) new → Stays rules head old (places ++ place ∷ []) new
 unfolding Stays
-Stays-more rules head old mid new places place first second = λ some earlier stand.
-    let a = first some earlier stand in
+Stays-more rules head old mid new places place first second = λ some earlier hold.
+    let a = first some earlier hold in
     let b = second some (earlier ++ events_of head places) a.0 in
     let events = map-append (event_of head) places (place ∷ []) in
     let all : (earlier ++ events_of head places) ++ events_of head (place ∷ []) ≡ earlier ++ events_of head (places ++ place ∷ []) =
     append_assoc earlier (events_of head places) (events_of head (place ∷ [])) ∙ ap (λ l. earlier ++ l) (sym events) in (
-      subst (λ (l : List Event). StandFor (match_key rules) (match_line rules) l (window_at new.matches)) all b.0,
+      subst (λ (l : List Event). AreAfter (match_key rules) (match_line rules) l (window_at new.matches)) all b.0,
       written-more (match_stays rules) earlier (events_of head places) (events_of head (place ∷ [])) old.written mid.written new.written a.1 b.1
           ∙ ap (λ l. old.written ++ places_of (trail_from (match_stays rules) earlier l)) (sym events),
     )
@@ -81,8 +81,8 @@ state_of own global written = record { own = own; global = global; written = wri
 -- the events at these places were counted, and those that are kept were appended
 abbrev KeepsThese : Lines → ItemHead → Filtered → List ℕ → Filtered → Type 0
 KeepsThese lines head old places new =
-    AreTables lines → AreSome (event_line lines.filters) → (earlier : List Event) → BothStand lines earlier old
-    → BothStand lines (earlier ++ events_of head places) new
+    AreTables lines → AreSome (event_line lines.filters) → (earlier : List Event) → AreBothOf lines earlier old
+    → AreBothOf lines (earlier ++ events_of head places) new
     × (new.written ≡ old.written ++ places_of (trail_from (filtered lines.filters lines.rules) earlier (events_of head places)))
 
 these : (lines : Lines) (head : ItemHead) (old new : Filtered) (places shown : List ℕ) → unsuppressed lines head places ≡ shown → KeepsThese lines head old shown new → Keeps lines head old places new
@@ -90,8 +90,8 @@ unfolding Keeps
 these lines head old new places shown is keeps = subst (λ (l : List ℕ). KeepsThese lines head old l new) (sym is) keeps
 
 nothing : (lines : Lines) (head : ItemHead) (state : Filtered) → KeepsThese lines head state [] state
-nothing lines head state = λ tables some earlier stands. (
-  subst (λ (events : List Event). BothStand lines events state) (sym (append-nil earlier)) stands,
+nothing lines head state = λ tables some earlier holds. (
+  subst (λ (events : List Event). AreBothOf lines events state) (sym (append-nil earlier)) holds,
   sym (append-nil state.written),
 )
 
@@ -105,16 +105,16 @@ Keeps-suppressed lines head state event is =
 
 pub Keeps-more : (lines : Lines) (head : ItemHead) (old mid new : Filtered) (places : List ℕ) (place : ℕ) → Keeps lines head old places mid → Keeps lines head mid (place ∷ []) new → Keeps lines head old (places ++ place ∷ []) new
 unfolding Keeps
-Keeps-more lines head old mid new places place first second = λ tables some earlier stands.
+Keeps-more lines head old mid new places place first second = λ tables some earlier holds.
     let f = filtered lines.filters lines.rules in
     let front = events_of head (unsuppressed lines head places) in
     let back = events_of head (unsuppressed lines head (place ∷ [])) in
-    let a = first tables some earlier stands in
+    let a = first tables some earlier holds in
     let b = second tables some (earlier ++ front) a.0 in
     let events : events_of head (unsuppressed lines head (places ++ place ∷ [])) ≡ front ++ back =
     ap (events_of head) (filter-append (λ p. not (is_suppressed lines.suppress lines.rules head p)) places (place ∷ []))
     ∙ map-append (event_of head) (unsuppressed lines head places) (unsuppressed lines head (place ∷ [])) in (
-      subst (λ (l : List Event). BothStand lines l new) (append_assoc earlier front back ∙ ap (λ l. earlier ++ l) (sym events)) b.0,
+      subst (λ (l : List Event). AreBothOf lines l new) (append_assoc earlier front back ∙ ap (λ l. earlier ++ l) (sym events)) b.0,
       written-more f earlier front back old.written mid.written new.written a.1 b.1 ∙ ap (λ l. old.written ++ places_of (trail_from f earlier l)) (sym events),
     )
 
@@ -136,11 +136,11 @@ module _ (lines : Lines) (head : ItemHead) (event : ℕ) (shown : is_suppressed 
 
   -- what the event's own filter lets through
   own_is : (tables : AreTables lines) (some : AreSome (event_line lines.filters)) (earlier : List Event) (own_old : List (Key × Window)) (a : Bool)
-      → StandFor own_key (event_line lines.filters) earlier (window_at own_old) → a ≡ answer_of (window_at own_old) own_count head.moment.nanos
+      → AreAfter own_key (event_line lines.filters) earlier (window_at own_old) → a ≡ answer_of (window_at own_old) own_count head.moment.nanos
       → own_kept lines.filters lines.rules earlier (event_of head event) ≡ cond a (event_of head event ∷ []) []
-  own_is tables some earlier own_old a stand is =
+  own_is tables some earlier own_old a hold is =
       counted-answer own_key (event_line lines.filters) some earlier (event_of head event) (window_at own_old) own_count
-      (IsCountOf-event lines.filters (own_place lines.filters) lines.rules lines.own_places head event tables.own) stand
+      (IsCountOf-event lines.filters (own_place lines.filters) lines.rules lines.own_places head event tables.own) hold
       ∙ ap (λ b. cond b (event_of head event ∷ []) []) (sym is)
 
   -- the event's own filter drops the event
@@ -151,17 +151,17 @@ module _ (lines : Lines) (head : ItemHead) (event : ℕ) (shown : is_suppressed 
   unfolding filtered
   Keeps-dropped own_old own_new global written is windows =
       these lines head (state_of own_old global written) (state_of own_new global written) (event ∷ []) (event ∷ []) alone
-      (λ tables some earlier stands.
+      (λ tables some earlier holds.
       let e = event_of head event in
       let kept = own_kept lines.filters lines.rules in
-      let dropped : kept earlier e ≡ [] = own_is tables some earlier own_old false stands.own is in
+      let dropped : kept earlier e ≡ [] = own_is tables some earlier own_old false holds.own is in
       let came : trail kept (earlier ++ e ∷ []) ≡ trail kept earlier =
       sym (trail-more kept earlier e) ∙ ap (λ l. trail kept earlier ++ l) dropped ∙ append-nil (trail kept earlier) in
       let nothing_kept : filtered lines.filters lines.rules earlier e ≡ [] = ap (trail_from (global_kept lines.filters lines.rules) (trail kept earlier)) dropped in (
         record {
-          own = stand-more own_key (event_line lines.filters) some earlier e (window_at own_old) (window_at own_new) own_count
-              (IsCountOf-event lines.filters (own_place lines.filters) lines.rules lines.own_places head event tables.own) stands.own windows;
-          global = subst (λ (l : List Event). StandFor global_key (event_line lines.filters) l (window_at global)) (sym came) stands.global;
+          own = hold-more own_key (event_line lines.filters) some earlier e (window_at own_old) (window_at own_new) own_count
+              (IsCountOf-event lines.filters (own_place lines.filters) lines.rules lines.own_places head event tables.own) holds.own windows;
+          global = subst (λ (l : List Event). AreAfter global_key (event_line lines.filters) l (window_at global)) (sym came) holds.global;
         },
         sym (append-nil written) ∙ ap (λ l. written ++ places_of (l ++ [])) (sym nothing_kept),
       ))
@@ -181,23 +181,23 @@ module _ (lines : Lines) (head : ItemHead) (event : ℕ) (shown : is_suppressed 
   unfolding filtered
   Keeps-passed own_old own_new global_old global_new before after b own_answer own_windows global_answer global_windows written =
       these lines head (state_of own_old global_old before) (state_of own_new global_new after) (event ∷ []) (event ∷ []) alone
-      (λ tables some earlier stands.
+      (λ tables some earlier holds.
       let e = event_of head event in
       let kept = own_kept lines.filters lines.rules in
       let last = global_kept lines.filters lines.rules in
-      let passed : kept earlier e ≡ e ∷ [] = own_is tables some earlier own_old true stands.own own_answer in
+      let passed : kept earlier e ≡ e ∷ [] = own_is tables some earlier own_old true holds.own own_answer in
       let came : trail kept (earlier ++ e ∷ []) ≡ trail kept earlier ++ e ∷ [] =
       sym (trail-more kept earlier e) ∙ ap (λ l. trail kept earlier ++ l) passed in
       let tells = IsCountOf-event lines.filters (global_place lines.filters) lines.rules lines.global_places head event tables.global in
       let decided : last (trail kept earlier) e ≡ cond b (e ∷ []) [] =
-      counted-answer global_key (event_line lines.filters) some (trail kept earlier) e (window_at global_old) global_count tells stands.global ∙ ap (λ t. cond t (e ∷ []) []) (sym global_answer) in
+      counted-answer global_key (event_line lines.filters) some (trail kept earlier) e (window_at global_old) global_count tells holds.global ∙ ap (λ t. cond t (e ∷ []) []) (sym global_answer) in
       let all_kept : filtered lines.filters lines.rules earlier e ≡ cond b (e ∷ []) [] ++ [] =
       ap (trail_from last (trail kept earlier)) passed ∙ ap (λ l. l ++ []) decided in (
         record {
-          own = stand-more own_key (event_line lines.filters) some earlier e (window_at own_old) (window_at own_new) own_count
-              (IsCountOf-event lines.filters (own_place lines.filters) lines.rules lines.own_places head event tables.own) stands.own own_windows;
-          global = subst (λ (l : List Event). StandFor global_key (event_line lines.filters) l (window_at global_new)) (sym came)
-              (stand-more global_key (event_line lines.filters) some (trail kept earlier) e (window_at global_old) (window_at global_new) global_count tells stands.global global_windows);
+          own = hold-more own_key (event_line lines.filters) some earlier e (window_at own_old) (window_at own_new) own_count
+              (IsCountOf-event lines.filters (own_place lines.filters) lines.rules lines.own_places head event tables.own) holds.own own_windows;
+          global = subst (λ (l : List Event). AreAfter global_key (event_line lines.filters) l (window_at global_new)) (sym came)
+              (hold-more global_key (event_line lines.filters) some (trail kept earlier) e (window_at global_old) (window_at global_new) global_count tells holds.global global_windows);
         },
         written ∙ ap (λ l. before ++ l) (twice_one_place b ∙ ap (λ l. places_of (l ++ [])) (sym all_kept)),
       ))

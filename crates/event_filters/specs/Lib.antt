@@ -6,4 +6,4 @@ pub mod Events
 pub mod Windows
 pub mod Counts
 pub mod Runs
-pub mod Standing
+pub mod Filtering

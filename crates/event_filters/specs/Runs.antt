@@ -12,7 +12,7 @@ use Rattle.event_filters.specs.declared.counting.Window.{Window}
 use Rattle.event_filters.specs.declared.filtering.Lines.{Lines as CodeLines}
 use Rattle.event_filters.specs.Counting.{Event}
 use Rattle.event_filters.specs.Events.{events_of, places_of, match_key, match_line, match_stays, own_place, global_place, event_key, event_line, own_kept, filtered, is_suppressed}
-use Rattle.event_filters.specs.Windows.{window_at, StandFor}
+use Rattle.event_filters.specs.Windows.{window_at, AreAfter}
 
 -- every line lets an event through before its count is used up
 abbrev pub AreSome : (Key → Line) → Type 0
@@ -27,8 +27,8 @@ pub record Matched : Type 0 where
 unfoldable pub Stays : List Rule → ItemHead → Matched → List ℕ → Matched → Type 0
 Stays rules head old places new =
     AreSome (match_line rules) → (earlier : List Event)
-    → StandFor (match_key rules) (match_line rules) earlier (window_at old.matches)
-    → StandFor (match_key rules) (match_line rules) (earlier ++ events_of head places) (window_at new.matches)
+    → AreAfter (match_key rules) (match_line rules) earlier (window_at old.matches)
+    → AreAfter (match_key rules) (match_line rules) (earlier ++ events_of head places) (window_at new.matches)
     × (new.written ≡ old.written ++ places_of (trail_from (match_stays rules) earlier (events_of head places)))
 
 -- the lines that events go through, the rules, and the tables of the rules' filters
@@ -65,16 +65,16 @@ abbrev pub unsuppressed : Lines → ItemHead → List ℕ → List ℕ
 unsuppressed lines head places = filter (λ place. not (is_suppressed lines.suppress lines.rules head place)) places
 
 -- the windows stand for the events that came as far as the event filters
-pub record BothStand (lines : Lines) (events : List Event) (state : Filtered) : Type 0 where
-  pub own : StandFor (event_key (own_place lines.filters) lines.filters lines.rules) (event_line lines.filters) events
+pub record AreBothOf (lines : Lines) (events : List Event) (state : Filtered) : Type 0 where
+  pub own : AreAfter (event_key (own_place lines.filters) lines.filters lines.rules) (event_line lines.filters) events
       (window_at state.own)
-  pub global : StandFor (event_key (global_place lines.filters) lines.filters lines.rules) (event_line lines.filters)
+  pub global : AreAfter (event_key (global_place lines.filters) lines.filters lines.rules) (event_line lines.filters)
       (trail (own_kept lines.filters lines.rules) events) (window_at state.global)
 
 -- the events at these places that aren't suppressed were counted, and those that are kept were appended
 unfoldable pub Keeps : Lines → ItemHead → Filtered → List ℕ → Filtered → Type 0
 Keeps lines head old places new =
-    AreTables lines → AreSome (event_line lines.filters) → (earlier : List Event) → BothStand lines earlier old
-    → BothStand lines (earlier ++ events_of head (unsuppressed lines head places)) new
+    AreTables lines → AreSome (event_line lines.filters) → (earlier : List Event) → AreBothOf lines earlier old
+    → AreBothOf lines (earlier ++ events_of head (unsuppressed lines head places)) new
     × (new.written ≡ old.written ++ places_of (trail_from (filtered lines.filters lines.rules) earlier
     (events_of head (unsuppressed lines head places))))

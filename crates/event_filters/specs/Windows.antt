@@ -69,8 +69,8 @@ IsWindowOf line (start ∷ later) window =
     window ≡ Some (record { start = start; number = shown line.kind line.count (length (start ∷ later)) })
 
 -- the windows stand for these events, counted by these keys and lines
-unfoldable pub StandFor : (Event → Option Key) → (Key → Line) → List Event → Windows → Type 0
-StandFor key_of line_at events windows =
+unfoldable pub AreAfter : (Event → Option Key) → (Key → Line) → List Event → Windows → Type 0
+AreAfter key_of line_at events windows =
     (key : Key) → IsWindowOf (line_at key) (interval_of (line_at key).seconds (moments_of key_of key events)) (windows key)
 
 -- the event is counted so, by its key and the key's line; one that has no key is not

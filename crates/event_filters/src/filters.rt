@@ -1,6 +1,6 @@
 //! The filters of a configuration's events.
 ghost use Rattle.std.specs.Prelude.{◌≡◌, ◌≤◌, length, OnOk, OnErr, IfOk};
-ghost use Rattle.event_filters.specs.Standing.{IsMade, IsSame, Passes};
+ghost use Rattle.event_filters.specs.Filtering.{IsMade, IsSame, Passes};
 
 use crate::counting::{Windows, reserve};
 use crate::detection::stay_all;
@@ -35,7 +35,7 @@ pub struct Filters {
 }
 
 impl Model for Filters {
-    ghost use Rattle.event_filters.specs.Standing.{FiltersState};
+    ghost use Rattle.event_filters.specs.Filtering.{FiltersState};
 
     ghost Value = { FiltersState };
 

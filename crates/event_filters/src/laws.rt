@@ -4,7 +4,7 @@ ghost use Rattle.std.specs.Prelude.{◌≡◌, [], ℕ, List};
 ghost use Rattle.conf_types.specs.declared.config.Config.{Config};
 ghost use Rattle.rule_types.specs.declared.rule.Rule.{Rule};
 ghost use Rattle.event_filters.specs.Events.{Item, kept, matched};
-ghost use Rattle.event_filters.specs.Standing.{FiltersState, IsGiven};
+ghost use Rattle.event_filters.specs.Filtering.{FiltersState, IsGiven};
 
 /// Items that no rule matches are nothing to the filters. Filters that were given items stand for any items of
 /// which the same ones are matched; what is kept of an item goes by the earlier items that are matched alone; and

@@ -50,7 +50,7 @@ pub record Guards (table : List ℕ) (rules : List Asked) : Type 0 where
   pub guards : (carried : Body) (place : ℕ) → fits_at rules carried place ≡ true → lets_in table carried ≡ true
 
 -- the groups are those of these rules
-pub record StandFor (groups : Groups) (rules : List Rule) : Type 0 where
+pub record AreFor (groups : Groups) (rules : List Rule) : Type 0 where
   pub asked : groups.rules.items ≡ map asked_of rules
   pub guards : Guards groups.doors.items groups.rules.items
   pub finds : Finds groups.automaton (texts_of rules)
@@ -61,9 +61,9 @@ pub record StandFor (groups : Groups) (rules : List Rule) : Type 0 where
 
 -- the rules without a pattern that are asked for by the item were added
 pub record AddDue (groups : Groups) (carried : Body) (old new : List ℕ) : Type 0 where
-  pub added : (rules : List Rule) → StandFor groups rules → (place : ℕ)
+  pub added : (rules : List Rule) → AreFor groups rules → (place : ℕ)
       → has new place ≡ (has old place || is_due_at groups.rules.items (texts_of rules) carried place)
 
 -- whatever rules the groups are of, their candidates for the item are appended
 pub record AppendCandidates (groups : Groups) (head : ItemHead) (payload old new : List ℕ) : Type 0 where
-  pub appended : (rules : List Rule) → StandFor groups rules → new ≡ old ++ candidates rules head.body payload
+  pub appended : (rules : List Rule) → AreFor groups rules → new ≡ old ++ candidates rules head.body payload

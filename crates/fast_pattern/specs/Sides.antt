@@ -37,27 +37,27 @@ unfoldable pub key_of : Asked → List (Part (Bounds ℕ))
 key_of asked = if is_ip asked.proto then [] else (if is_any asked.dports then asked.sports else asked.dports)
 
 -- the rule is in the index of a side
-unfoldable pub stands_in : Side → Asked → Bool
-stands_in side.Destination asked = is_ip asked.proto || (asked.both || (not (is_any asked.dports) || is_any asked.sports))
-stands_in side.Source asked = not (is_ip asked.proto) && (if is_any asked.dports then not (is_any asked.sports) else asked.both)
+unfoldable pub belongs_in : Side → Asked → Bool
+belongs_in side.Destination asked = is_ip asked.proto || (asked.both || (not (is_any asked.dports) || is_any asked.sports))
+belongs_in side.Source asked = not (is_ip asked.proto) && (if is_any asked.dports then not (is_any asked.sports) else asked.both)
 
 -- a rule is asked for at the port of a side
 abbrev pub is_asked : Side → ℕ → Option Asked → Bool
 is_asked of port None = false
-is_asked of port (Some asked) = stands_in of asked && has_port (key_of asked) port
+is_asked of port (Some asked) = belongs_in of asked && has_port (key_of asked) port
 
 -- the rule at a place has no pattern, may fit the kind, and is asked for at the port of a side
 abbrev pub is_sought : List Asked → List (List ℕ) → Kind → Side → ℕ → ℕ → Bool
 is_sought rules patterns kind of port place = is_plain rules patterns kind place && is_asked of port (slice_get rules place)
 
 -- the rule, if there is one, is in the index of a side
-abbrev pub stands_some : Side → Option Asked → Bool
-stands_some of None = false
-stands_some of (Some asked) = stands_in of asked
+abbrev pub belongs_some : Side → Option Asked → Bool
+belongs_some of None = false
+belongs_some of (Some asked) = belongs_in of asked
 
 -- the rule at a place has no pattern, may fit the kind, and is in the index of a side
-abbrev pub stands_at : List Asked → List (List ℕ) → Kind → Side → ℕ → Bool
-stands_at rules patterns kind of place = is_plain rules patterns kind place && stands_some of (slice_get rules place)
+abbrev pub belongs_at : List Asked → List (List ℕ) → Kind → Side → ℕ → Bool
+belongs_at rules patterns kind of place = is_plain rules patterns kind place && belongs_some of (slice_get rules place)
 
 -- the blocks are those at which the rule at a place is sought
 pub record AreSoughtAt (rules : List Asked) (patterns : List (List ℕ)) (kind : Kind) (of : Side) (place : ℕ)

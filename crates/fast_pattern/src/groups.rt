@@ -51,7 +51,7 @@ fn content_bytes(options: &[Opt], place: usize) -> &[u8]
 }
 
 impl Groups {
-    ghost use Rattle.fast_pattern.specs.Grouping.{asked_of, fits_at, text_of, texts_of, StandFor, AddDue, AppendCandidates};
+    ghost use Rattle.fast_pattern.specs.Grouping.{asked_of, fits_at, text_of, texts_of, AreFor, AddDue, AppendCandidates};
     ghost use Rattle.fast_pattern.specs.Kinds.{is_plain};
     ghost use Rattle.pattern_search.specs.Occurring.{numbers};
 
@@ -114,7 +114,7 @@ impl Groups {
     /// The groups of the rules, at most 65536.
     pub fn build(alloc: Global, rules: &[Rule]) -> Result<Groups, NoMemory>
         requires { length rules.now ≤ 65536 }
-        ensures { IfOk result (λ groups. StandFor groups rules.now) }
+        ensures { IfOk result (λ groups. AreFor groups rules.now) }
     {
         let patterns = Groups::patterns(alloc, rules)?;
         let headers = Groups::headers(alloc, rules)?;

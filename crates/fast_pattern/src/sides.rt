@@ -2,7 +2,7 @@
 
 ghost use Rattle.std.specs.Prelude.{◌≡◌, ◌<◌, ◌≤◌, length, IfOk, OnOk};
 ghost use Rattle.fast_pattern.specs.Kinds.{is_plain};
-ghost use Rattle.fast_pattern.specs.Sides.{is_ip, key_of, stands_in, stands_at, AreSoughtAt, AreFiled, IsSide};
+ghost use Rattle.fast_pattern.specs.Sides.{is_ip, key_of, belongs_in, belongs_at, AreSoughtAt, AreFiled, IsSide};
 
 use crate::blocks::push_blocks;
 use crate::header::{Asked, Kind};
@@ -47,9 +47,9 @@ fn key_of(asked: &Asked) -> &[PortPart]
 }
 
 /// Whether the rule is in the index of a side.
-#[tactic(auto, unfolding(crate::specs::Sides::stands_in))]
-fn stands_in(side: Side, asked: &Asked) -> bool
-    ensures { result ≡ stands_in side asked.now }
+#[tactic(auto, unfolding(crate::specs::Sides::belongs_in))]
+fn belongs_in(side: Side, asked: &Asked) -> bool
+    ensures { result ≡ belongs_in side asked.now }
 {
     let ip = is_ip(asked.proto);
     let from_any = asked.sports.parts().is_empty();
@@ -73,12 +73,12 @@ pub fn is_plain(rules: &[Asked], patterns: &[Text], kind: Kind, place: usize) ->
 }
 
 /// Whether the rule at a place has no pattern, may fit the kind, and is in the index of a side.
-fn stands_at(rules: &[Asked], patterns: &[Text], kind: Kind, side: Side, place: usize) -> bool
+fn belongs_at(rules: &[Asked], patterns: &[Text], kind: Kind, side: Side, place: usize) -> bool
     requires same { length rules.now ≡ length patterns.now }
     requires within { place < length rules.now }
-    ensures { result ≡ stands_at rules.now patterns.now kind side place }
+    ensures { result ≡ belongs_at rules.now patterns.now kind side place }
 {
-    is_plain(rules, patterns, kind, place) && stands_in(side, &rules[place])
+    is_plain(rules, patterns, kind, place) && belongs_in(side, &rules[place])
 }
 
 /// The blocks at which a rule without a pattern is filed in the index of a side; none where it isn't.
@@ -95,7 +95,7 @@ fn blocks_at(
     ensures { IfOk result (λ blocks. AreSoughtAt rules.now patterns.now kind side place blocks.items) }
 {
     let mut blocks = Vec::new(alloc);
-    if !stands_at(rules, patterns, kind, side, place) {
+    if !belongs_at(rules, patterns, kind, side, place) {
         return Ok(blocks);
     }
     push_blocks(key_of(&rules[place]), 16, 0, &mut blocks)?;

@@ -12,16 +12,16 @@ use Rattle.flow_lanes.specs.declared.job.Work.{Work}
 use Rattle.flow_lanes.specs.declared.job.Work.TheVariants as work
 use Rattle.flow_lanes.specs.Course.{AreFrom, IsCourse, IsFew, IsPlain, IsPlainWork}
 use Rattle.flow_lanes.specs.Flows.{flow_of, same_flow}
-use Rattle.flow_lanes.specs.Sound.{FlowFacts, IsSoundWork, facts_after, facts_behind, facts_behind_work}
-use Rattle.flow_lanes.specs.Standing.{AreNew, AreNext, AreSoundFor, LaneState, LanesState, LearnsBatch, facts_kept, kept_of, known_in, known_of, lane_of, new_lane}
+use Rattle.flow_lanes.specs.Sound.{FlowFacts, IsSoundWork, facts_after, facts_after_one, facts_after_work}
+use Rattle.flow_lanes.specs.LanesAfter.{AreNew, AreNext, AreSoundFor, LaneState, LanesState, LearnsBatch, facts_kept, kept_of, known_in, known_of, lane_of, new_lane}
 
 -- one more job of a flow
-few_behind : (bound : ℕ) (facts : Option FlowFacts) (moment : Moment) (w : Work) → IsPlainWork moment w → IfSome facts (IsFew bound) → IfSome (facts_behind_work facts moment w) (IsFew (bound + 1))
-few_behind bound None moment (work.Alone head payload) plain few = tt
-few_behind bound (Some facts) moment (work.Alone head payload) plain few = record { ends = few.ends; packets = omega (arith, few.packets) }
-few_behind bound None moment (work.Packet flow head payload to_dst to_src) plain few = record { ends = plain.ends; packets = omega arith }
-few_behind bound (Some facts) moment (work.Packet flow head payload to_dst to_src) plain few = record { ends = plain.ends; packets = omega (arith, few.packets) }
-few_behind bound facts moment (work.Finish flow) plain few = tt
+few_after_one : (bound : ℕ) (facts : Option FlowFacts) (moment : Moment) (w : Work) → IsPlainWork moment w → IfSome facts (IsFew bound) → IfSome (facts_after_work facts moment w) (IsFew (bound + 1))
+few_after_one bound None moment (work.Alone head payload) plain few = tt
+few_after_one bound (Some facts) moment (work.Alone head payload) plain few = record { ends = few.ends; packets = omega (arith, few.packets) }
+few_after_one bound None moment (work.Packet flow head payload to_dst to_src) plain few = record { ends = plain.ends; packets = omega arith }
+few_after_one bound (Some facts) moment (work.Packet flow head payload to_dst to_src) plain few = record { ends = plain.ends; packets = omega (arith, few.packets) }
+few_after_one bound facts moment (work.Finish flow) plain few = tt
 
 few_more : (bound more : ℕ) (facts : Option FlowFacts) → bound ≤ more → IfSome facts (IsFew bound) → IfSome facts (IsFew more)
 few_more bound more None least few = tt
@@ -30,8 +30,8 @@ few_more bound more (Some facts) least few = record { ends = few.ends; packets =
 few_after : (bound : ℕ) (facts : Option FlowFacts) (jobs : List Job) → AllByRecursion IsPlain jobs → IfSome facts (IsFew bound) → IfSome (facts_after facts jobs) (IsFew (bound + length jobs))
 few_after bound facts [] plain few = few_more bound (bound + 0) facts (omega arith) few
 few_after bound facts (job ∷ jobs) plain few =
-    few_more (bound + 1 + length jobs) (bound + suc (length jobs)) (facts_after (facts_behind facts job) jobs) (omega arith)
-    (few_after (bound + 1) (facts_behind facts job) jobs plain.1 (few_behind bound facts job.moment job.work plain.0 few))
+    few_more (bound + 1 + length jobs) (bound + suc (length jobs)) (facts_after (facts_after_one facts job) jobs) (omega arith)
+    (few_after (bound + 1) (facts_after_one facts job) jobs plain.1 (few_after_one bound facts job.moment job.work plain.0 few))
 
 -- some of plain jobs
 plain_some : (test : Job → Bool) (jobs : List Job) → AllByRecursion IsPlain jobs → AllByRecursion IsPlain (filter test jobs)

@@ -21,9 +21,9 @@ use Rattle.flow_lanes.specs.declared.job.Job.{Job}
 use Rattle.flow_lanes.specs.declared.job.Work.{Work}
 use Rattle.flow_lanes.specs.declared.job.Work.TheVariants as work
 use Rattle.flow_lanes.specs.Engines.{Making}
-use Rattle.flow_lanes.specs.Flows.{Detection, FlowState, bits_at_hand, bits_found, flow_state, hits, hits_in, session_at_hand, state_after, state_behind, steered, work_items}
+use Rattle.flow_lanes.specs.Flows.{Detection, FlowState, bits_at_hand, bits_found, flow_state, hits, hits_in, session_at_hand, state_after, state_after_one, steered, work_items}
 use Rattle.flow_lanes.specs.ItemHits.{bits_after_item, hit, hits_of}
-use Rattle.flow_lanes.specs.Items.{JobItems, acked_items, both_sides, closing_items, finish_items, head_between, held_items, is_queued, left_items, own_items, packet_items, packet_item, session_behind, session_items, stream_items}
+use Rattle.flow_lanes.specs.Items.{JobItems, acked_items, both_sides, closing_items, finish_items, head_between, held_items, is_queued, left_items, own_items, packet_items, packet_item, session_after, session_items, stream_items}
 use Rattle.flow_lanes.specs.Sessions.{Packet, Session, ack_of, acked_side, after_ack, after_data, begun_session, client_end, is_from_client, receiver, sender, seq_of, server_end, session_of, settled, sizes_of, state_of, step_of, with_bases}
 use Rattle.flow_lanes.specs.Sides.{Side, acked_payloads, held_payloads, left_payloads, side_after_ack, side_after_data, with_base, without_left}
 
@@ -153,8 +153,8 @@ module _ (OfHead : IpHead → Body → Type 0) (OfEnds : End → End → Type 0)
       (λ session it. let settled_one = settled_has session it in
       based_session step (record (settled session) { state = state }) (record { client = settled_one.client; server = settled_one.server })) has))
 
-  behind_packet : (p : Packet) (step : Step) (session : Option Session) → OfMaybe session → OfMaybe (session_behind p step session)
-  behind_packet p step session has =
+  has_after_packet : (p : Packet) (step : Step) (session : Option Session) → OfMaybe session → OfMaybe (session_after p step session)
+  has_after_packet p step session has =
       mapped (λ (s : Session). after_data p step (after_ack p step s)) session (λ s it. after_data_has p step (after_ack p step s) (after_ack_has p step s it)) has
 
   -- ---- items
@@ -225,8 +225,8 @@ module _ (OfHead : IpHead → Body → Type 0) (OfEnds : End → End → Type 0)
       let state = state_of making p found in
       let session = session_of making p found step state in
       let session_has = own_session making p found step state head has in
-      let after = session_behind p step session in
-      let after_has = behind_packet p step session session_has in
+      let after = session_after p step session in
+      let after_has = has_after_packet p step session session_has in
       record {
         ended = pick_items step.ended_before _ [] (maybe_have (λ (s : Session). closing_items s p.moment) found (λ s it. closing_have s p.moment it) has) (All-nil OfItem);
         current = session_have making p step found session after head has session_has after_has;
@@ -271,8 +271,8 @@ module _ (OfHead : IpHead → Body → Type 0) (OfEnds : End → End → Type 0)
   state_has : (trying : Trying) (items : JobItems) (found : Option FlowState) → OfMaybe items.session → OfState (state_after trying items found)
   state_has trying items found has = state_by trying items found items.session refl has
 
-  flow_has : (d : Detection) (found : Option FlowState) (jobs : List Job) → OfState found → All (OfJob OfHead) jobs → OfState (fold (state_behind d) found jobs)
-  unfolding state_behind
+  flow_has : (d : Detection) (found : Option FlowState) (jobs : List Job) → OfState found → All (OfJob OfHead) jobs → OfState (fold (state_after_one d) found jobs)
+  unfolding state_after_one
   flow_has d found [] has all = has
   flow_has d found (job ∷ later) has all =
       let items = work_items d.making job.moment job.work (session_at_hand found) in

@@ -2,7 +2,7 @@
 -- what is kept of each flow, in a map
 pub mod KeptIn
 -- what a lane stands for, job by job
-pub mod Stands
+pub mod IsAfter
 -- a job that is done is answered
 pub mod IsDone
 -- the answers to a flow's jobs go by these alone

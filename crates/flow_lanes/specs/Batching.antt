@@ -19,7 +19,7 @@ use Rattle.flow_lanes.specs.Flows.{Detection, answer, answer_tries, items, same_
 use Rattle.flow_lanes.specs.Given.{Inspection}
 use Rattle.flow_lanes.specs.ItemHits.{told_entry}
 use Rattle.flow_lanes.specs.Sound.{IsSoundFor, facts_after}
-use Rattle.flow_lanes.specs.Standing.{AnswersBatch, AreShort, DetectsBy, LaneState, LanesStand, LanesState, LearnsJob, SearchesBatch, Stands, is_in_lane, known_in, known_of}
+use Rattle.flow_lanes.specs.LanesAfter.{AnswersBatch, AreShort, DetectsBy, LaneState, AreAfter, LanesState, LearnsJob, SearchesBatch, IsAfter, is_in_lane, known_in, known_of}
 
 -- the jobs of the lane at a place among `count`
 abbrev pub own_jobs : ℕ → ℕ → List Job → List Job
@@ -45,11 +45,11 @@ pub record IsSearched (all : Bool) (d : Detection) (before : List Job) (job : Jo
     (new : LaneState) : Type 0 where
   pub right : found ≡ found_of all d before job
   pub short : AreShort job (within same_flow (items d) before job)
-  pub stands : Stands d new (before ++ job ∷ [])
+  pub holds : IsAfter d new (before ++ job ∷ [])
 
 abbrev pub SearchesJob : {P : Type 0} → Inspection P → LaneState → Job → JobFound → LaneState → Type 0
 SearchesJob by old job found new =
-    (means : Means) (d : Detection) (before : List Job) → DetectsBy by.finds means by.stream by.set d → Stands d old before
+    (means : Means) (d : Detection) (before : List Job) → DetectsBy by.finds means by.stream by.set d → IsAfter d old before
     → IsSearched by.all d before job found new
 
 -- what is found of a job, with the job's number
@@ -60,14 +60,14 @@ numbered_out all d before job = record { number = job.number; value = found_of a
 pub record HasDoneJobs (all : Bool) (d : Detection) (before jobs : List Job) (outs : List (Numbered JobFound))
     (new : LaneState) : Type 0 where
   pub right : outs ≡ along_from (numbered_out all d) before jobs
-  pub stands : Stands d new (before ++ jobs)
+  pub holds : IsAfter d new (before ++ jobs)
 
 -- a lane has gone on with these jobs: whatever it stood for, its answers are the definition's; it has learnt
 -- of the jobs; and the answers bear the numbers of the jobs
 pub record GoesOn {P : Type 0} (by : Inspection P) (old : LaneState) (jobs : List Job) (outs : List (Numbered JobFound))
     (new : LaneState) : Type 0 where
   pub right : (means : Means) (d : Detection) (before : List Job) → DetectsBy by.finds means by.stream by.set d
-      → Stands d old before → HasDoneJobs by.all d before jobs outs new
+      → IsAfter d old before → HasDoneJobs by.all d before jobs outs new
   pub known : (other : Job) → known_of new other ≡ facts_after (known_of old other) (filter (same_flow other) jobs)
   pub numbers : map (λ (out : Numbered JobFound). out.number) outs ≡ map (λ (job : Job). job.number) jobs
 
@@ -119,7 +119,7 @@ AllGoOn by olds jobs news =
 pub record AreSearched (all : Bool) (d : Detection) (before jobs : List Job) (found : List (Numbered JobFound))
     (new : LanesState) : Type 0 where
   pub right : found ≡ along_from (numbered_out all d) before jobs
-  pub stands : LanesStand d new (before ++ jobs)
+  pub holds : AreAfter d new (before ++ jobs)
 
 -- lanes have searched a batch, whatever else is known of them: what is found is the definition's
 abbrev pub HaveSearched : {P : Type 0} → Inspection P → List LaneState → List Job → List (Numbered JobFound) → List LaneState
@@ -127,7 +127,7 @@ abbrev pub HaveSearched : {P : Type 0} → Inspection P → List LaneState → L
 HaveSearched by olds jobs found news =
     (old new : LanesState) → old.lanes ≡ olds → new.lanes ≡ news
     → (means : Means) (d : Detection) (before : List Job) → DetectsBy by.finds means by.stream by.set d
-    → LanesStand d old before → AreSearched by.all d before jobs found new
+    → AreAfter d old before → AreSearched by.all d before jobs found new
 
 -- the batch is answered, or its matches are told, by lanes that stood for any jobs
 abbrev pub HaveAnswered : {P : Type 0} → Inspection P → List LaneState → List Job → BatchOut → List LaneState → Type 0

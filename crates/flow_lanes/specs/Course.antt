@@ -17,7 +17,7 @@ use Rattle.flow_lanes.specs.declared.job.Work.{Work}
 use Rattle.flow_lanes.specs.declared.job.Work.TheVariants as work
 use Rattle.flow_lanes.specs.Sessions.{Packet}
 use Rattle.flow_lanes.specs.Sound.{FlowFacts, HasSessions, ends_of}
-use Rattle.flow_lanes.specs.Standing.{LanesState, known_in}
+use Rattle.flow_lanes.specs.LanesAfter.{LanesState, known_in}
 
 -- what is sent to either end goes by the first engine
 abbrev pub plain_toward : Toward

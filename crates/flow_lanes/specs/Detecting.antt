@@ -12,7 +12,7 @@ use Rattle.rule_eval.specs.Hits.{Bits, Trying}
 use Rattle.flow_lanes.specs.Engines.{Making}
 use Rattle.flow_lanes.specs.Flows.{FlowState, bits_at_hand, session_at_hand, state_after, steered}
 use Rattle.flow_lanes.specs.ItemHits.{bits_after_items, hits_of}
-use Rattle.flow_lanes.specs.Items.{packet_items, session_behind}
+use Rattle.flow_lanes.specs.Items.{packet_items, session_after}
 use Rattle.flow_lanes.specs.Sessions.{Packet, Session, session_of, state_of}
 use Rattle.flow_lanes.specs.Tried.{Gain, of_job, of_session}
 use Rattle.flow_lanes.specs.Working.{items_on}
@@ -45,7 +45,7 @@ gain_on making p step state old = of_session (bits_on step old) (items_on making
 abbrev pub GoesOn : Trying → Making → Packet → Step → State → Option FlowState → Option FlowState → Type 0
 GoesOn trying making p step state old new =
     new ≡ option_map (after_items trying (bits_on step old) (items_on making p step state (session_at_hand old)))
-    (if step.ends then None else session_behind p step (session_of making p (session_at_hand old) step state))
+    (if step.ends then None else session_after p step (session_of making p (session_at_hand old) step state))
 
 -- what is gained of a packet that leaves the session at hand as it is
 abbrev pub gain_at : Making → Packet → Step → Option FlowState → Gain

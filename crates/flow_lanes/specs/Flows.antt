@@ -69,14 +69,14 @@ with_side on named.Client sides = record sides { client = on }
 with_side on named.Server sides = record sides { server = on }
 with_side on _ sides = record { client = on; server = on }
 
-abbrev pub sides_behind : SidesOn → Opt → SidesOn
-sides_behind sides (opt.Reassemble on side) = with_side on side sides
-sides_behind sides option = sides
+abbrev pub sides_after : SidesOn → Opt → SidesOn
+sides_after sides (opt.Reassemble on side) = with_side on side sides
+sides_after sides option = sides
 
 -- the sides after a rule that matches, and after all rules that match an item
 abbrev pub sides_after_rule : List Rule → SidesOn → ℕ → SidesOn
 sides_after_rule rules sides place =
-    option_map_or (λ (rule : Rule). fold sides_behind sides rule.opts) (slice_get rules place) sides
+    option_map_or (λ (rule : Rule). fold sides_after sides rule.opts) (slice_get rules place) sides
 
 abbrev pub sides_after_hit : List Rule → SidesOn → Hits → SidesOn
 sides_after_hit rules sides hit = fold (sides_after_rule rules) sides hit.rules
@@ -108,12 +108,12 @@ state_after trying items found =
     }) items.session
 
 -- what is there after one more job of the flow
-unfoldable pub state_behind : Detection → Option FlowState → Job → Option FlowState
-state_behind d found job = state_after d.trying (work_items d.making job.moment job.work (session_at_hand found)) found
+unfoldable pub state_after_one : Detection → Option FlowState → Job → Option FlowState
+state_after_one d found job = state_after d.trying (work_items d.making job.moment job.work (session_at_hand found)) found
 
 -- what is there after these jobs of a flow: nothing after its end
 unfoldable pub flow_state : Detection → List Job → Option FlowState
-flow_state d jobs = fold (state_behind d) None jobs
+flow_state d jobs = fold (state_after_one d) None jobs
 
 -- The answer to a job, after the earlier jobs of its flow.
 

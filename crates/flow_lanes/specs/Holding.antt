@@ -14,7 +14,7 @@ use Rattle.flow_lanes.specs.declared.job.Work.TheVariants as work
 use Rattle.flow_lanes.specs.Engines.{Making, engine_for}
 use Rattle.flow_lanes.specs.Flows.{FlowState}
 use Rattle.flow_lanes.specs.Sessions.{is_tcp}
-use Rattle.flow_lanes.specs.Standing.{KeptFlow, LaneState, LanesState, is_of_flow, kept_of}
+use Rattle.flow_lanes.specs.LanesAfter.{KeptFlow, LaneState, LanesState, is_of_flow, kept_of}
 use Rattle.flow_lanes.specs.Streams.{places_below}
 
 -- how many bytes wait of one direction: this many of the places from its base on have one

@@ -119,8 +119,8 @@ acked_items p step session sizes =
     else []
 
 -- the session after the packet, and before an end
-abbrev pub session_behind : Packet → Step → Option Session → Option Session
-session_behind p step session = option_map (λ (s : Session). after_data p step (after_ack p step s)) session
+abbrev pub session_after : Packet → Step → Option Session → Option Session
+session_after p step session = option_map (λ (s : Session). after_data p step (after_ack p step s)) session
 
 -- the items of the packet's own session, with the sizes after the packet: `found` is the session at hand
 -- before it, `session` is its own before its acknowledgement and its data, `after` its own after them
@@ -136,7 +136,7 @@ session_items making p step found session after =
 abbrev pub items_told : Making → Packet → Option Session → Step → State → JobItems
 items_told making p found step state =
     let session : Option Session = session_of making p found step state in
-    let after : Option Session = session_behind p step session in
+    let after : Option Session = session_after p step session in
     record {
       ended = (if step.ended_before then option_map_or (λ s. closing_items s p.moment) found [] else []);
       current = session_items making p step found session after;

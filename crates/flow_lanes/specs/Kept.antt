@@ -9,7 +9,7 @@ use Rattle.flow_lanes.specs.Flows.{FlowState, session_at_hand}
 use Rattle.flow_lanes.specs.Reach.{IsWithin}
 use Rattle.flow_lanes.specs.Sessions.{Packet, Session}
 use Rattle.flow_lanes.specs.Sound.{FlowFacts, ends_of}
-use Rattle.flow_lanes.specs.Standing.{KeptFlow}
+use Rattle.flow_lanes.specs.LanesAfter.{KeptFlow}
 
 -- the session, if there is one, is of this protocol
 abbrev pub IsOf : Bool → Option Session → Type 0

@@ -14,7 +14,7 @@ pub mod Tried
 pub mod Flows
 pub mod Detecting
 pub mod Sound
-pub mod Standing
+pub mod LanesAfter
 pub mod Open
 pub mod Holding
 pub mod Batching

@@ -35,21 +35,21 @@ ends_of p = record {
 }
 
 -- what is known of the flow after one more job
-abbrev pub facts_behind_work : Option FlowFacts → Moment → Work → Option FlowFacts
-facts_behind_work facts moment (work.Alone head payload) = facts
-facts_behind_work facts moment (work.Packet flow head payload to_dst to_src) =
+abbrev pub facts_after_work : Option FlowFacts → Moment → Work → Option FlowFacts
+facts_after_work facts moment (work.Alone head payload) = facts
+facts_after_work facts moment (work.Packet flow head payload to_dst to_src) =
     Some (record {
       ends = ends_of (record { head = head; payload = payload; moment = moment; to_dst = to_dst; to_src = to_src });
       packets = option_map_or (λ (f : FlowFacts). f.packets + 1) facts 1;
     })
-facts_behind_work facts moment (work.Finish flow) = None
+facts_after_work facts moment (work.Finish flow) = None
 
-abbrev pub facts_behind : Option FlowFacts → Job → Option FlowFacts
-facts_behind facts job = facts_behind_work facts job.moment job.work
+abbrev pub facts_after_one : Option FlowFacts → Job → Option FlowFacts
+facts_after_one facts job = facts_after_work facts job.moment job.work
 
 -- what is known after these jobs of one flow, of which this was known
 abbrev pub facts_after : Option FlowFacts → List Job → Option FlowFacts
-facts_after facts jobs = fold facts_behind facts jobs
+facts_after facts jobs = fold facts_after_one facts jobs
 
 -- the body is of a protocol that has sessions
 abbrev pub HasSessions : Body → Type 0

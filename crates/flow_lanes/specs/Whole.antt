@@ -10,8 +10,8 @@ use Rattle.flow_lanes.specs.Flows.{FlowState, flow_of_work, same_number, session
 use Rattle.flow_lanes.specs.Given.{Inspection}
 use Rattle.flow_lanes.specs.Items.{JobItems}
 use Rattle.flow_lanes.specs.Kept.{kept_in}
-use Rattle.flow_lanes.specs.Sound.{FlowFacts, facts_behind_work}
-use Rattle.flow_lanes.specs.Standing.{KeptFlow, facts_kept, state_kept}
+use Rattle.flow_lanes.specs.Sound.{FlowFacts, facts_after_work}
+use Rattle.flow_lanes.specs.LanesAfter.{KeptFlow, facts_kept, state_kept}
 use Rattle.flow_lanes.specs.Tried.{ByTest, Gain, SoFar, Tallied, of_job}
 
 -- what a job finds of its flow
@@ -31,7 +31,7 @@ kept_by making trying moment w kept =
     option_map (λ (facts : FlowFacts). record {
       facts = facts;
       found = state_after trying (work_items making moment w (session_at_hand (state_kept kept))) (state_kept kept);
-    }) (facts_behind_work (facts_kept kept) moment w)
+    }) (facts_after_work (facts_kept kept) moment w)
 
 -- what the job's items give
 abbrev pub gain_for : Making → Moment → Work → List (ℕ × KeptFlow) → Gain
@@ -50,5 +50,5 @@ pub record IsDone {P : Type 0} (by : Inspection P) (making : Making) (moment : M
   pub tallied : Tallied by (gain_for making moment w old) given
   pub flows : ByTest by (λ trying. KeepsBy trying making moment w old new)
   pub facts : (flow : ℕ) → facts_kept (kept_in new flow)
-      ≡ (if same_number (Some flow) (flow_of_work w) then facts_behind_work (facts_kept (kept_in old flow)) moment w
+      ≡ (if same_number (Some flow) (flow_of_work w) then facts_after_work (facts_kept (kept_in old flow)) moment w
       else facts_kept (kept_in old flow))

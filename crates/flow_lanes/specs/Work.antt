@@ -16,7 +16,7 @@ use Rattle.rule_eval.specs.declared.item.Item.{Item}
 use Rattle.rule_eval.specs.Work.{visits_among}
 use Rattle.flow_lanes.specs.declared.job.Job.{Job}
 use Rattle.flow_lanes.specs.Flows.{Detection, items, same_flow}
-use Rattle.flow_lanes.specs.Standing.{DetectsBy, LaneState, Stands}
+use Rattle.flow_lanes.specs.LanesAfter.{DetectsBy, LaneState, IsAfter}
 
 -- the visits of an item: the sum of those of its candidates
 abbrev pub visits_on : List Rule → Item → ℕ
@@ -36,5 +36,5 @@ answer_visits d = within same_flow (visits d)
 -- the visits of a job are few: whatever jobs the lane stood for, they are no more than its items may take
 abbrev pub CountsVisits : {P : Type 0} → (P → List ℕ → Option Span) → StreamConfig → Rules P → LaneState → Job → ℕ → Type 0
 CountsVisits finds stream set old job count =
-    (means : Means) (d : Detection) (before : List Job) → DetectsBy finds means stream set d → Stands d old before
+    (means : Means) (d : Detection) (before : List Job) → DetectsBy finds means stream set d → IsAfter d old before
     → count ≤ answer_visits d before job

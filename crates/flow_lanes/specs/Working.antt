@@ -11,7 +11,7 @@ use Rattle.rule_eval.specs.declared.item.Item.{Item}
 use Rattle.flow_lanes.specs.declared.cutting.Stretch.{Stretch}
 use Rattle.flow_lanes.specs.declared.session.Stretches.{Stretches}
 use Rattle.flow_lanes.specs.Engines.{Making}
-use Rattle.flow_lanes.specs.Items.{acked_items, closing_items, facts_of, head_between, held_items, left_items, own_items, session_behind}
+use Rattle.flow_lanes.specs.Items.{acked_items, closing_items, facts_of, head_between, held_items, left_items, own_items, session_after}
 use Rattle.flow_lanes.specs.Sessions.{Packet, Session, after_ack, after_data, session_of, sizes_of}
 use Rattle.flow_lanes.specs.Sides.{Side, left_payloads, without_left}
 
@@ -61,8 +61,8 @@ TellsLeftAt found left =
     (moment : Moment) (sizes : ℕ × ℕ) → maybe_items moment sizes left ≡ option_map_or (λ s. left_items s moment sizes) found []
 
 -- how far the data of a session reach, if there is one
-abbrev pub sizes_behind : Option Session → ℕ × ℕ
-sizes_behind after = option_map_or sizes_of after (0, 0)
+abbrev pub sizes_after : Option Session → ℕ × ℕ
+sizes_after after = option_map_or sizes_of after (0, 0)
 
 -- the session after a packet's acknowledgement and its data
 abbrev pub after_packet : Packet → Step → Session → Session
@@ -106,8 +106,8 @@ unless_ended ended found = if ended then None else found
 abbrev pub items_on : Making → Packet → Step → State → Option Session → List Item
 items_on making p step state found =
     let session : Option Session = session_of making p found step state in
-    let after : Option Session = session_behind p step session in
-    let sizes : ℕ × ℕ = sizes_behind after in
+    let after : Option Session = session_after p step session in
+    let sizes : ℕ × ℕ = sizes_after after in
     option_map_or (λ s. left_items s p.moment sizes) found []
     ++ option_map_or (λ s. acked_items p step s sizes) session []
     ++ (if step.ends then option_map_or (λ s. held_items s p.moment sizes) after [] else [])

@@ -3,10 +3,10 @@
 ghost use Rattle.std.specs.Prelude.{◌≡◌, ℕ, ◌<◌, ◌≤◌, ◌^◌, ◌↔◌, List, Option, Some, Ok, false, true, All, IfOk, OnErr, OnOk, fold, length, map, replicate, sum_by};
 ghost use Rattle.edge_io.specs.Along.{AscendsBy};
 ghost use Rattle.conf_types.specs.Sound.{IsStreamConfig};
-ghost use Rattle.fast_pattern.specs.Grouping.{StandFor};
+ghost use Rattle.fast_pattern.specs.Grouping.{AreFor};
 ghost use Rattle.rule_types.specs.Sound.{IsTriable};
 ghost use Rattle.flow_lanes.specs.declared.job.Job.{Job};
-ghost use Rattle.flow_lanes.specs.Standing.{AnswersBatch, AreNew, AreNext, AreSoundFor, HasFailed, LearnsBatch, SearchesBatch, new_lane};
+ghost use Rattle.flow_lanes.specs.LanesAfter.{AnswersBatch, AreNew, AreNext, AreSoundFor, HasFailed, LearnsBatch, SearchesBatch, new_lane};
 ghost use Rattle.flow_lanes.specs.Given.{inspection_of};
 ghost use Rattle.flow_lanes.specs.Batching.{AllGoOn, AreSoundAmong, AreSoundIn, GoesOn, HaveAnswered, HaveLearnt, HaveMatched, HaveSearched, lanes_of, own_jobs};
 
@@ -228,7 +228,7 @@ fn cost_beside(workers: &[Worker], before: &[u64]) -> u64 {
 }
 
 /// Lanes, each with flows of its own: flow f is in lane f modulo their number. Contracts see each lane,
-/// the greatest number of a job so far, and whether memory was lacking (`LanesState` of specs/Standing).
+/// the greatest number of a job so far, and whether memory was lacking (`LanesState` of specs/LanesAfter).
 #[derive(Drop)]
 pub struct Lanes {
     workers: Vec<Worker>,
@@ -243,7 +243,7 @@ impl Model for Lanes {
     ghost use Rattle.std.specs.Coded.{coded_ℕ, codes};
     ghost use Rattle.std.specs.FinSet.{code};
     ghost use Rattle.std.specs.Ordering.{nat_cmp};
-    ghost use Rattle.flow_lanes.specs.Standing.{LanesState};
+    ghost use Rattle.flow_lanes.specs.LanesAfter.{LanesState};
     ghost use Rattle.flow_lanes.specs.Batching.{lanes_of};
 
     ghost Value = { LanesState };
@@ -280,7 +280,7 @@ impl Lanes {
     }
 
     /// The answers to a batch of jobs: an entry for each job, in the order of the jobs, and how many
-    /// candidates their items had (specs/Standing). The numbers of the jobs ascend, and are above those of
+    /// candidates their items had (specs/LanesAfter). The numbers of the jobs ascend, and are above those of
     /// all earlier jobs; each job is sound after the earlier jobs of its flow; `groups` are those of the
     /// set's rules. Of the jobs nothing is asked once memory was lacking.
     ///
@@ -305,7 +305,7 @@ impl Lanes {
         requires sound { self.old.failed ≡ false → AreSoundFor (length stream.now.engines) self.old jobs.now }
         requires next { self.old.failed ≡ false → AreNext self.old jobs.now }
         requires config { IsStreamConfig stream.now }
-        requires groups { StandFor groups.now set.now.rules }
+        requires groups { AreFor groups.now set.now.rules }
         requires triable { All IsTriable set.now.rules }
 
         // Each entry is the definition's, and the lanes have learnt of each job.
@@ -347,7 +347,7 @@ impl Lanes {
     }
 
     /// The matches of a batch of jobs: an entry for each job, in the order of the jobs, with those of its
-    /// items that a rule matches, and how many items and candidates there are in all (specs/Standing). It
+    /// items that a rule matches, and how many items and candidates there are in all (specs/LanesAfter). It
     /// asks of the jobs what `batch` asks, finds what `batch` finds, and leaves the lanes as `batch` leaves
     /// them. An item without a candidate costs its test for candidates and a count.
     ///
@@ -368,7 +368,7 @@ impl Lanes {
         requires sound { self.old.failed ≡ false → AreSoundFor (length stream.now.engines) self.old jobs.now }
         requires next { self.old.failed ≡ false → AreNext self.old jobs.now }
         requires config { IsStreamConfig stream.now }
-        requires groups { StandFor groups.now set.now.rules }
+        requires groups { AreFor groups.now set.now.rules }
         requires triable { All IsTriable set.now.rules }
 
         // Each entry is the definition's, with its items that a rule matches, and the lanes have learnt of

@@ -6,10 +6,10 @@ ghost use Rattle.std.specs.Prelude.{None, Option, option_map, Some, IfOk, OnOk, 
 ghost use Rattle.std.specs.FinSet.{empty};
 ghost use Rattle.flow_lanes.specs.Flows.{bits_at_hand, session_at_hand};
 ghost use Rattle.flow_lanes.specs.Given.{making_of, packet_of};
-ghost use Rattle.flow_lanes.specs.Items.{facts_of, is_queued, session_behind};
+ghost use Rattle.flow_lanes.specs.Items.{facts_of, is_queued, session_after};
 ghost use Rattle.flow_lanes.specs.Kept.{GrowsFound, IsFound, IsOf, KeepsFound};
 ghost use Rattle.flow_lanes.specs.Reach.{AreWithin, IsWithin};
-ghost use Rattle.flow_lanes.specs.Sessions.{Session as Standing, begun_session, session_of, settled, sizes_of, with_bases};
+ghost use Rattle.flow_lanes.specs.Sessions.{Session as Point, begun_session, session_of, settled, sizes_of, with_bases};
 ghost use Rattle.flow_lanes.specs.Staying.{StaysAt};
 ghost use Rattle.flow_lanes.specs.Working.{TellsLeftAt, items_on, own_facts, own_item, streams_of};
 
@@ -136,7 +136,7 @@ fn enter(
     state: &Phases,
     found: &mut Option<FlowState>,
 )
-    ensures session { (before : Option Standing) → session_at_hand found.old ≡ option_map settled before
+    ensures session { (before : Option Point) → session_at_hand found.old ≡ option_map settled before
         → session_at_hand found.new ≡ session_of (making_of settings.now) (packet_of p.now) before step.now state.now }
     ensures bits { bits_at_hand found.new
         ≡ (if step.now.tracked then (if step.now.begun then Some empty else bits_at_hand found.old) else None) }
@@ -169,9 +169,9 @@ pub(crate) fn accept_packet(
         ≡ out.old.items ++ streams_of (packet_of p.now) step.now left (session_at_hand found.old)) }
     ensures queued { IfOk result (λ queued. queued ≡ is_queued (packet_of p.now) step.now (session_at_hand found.old)) }
     ensures state { step.now.ends ≡ false → OnOk result (session_at_hand found.new
-        ≡ session_behind (packet_of p.now) step.now (session_at_hand found.old)) }
+        ≡ session_after (packet_of p.now) step.now (session_at_hand found.old)) }
     ensures sizes { OnOk result (option_map sizes_of (session_at_hand found.new)
-        ≡ option_map sizes_of (session_behind (packet_of p.now) step.now (session_at_hand found.old))) }
+        ≡ option_map sizes_of (session_after (packet_of p.now) step.now (session_at_hand found.old))) }
     ensures bits { bits_at_hand found.new ≡ bits_at_hand found.old }
     ensures grows { GrowsFound found.old found.new }
 {
@@ -187,7 +187,7 @@ pub(crate) fn accept_packet(
 /// The session facts of a packet: sizes are told of a TCP session that is established.
 #[inline(always)]
 fn facts_of(p: &Arrival, step: &Step, after: &Option<FlowState>) -> SessionFacts
-    ensures { (told : Option Standing) → option_map sizes_of (session_at_hand after.now) ≡ option_map sizes_of told
+    ensures { (told : Option Point) → option_map sizes_of (session_at_hand after.now) ≡ option_map sizes_of told
         → result ≡ facts_of (packet_of p.now) step.now told }
 {
     let sizes = match after {
@@ -211,7 +211,7 @@ pub(crate) fn own_facts(
     queued: bool,
     after: &Option<FlowState>,
 ) -> Option<SessionFacts>
-    ensures { (told : Option Standing) → option_map sizes_of (session_at_hand after.now) ≡ option_map sizes_of told
+    ensures { (told : Option Point) → option_map sizes_of (session_at_hand after.now) ≡ option_map sizes_of told
         → result ≡ own_facts inserts (packet_of p.now) step.now queued told }
 {
     if queued && !inserts {
@@ -236,7 +236,7 @@ pub(crate) fn push_current(
     ensures items { IfOk result (λ own. out.new.items ++ own_item (packet_of p.now) own ≡ out.old.items
         ++ items_on (making_of settings.now) (packet_of p.now) step.now state.now (session_at_hand found.old)) }
     ensures state { step.now.ends ≡ false
-        → OnOk result (session_at_hand found.new ≡ session_behind (packet_of p.now) step.now
+        → OnOk result (session_at_hand found.new ≡ session_after (packet_of p.now) step.now
         (session_of (making_of settings.now) (packet_of p.now) (session_at_hand found.old) step.now state.now)) }
     ensures bits { OnOk result (bits_at_hand found.new
         ≡ (if step.now.tracked then (if step.now.begun then Some empty else bits_at_hand found.old) else None)) }

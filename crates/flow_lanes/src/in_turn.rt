@@ -5,7 +5,7 @@
 
 ghost use Rattle.std.specs.Prelude.{◌≡◌, ◌<◌, ◌≤◌, IfOk, OnOk, length};
 ghost use Rattle.flow_lanes.specs.Flows.{flow_of};
-ghost use Rattle.flow_lanes.specs.Standing.{lane_of};
+ghost use Rattle.flow_lanes.specs.LanesAfter.{lane_of};
 ghost use Rattle.flow_lanes.specs.Given.{inspection_of};
 ghost use Rattle.flow_lanes.specs.Batching.{AreSoundAmong, HaveLearnt, HaveSearched, lanes_of};
 

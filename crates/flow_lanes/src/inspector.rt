@@ -2,7 +2,7 @@
 
 ghost use Rattle.std.specs.Prelude.{All};
 ghost use Rattle.conf_types.specs.Sound.{IsStreamConfig};
-ghost use Rattle.fast_pattern.specs.Grouping.{StandFor};
+ghost use Rattle.fast_pattern.specs.Grouping.{AreFor};
 ghost use Rattle.rule_types.specs.Sound.{IsTriable};
 
 use conf_types::StreamConfig;
@@ -24,6 +24,6 @@ pub(crate) struct Inspector<'a, P> {
     pub groups: &'a Groups,
     pub all: bool,
     ghost config: { ∥ IsStreamConfig stream.now ∥₁ },
-    ghost stand: { ∥ StandFor groups.now set.now.rules ∥₁ },
+    ghost hold: { ∥ AreFor groups.now set.now.rules ∥₁ },
     ghost triable: { ∥ All IsTriable set.now.rules ∥₁ },
 }

@@ -19,7 +19,7 @@ pub(crate) struct FlowState {
 }
 
 /// A flow that has not ended. Contracts see what is known of it and what its next job finds (`KeptFlow` of
-/// specs/Standing).
+/// specs/LanesAfter).
 #[derive(Drop)]
 pub(crate) struct Flow {
     pub facts: FlowFacts,
@@ -27,7 +27,7 @@ pub(crate) struct Flow {
 }
 
 impl Model for Flow {
-    ghost use Rattle.flow_lanes.specs.Standing.{KeptFlow};
+    ghost use Rattle.flow_lanes.specs.LanesAfter.{KeptFlow};
     ghost use Rattle.flowbit_state.specs.contracts.bits.Bits as bits;
     ghost use Rattle.std.specs.Coded.{codes};
 

@@ -2,11 +2,11 @@
 
 ghost use Rattle.std.specs.Prelude.{◌≡◌, ◌<◌, ◌≤◌, All, IfOk, OnOk, length};
 ghost use Rattle.conf_types.specs.Sound.{IsStreamConfig};
-ghost use Rattle.fast_pattern.specs.Grouping.{StandFor};
+ghost use Rattle.fast_pattern.specs.Grouping.{AreFor};
 ghost use Rattle.rule_types.specs.Sound.{IsTriable};
 ghost use Rattle.flow_lanes.specs.Given.{inspection_of};
 ghost use Rattle.flow_lanes.specs.Sound.{IsSoundFor};
-ghost use Rattle.flow_lanes.specs.Standing.{AnswersJob, CountsTries, LearnsJob, known_of, new_lane};
+ghost use Rattle.flow_lanes.specs.LanesAfter.{AnswersJob, CountsTries, LearnsJob, known_of, new_lane};
 ghost use Rattle.flow_lanes.specs.Batching.{SearchesJob};
 ghost use Rattle.flow_lanes.specs.Work.{CountsVisits};
 
@@ -27,7 +27,7 @@ use std::marker::{Brand, Model};
 use std::sync::ledger::{Blank, Ledger};
 
 /// The flows that one thread at a time goes on with. Contracts see the settings and the flows that have
-/// not ended, by their numbers (`LaneState` of specs/Standing).
+/// not ended, by their numbers (`LaneState` of specs/LanesAfter).
 #[derive(Drop)]
 pub struct Lane {
     flush: u32,
@@ -39,7 +39,7 @@ pub struct Lane {
 
 impl Model for Lane {
     ghost use Rattle.std.specs.Prelude.{◌≤◌};
-    ghost use Rattle.flow_lanes.specs.Standing.{LaneState};
+    ghost use Rattle.flow_lanes.specs.LanesAfter.{LaneState};
     ghost use Rattle.flowbit_state.specs.contracts.bits.Bits as bits;
     ghost use Rattle.std.specs.Coded.{codes};
 
@@ -118,7 +118,7 @@ impl Lane {
     ) -> Result<JobOut, NoMemory>
         requires sound { IsSoundFor (length stream.now.engines) (known_of self.old job.now) job.now }
         requires config { IsStreamConfig stream.now }
-        requires groups { StandFor groups.now set.now.rules }
+        requires groups { AreFor groups.now set.now.rules }
         requires triable { All IsTriable set.now.rules }
         ensures answers { IfOk result (λ out. AnswersJob P.finds stream.now set.now self.old job.now out.hits self.new) }
         ensures learns { OnOk result (LearnsJob self.old job.now self.new) }
@@ -152,7 +152,7 @@ impl Lane {
     ) -> Result<JobCounted<L>, NoMemory>
         requires sound { IsSoundFor (length stream.now.engines) (known_of self.old job.now) job.now }
         requires config { IsStreamConfig stream.now }
-        requires groups { StandFor groups.now set.now.rules }
+        requires groups { AreFor groups.now set.now.rules }
         requires triable { All IsTriable set.now.rules }
         requires none { visits ≡ 0 }
         ensures answers { IfOk result (λ out. AnswersJob P.finds stream.now set.now self.old job.now out.hits self.new) }

@@ -10,7 +10,7 @@ ghost use Rattle.flow_lanes.specs.Flows.{Detection, answer, items, same_flow};
 ghost use Rattle.flow_lanes.specs.Holding.{IsLimitedJob, held_bytes, held_segments, is_seen};
 ghost use Rattle.flow_lanes.specs.Open.{is_open};
 ghost use Rattle.flow_lanes.specs.Sound.{FlowFacts, IsSoundFor};
-ghost use Rattle.flow_lanes.specs.Standing.{AreLaneAnswers, ArePutTogether, AreShort, LaneState, LanesStand, LanesState, answers_of_flow, is_of_flow, kept_of, lane_of};
+ghost use Rattle.flow_lanes.specs.LanesAfter.{AreLaneAnswers, ArePutTogether, AreShort, LaneState, AreAfter, LanesState, answers_of_flow, is_of_flow, kept_of, lane_of};
 
 /// The stream items of a sound job of a flow have at most 16384 bytes, whatever jobs come before it.
 pub fn stream_items_are_short()
@@ -36,17 +36,17 @@ pub fn lanes_change_nothing()
 /// flow: what ended takes no place, however many flows there were.
 pub fn lanes_keep_open_flows()
     ensures { (d : Detection) (lanes : LanesState) (before : List Job) (place flow : ℕ) (lane : LaneState)
-        → LanesStand d lanes before → slice_get lanes.lanes place ≡ Some lane
+        → AreAfter d lanes before → slice_get lanes.lanes place ≡ Some lane
         → is_some (kept_of lane flow) ≡ ((lane_of (length lanes.lanes) (Some flow) == place) && is_open flow before) }
 {}
 
 /// All lanes together hold of one flow no more than its two sides may, by the limits of the engines that its packets go
 /// by; and nothing, unless a packet of TCP was seen of it since it began.
 pub fn flows_hold_few_bytes()
-    ensures bytes { (d : Detection) (lanes : LanesState) (before : List Job) (flow bytes segs : ℕ) → LanesStand d lanes before
+    ensures bytes { (d : Detection) (lanes : LanesState) (before : List Job) (flow bytes segs : ℕ) → AreAfter d lanes before
         → All (IsLimitedJob d.making bytes segs) before
         → held_bytes lanes flow ≤ (if is_seen flow before then 2 * bytes else 0) }
-    ensures segments { (d : Detection) (lanes : LanesState) (before : List Job) (flow bytes segs : ℕ) → LanesStand d lanes before
+    ensures segments { (d : Detection) (lanes : LanesState) (before : List Job) (flow bytes segs : ℕ) → AreAfter d lanes before
         → All (IsLimitedJob d.making bytes segs) before
         → held_segments lanes flow ≤ (if is_seen flow before then 2 * segs else 0) }
 {}

@@ -1,7 +1,7 @@
 //! What rules that match ask of reassembly (specs/Flows).
 
 ghost use Rattle.std.specs.Prelude.{◌≡◌, fold};
-ghost use Rattle.flow_lanes.specs.Flows.{sides_after_hit, sides_after_rule, sides_behind, steered, with_side};
+ghost use Rattle.flow_lanes.specs.Flows.{sides_after_hit, sides_after_rule, sides_after, steered, with_side};
 ghost use Rattle.flow_lanes.specs.Reach.{KeepsWithin};
 
 use crate::answer::Hits;
@@ -36,8 +36,8 @@ fn with_side(on: bool, side: Side, sides: SidesOn) -> SidesOn
 }
 
 /// The sides after an option.
-fn sides_behind(sides: SidesOn, opt: &Opt) -> SidesOn
-    ensures { result ≡ sides_behind sides opt.now }
+fn sides_after(sides: SidesOn, opt: &Opt) -> SidesOn
+    ensures { result ≡ sides_after sides opt.now }
 {
     match opt {
         Opt::Reassemble { on, side } => with_side(*on, *side, sides),
@@ -47,10 +47,10 @@ fn sides_behind(sides: SidesOn, opt: &Opt) -> SidesOn
 
 /// The sides after all options of a rule.
 fn sides_after_opts(mut sides: SidesOn, opts: &[Opt]) -> SidesOn
-    ensures { result ≡ fold sides_behind sides opts.now }
+    ensures { result ≡ fold sides_after sides opts.now }
 {
     for opt in opts {
-        sides = sides_behind(sides, opt);
+        sides = sides_after(sides, opt);
     }
     sides
 }

@@ -4,7 +4,7 @@ ghost use Rattle.std.specs.Prelude.{◌≡◌, Option};
 ghost use Rattle.stream5_sessions.specs.Phases.{IsBodyOf};
 ghost use Rattle.flow_lanes.specs.Flows.{session_at_hand};
 ghost use Rattle.flow_lanes.specs.Given.{making_of, packet_of};
-ghost use Rattle.flow_lanes.specs.Sessions.{Session as Standing, opening_end, session_rules, state_found, state_of, step_of};
+ghost use Rattle.flow_lanes.specs.Sessions.{Session as Point, opening_end, session_rules, state_found, state_of, step_of};
 
 use crate::arrival::Arrival;
 use crate::keeping::FlowState;
@@ -33,7 +33,7 @@ fn opening_end(p: &Arrival, found: &Option<FlowState>) -> End
 
 /// The settings by which the packet is read, where its session's first packet went to this end.
 pub(crate) fn rules_of(settings: &Settings, p: &Arrival, opened_to: End) -> SessionRules
-    ensures { (found : Option Standing) → opening_end (packet_of p.now) found ≡ opened_to
+    ensures { (found : Option Point) → opening_end (packet_of p.now) found ≡ opened_to
         → result ≡ session_rules (making_of settings.now) (packet_of p.now) found }
 {
     let to = p.toward(opened_to);

@@ -4,7 +4,7 @@ ghost use Rattle.std.specs.Prelude.{◌≡◌, ℕ, ◌<◌, ◌≤◌, ◌^◌,
 ghost use Rattle.flow_lanes.specs.declared.job.Job.{Job};
 ghost use Rattle.flow_lanes.specs.Flows.{flow_of};
 ghost use Rattle.flow_lanes.specs.Sound.{IsSoundFor};
-ghost use Rattle.flow_lanes.specs.Standing.{LaneState, is_in_lane, known_of, lane_of, new_lane};
+ghost use Rattle.flow_lanes.specs.LanesAfter.{LaneState, is_in_lane, known_of, lane_of, new_lane};
 ghost use Rattle.flow_lanes.specs.Given.{inspection_of};
 ghost use Rattle.flow_lanes.specs.Batching.{AddsFound, AddsOwn, AreSoundIn, GoesOn, own_jobs};
 

@@ -6,7 +6,7 @@ ghost use Rattle.flow_lanes.specs.Engines.{Making};
 ghost use Rattle.flow_lanes.specs.Given.{inspection_of, making_of, packet_of};
 ghost use Rattle.flow_lanes.specs.Kept.{kept_in};
 ghost use Rattle.flow_lanes.specs.Sound.{IsSoundPacket, IsSoundWork};
-ghost use Rattle.flow_lanes.specs.Standing.{facts_kept};
+ghost use Rattle.flow_lanes.specs.LanesAfter.{facts_kept};
 ghost use Rattle.flow_lanes.specs.Tried.{so_far};
 ghost use Rattle.flow_lanes.specs.Whole.{IsDone, known_for};
 

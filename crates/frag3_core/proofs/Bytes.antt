@@ -16,7 +16,7 @@ use Rattle.frag3_core.specs.Trackers.{TrackerState, bytes_at, datagram_of}
 
 -- a first byte and the bytes after it
 bytes_at-cons : (byte : ℕ → Option ℕ) (place : ℕ) (later : List ℕ) (first : ℕ) (rest : List ℕ) → byte place ≡ Some first → bytes_at byte later ≡ Some rest → bytes_at byte (place ∷ later) ≡ Some (first ∷ rest)
-bytes_at-cons byte place later first rest here behind = rw (here, behind)
+bytes_at-cons byte place later first rest here after = rw (here, after)
 
 -- bytes that are there place by place are the bytes at these places
 pub bytes_at-from_AreBytes : (byte : ℕ → Option ℕ) (low : ℕ) (bytes : List ℕ) → AreBytes byte low bytes → bytes_at byte (range_with_len low (length bytes)) ≡ Some bytes
@@ -77,7 +77,7 @@ count-or p q low zero = omega arith
 count-or p q low (suc n) = omega (arith, either (p low) (q low), count-or p q (low + 1) n)
 
 one_more : (a b low rest : ℕ) → rest ≤ b - max a (low + 1) → cond (leb a low && ltb low b) 1 0 + rest ≤ b - max a low
-one_more a b low rest behind = grind (arith, nat_tests)
+one_more a b low rest after = grind (arith, nat_tests)
 
 count-between : (a b low n : ℕ) → count (λ k. leb a k && ltb k b) low n ≤ b - max a low
 unfolding count

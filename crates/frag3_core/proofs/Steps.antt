@@ -119,14 +119,14 @@ and_false true b is = λ _. is
 and_false false b is = λ a. cc
 
 -- what it means that a fragment's tracker is kept
-pub record Stands (most : ℕ) (ts : Trackers) (key : DatagramKey) (moment : ℕ) (t : TrackerState) : Type 0 where
+pub record IsKeptAt (most : ℕ) (ts : Trackers) (key : DatagramKey) (moment : ℕ) (t : TrackerState) : Type 0 where
   pub is : lookup (same_key key) ts ≡ Some t
   pub in_time : is_timed_out moment t ≡ false
   pub kept : (nat_full : leb most (held_count ts) ≡ true) → is_first key ts ≡ false
 
-stands : (most : ℕ) (ts : Trackers) (key : DatagramKey) (moment : ℕ) → is_kept most ts key moment ≡ true → (t : TrackerState) × Stands most ts key moment t
-stands most ts key moment kept = (elim (lookup (same_key key) ts) as (λ o. lookup (same_key key) ts ≡ o →
-    option_map_or (λ (t : TrackerState). not (is_timed_out moment t) && not (leb most (held_count ts) && is_first key ts)) o false ≡ true → (t : TrackerState) × Stands most ts key moment t) [
+kept_at : (most : ℕ) (ts : Trackers) (key : DatagramKey) (moment : ℕ) → is_kept most ts key moment ≡ true → (t : TrackerState) × IsKeptAt most ts key moment t
+kept_at most ts key moment kept = (elim (lookup (same_key key) ts) as (λ o. lookup (same_key key) ts ≡ o →
+    option_map_or (λ (t : TrackerState). not (is_timed_out moment t) && not (leb most (held_count ts) && is_first key ts)) o false ≡ true → (t : TrackerState) × IsKeptAt most ts key moment t) [
       | None ↦ λ is test. cc
       | Some t ↦ λ is test. (
         t,
@@ -139,26 +139,26 @@ stands most ts key moment kept = (elim (lookup (same_key key) ts) as (λ o. look
     ]) refl kept
 
 -- the trackers found are these without at most the first, which is another one's
-found-stands : (most : ℕ) (f : Fragment) (ts : Trackers) (t : TrackerState) → AreTrackers ts → held_count ts ≤ most → Stands most ts (key_of f.ip) f.moment t →
+found-kept_at : (most : ℕ) (f : Fragment) (ts : Trackers) (t : TrackerState) → AreTrackers ts → held_count ts ≤ most → IsKeptAt most ts (key_of f.ip) f.moment t →
     found (record { max_frags = most; trackers = ts }) f ≡ roomy most ts
-found-stands most f ts t are few stand =
-    let late : option_map_or (is_timed_out f.moment) (lookup (same_key (key_of f.ip)) ts) false ≡ false = ap (λ o. option_map_or (is_timed_out f.moment) o false) stand.is ∙ stand.in_time in
+found-kept_at most f ts t are few kept_here =
+    let late : option_map_or (is_timed_out f.moment) (lookup (same_key (key_of f.ip)) ts) false ≡ false = ap (λ o. option_map_or (is_timed_out f.moment) o false) kept_here.is ∙ kept_here.in_time in
     ap (λ b. with_room most (cond b (remove_entry (same_key (key_of f.ip)) ts) ts)) late ∙ with_room-roomy most ts are few
 
 -- the room and the tracker found before, where the tracker has one fragment more
-roomy-set : (most : ℕ) (ts : Trackers) (key : DatagramKey) (moment : ℕ) (t new : TrackerState) → Stands most ts key moment t → length new.segments ≡ length t.segments + 1 →
+roomy-set : (most : ℕ) (ts : Trackers) (key : DatagramKey) (moment : ℕ) (t new : TrackerState) → IsKeptAt most ts key moment t → length new.segments ≡ length t.segments + 1 →
     (roomy (most + 1) (set_value (same_key key) ts new) ≡ set_value (same_key key) (roomy most ts) new) × (lookup (same_key key) (roomy most ts) ≡ Some t)
-roomy-set most ts key moment t new stand more =
-    let count = held_count-set key ts t new stand.is in
+roomy-set most ts key moment t new kept_here more =
+    let count = held_count-set key ts t new kept_here.is in
     elim (cases_lt (held_count ts) most) [
       | inl fits ↦ (
         roomy-fits (most + 1) (set_value (same_key key) ts new) (omega (arith, count, more)) ∙ ap (λ l. set_value (same_key key) l new) (sym (roomy-fits most ts fits)),
-        ap (lookup (same_key key)) (roomy-fits most ts fits) ∙ stand.is,
+        ap (lookup (same_key key)) (roomy-fits most ts fits) ∙ kept_here.is,
       )
       | inr full ↦
-          let other = stand.kept (le_test most (held_count ts) full) in (
+          let other = kept_here.kept (le_test most (held_count ts) full) in (
             roomy-full (most + 1) (set_value (same_key key) ts new) (omega (arith, count, more)) ∙ set-first key ts new other ∙ ap (λ l. set_value (same_key key) l new) (sym (roomy-full most ts full)),
-            ap (lookup (same_key key)) (roomy-full most ts full) ∙ lookup-first key ts other ∙ stand.is,
+            ap (lookup (same_key key)) (roomy-full most ts full) ∙ lookup-first key ts other ∙ kept_here.is,
           )
     ]
 
@@ -168,15 +168,15 @@ pub takes-grown : (most : ℕ) (f : Fragment) (ts new : Trackers) (bytes : Optio
 takes-grown most f ts new bytes are few kept grows =
     let key = key_of f.ip in
     let frag3 : Frag3State = record { max_frags = most; trackers = ts } in
-    let some = stands most ts key f.moment kept in
+    let some = kept_at most ts key f.moment kept in
     let t = some.0 in
-    let stand : Stands most ts key f.moment t = some.1 in
+    let kept_here : IsKeptAt most ts key f.moment t = some.1 in
     let grown = joined f.ip f.part t in
     let more : length grown.segments ≡ length t.segments + 1 = length-append t.segments _ in
-    let room = roomy-set most ts key f.moment t grown stand more in
-    let finds = found-stands most f ts t are few stand in
+    let room = roomy-set most ts key f.moment t grown kept_here more in
+    let finds = found-kept_at most f ts t are few kept_here in
     let mine : own frag3 f ≡ grown = ap (λ l. joined f.ip f.part (unwrap_or (lookup (same_key key) l) (begun f.moment f.rules))) finds ∙ ap (λ o. joined f.ip f.part (unwrap_or o (begun f.moment f.rules))) room.1 in
-    let step = grows t stand.is in (
+    let step = grows t kept_here.is in (
       step.0 ∙ ap (settled key (is_some (datagram_of grown))) room.0 ∙ settled-set key (roomy most ts) t grown (datagram_of grown) room.1
           ∙ sym (ap (λ l. with_own key (own frag3 f) (remove_entry (same_key key) l) (datagram_of (own frag3 f))) finds
           ∙ ap (λ m. with_own key m (remove_entry (same_key key) (roomy most ts)) (datagram_of m)) mine),

@@ -30,9 +30,9 @@ module _ (entries : List HostLine) (addr : Addr) (n : ℕ) where
   below-found place is = (
     omega (arith, place-within test 0 entries place (sym is)),
     λ d.
-        let stands = (place-finds test 0 entries place d (sym is)).2 in
+        let holds = (place-finds test 0 entries place d (sym is)).2 in
         let same : place - 0 ≡ place = omega arith in
-        below-next entries addr n ∙ ap (λ o. option_or o (below entries addr n)) (stands ∙ ap (λ k. Some (get_or entries k d)) same),
+        below-next entries addr n ∙ ap (λ o. option_or o (below entries addr n)) (holds ∙ ap (λ k. Some (get_or entries k d)) same),
   )
 
   -- no place at this length: it is one below

@@ -20,13 +20,13 @@ use Rattle.host_table.specs.Lines.{content_lines}
 use Rattle.host_table.specs.HostLine.{same_network, host_line}
 
 -- the entries after these lines, or the refusal of the first line that is refused
-unfoldable pub hosts_behind : List HostLine → List Numbered → Result (List HostLine) HostFault
-hosts_behind entries [] = Ok entries
-hosts_behind entries (line ∷ rest) = host_line entries line >>= (λ entry. hosts_behind (entries ++ entry ∷ []) rest)
+unfoldable pub hosts_after : List HostLine → List Numbered → Result (List HostLine) HostFault
+hosts_after entries [] = Ok entries
+hosts_after entries (line ∷ rest) = host_line entries line >>= (λ entry. hosts_after (entries ++ entry ∷ []) rest)
 
 -- the entries of a table, or the refusal of the first line that is refused
 unfoldable pub hosts_of : List ℕ → Result (List HostLine) HostFault
-hosts_of text = hosts_behind [] (content_lines text)
+hosts_of text = hosts_after [] (content_lines text)
 
 -- an answer that gives what is meant, or want of memory
 abbrev pub Gives : Result (List HostLine) HostFault → Result (List HostLine) HostFault → Type 0

@@ -19,7 +19,7 @@ const MOST_ENTRIES: usize = 65_536;
 
 /// The entry that a line gives after those before it.
 #[tactic(auto, unfolding(crate::specs::HostLine::host_line, crate::specs::HostLine::taken))]
-fn entry_behind(hosts: &Hosts, number: u32, line: &[u8]) -> Result<HostLine, HostFault>
+fn entry_after(hosts: &Hosts, number: u32, line: &[u8]) -> Result<HostLine, HostFault>
     ensures entry { result ≡ host_line hosts.now (numbered number line.now) }
     ensures network { IfOk result (λ entry. IsNetwork entry.network) }
     ensures new { IfOk result (λ entry. is_given hosts.now entry.network ≡ false) }
@@ -45,12 +45,12 @@ pub fn read_hosts(alloc: Global, text: &[u8]) -> Result<Hosts, HostFault>
     let mut hosts = Hosts::empty(alloc);
     let mut rest = text;
     let mut number: u32 = 0;
-    while let Some((line, behind)) = first_line(rest) {
+    while let Some((line, after)) = first_line(rest) {
         number += 1;
-        rest = behind;
+        rest = after;
         let line = trimmed(line);
         if has_content(line) {
-            let entry = entry_behind(&hosts, number, line)?;
+            let entry = entry_after(&hosts, number, line)?;
             hosts = hosts.with(entry)?;
         }
     }

@@ -18,8 +18,8 @@ use Rattle.packet_decode.specs.Decoding.{Fields, data_bounds, datagram_at, decod
 use Rattle.packet_decode.specs.Versions.{icmp_protocol, version_of}
 use Rattle.ipv6_decode.specs.declared.walk.Walk.{Walk}
 use Rattle.ipv6_decode.specs.Addresses.{HaveSameEnds, IsOfOneVersion, IsOfVersion, KeepVersions}
-use Rattle.ipv6_decode.specs.Decoding6.{decoded6, packet_at, packet_behind, upper_at, walk_start}
-use Rattle.ipv6_decode.specs.Headers.{behind_fragment_header, behind_header, behind_length_field, fragment_head, head_at, is_at_header, most_headers, packet_stop, walk_end}
+use Rattle.ipv6_decode.specs.Decoding6.{decoded6, packet_at, packet_after, upper_at, walk_start}
+use Rattle.ipv6_decode.specs.Headers.{after_fragment_header, after_header, after_length_field, fragment_head, head_at, is_at_header, most_headers, packet_stop, walk_end}
 use Rattle.ipv6_decode.specs.Versions.{record_decoded, unless_other}
 
 -- ---- steps that may fail
@@ -114,8 +114,8 @@ four link bytes checks =
 abbrev WalksBetween : IpHead → Walk → Type 0
 WalksBetween head walk = HaveSameEnds walk.head head
 
-length_field_ends : (walk : Walk) (bytes : List ℕ) → IfOk (behind_length_field walk bytes) (WalksBetween walk.head)
-unfolding behind_length_field
+length_field_ends : (walk : Walk) (bytes : List ℕ) → IfOk (after_length_field walk bytes) (WalksBetween walk.head)
+unfolding after_length_field
 length_field_ends walk bytes = go (nat_lt (length bytes) (walk.place + 2)) (nat_lt (length bytes) (walk.place + 8 + 8 * byte_at bytes (walk.place + 1)))
   where
     next : Walk
@@ -126,8 +126,8 @@ length_field_ends walk bytes = go (nat_lt (length bytes) (walk.place + 2)) (nat_
     go false true = tt
     go false false = (refl, refl)
 
-fragment_header_ends : (walk : Walk) (bytes : List ℕ) → IfOk (behind_fragment_header walk bytes) (WalksBetween walk.head)
-unfolding behind_fragment_header fragment_head
+fragment_header_ends : (walk : Walk) (bytes : List ℕ) → IfOk (after_fragment_header walk bytes) (WalksBetween walk.head)
+unfolding after_fragment_header fragment_head
 fragment_header_ends walk bytes = go (nat_lt (length bytes) (walk.place + 8))
   where
     head : IpHead
@@ -137,11 +137,11 @@ fragment_header_ends walk bytes = go (nat_lt (length bytes) (walk.place + 8))
     go true = tt
     go false = (refl, refl)
 
-header_ends : (walk : Walk) (bytes : List ℕ) → IfOk (behind_header walk bytes) (WalksBetween walk.head)
-unfolding behind_header
+header_ends : (walk : Walk) (bytes : List ℕ) → IfOk (after_header walk bytes) (WalksBetween walk.head)
+unfolding after_header
 header_ends walk bytes = go (walk.head.protocol == 44)
   where
-    go : (b : Bool) → IfOk (cond b (behind_fragment_header walk bytes) (behind_length_field walk bytes)) (WalksBetween walk.head)
+    go : (b : Bool) → IfOk (cond b (after_fragment_header walk bytes) (after_length_field walk bytes)) (WalksBetween walk.head)
     go true = fragment_header_ends walk bytes
     go false = length_field_ends walk bytes
 
@@ -155,15 +155,15 @@ walk_ends zero walk bytes = go (is_at_header walk)
 walk_ends (suc left) walk bytes = go (is_at_header walk) (λ next. walk_ends left next bytes)
   where
     go : (b : Bool) → ((next : Walk) → IfOk (walk_end left next bytes) (WalksBetween next.head))
-        → IfOk (cond b (behind_header walk bytes >>= (λ next. walk_end left next bytes)) (Ok walk)) (WalksBetween walk.head)
+        → IfOk (cond b (after_header walk bytes >>= (λ next. walk_end left next bytes)) (Ok walk)) (WalksBetween walk.head)
     go true later =
-        bind-with (WalksBetween walk.head) (WalksBetween walk.head) (behind_header walk bytes) (λ next. walk_end left next bytes) (header_ends walk bytes)
+        bind-with (WalksBetween walk.head) (WalksBetween walk.head) (after_header walk bytes) (λ next. walk_end left next bytes) (header_ends walk bytes)
         (λ next here. IfOk-weaker (walk_end left next bytes) (WalksBetween next.head) (WalksBetween walk.head) (λ end there. (there.0 ∙ here.0, there.1 ∙ here.1)) (later next))
     go false later = (refl, refl)
 
-behind_head : (walk : Walk) (packet : List ℕ) (checks : Checks) → IfOk (packet_behind walk packet checks) (HasHead walk.head)
-unfolding packet_behind
-behind_head walk packet checks = go walk.is_part
+after_head : (walk : Walk) (packet : List ℕ) (checks : Checks) → IfOk (packet_after walk packet checks) (HasHead walk.head)
+unfolding packet_after
+after_head walk packet checks = go walk.is_part
   where
     go : (b : Bool) → IfOk (cond b (Ok (record { ip = walk.head; body = body.Fragment; payload = slice packet walk.place (length packet) })) (upper_at walk packet checks)) (HasHead walk.head)
     go true = refl
@@ -176,9 +176,9 @@ six_ends packet start walk same = (ap version_of same.0, ap version_of same.1)
 six_at : (packet : List ℕ) (start : ℕ) (checks : Checks) → IfOk (packet_at packet start checks) (λ fields. IsOfVersion Six fields.ip)
 unfolding packet_at walk_start
 six_at packet start checks =
-    bind-with (WalksBetween (head_at packet start)) (λ fields. IsOfVersion Six fields.ip) (walk_end most_headers (walk_start packet start) packet) (λ walk. packet_behind walk packet checks)
+    bind-with (WalksBetween (head_at packet start)) (λ fields. IsOfVersion Six fields.ip) (walk_end most_headers (walk_start packet start) packet) (λ walk. packet_after walk packet checks)
     (walk_ends most_headers (walk_start packet start) packet)
-    (λ walk same. of_version Six walk.head (packet_behind walk packet checks) (six_ends packet start walk same) (behind_head walk packet checks))
+    (λ walk same. of_version Six walk.head (packet_after walk packet checks) (six_ends packet start walk same) (after_head walk packet checks))
 
 six : (link : Link) (bytes : List ℕ) (checks : Checks) → IfOk (decoded6 link bytes checks) (λ fields. IsOfVersion Six fields.ip)
 unfolding decoded6

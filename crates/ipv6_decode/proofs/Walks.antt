@@ -3,7 +3,7 @@ use Rattle.std.proofs.Common.{◌≡◌, ◌≢◌, ℕ, zero, suc, ◌-◌, Lis
 use Rattle.packet_decode.specs.declared.skip.Skip.{Skip}
 use Rattle.packet_decode.specs.declared.skip.Skip.TheVariants.{Malformed}
 use Rattle.ipv6_decode.specs.declared.walk.Walk.{Walk}
-use Rattle.ipv6_decode.specs.Headers.{is_at_header, behind_header, walk_end}
+use Rattle.ipv6_decode.specs.Headers.{is_at_header, after_header, walk_end}
 
 -- where there is no header, the walk ends
 pub ended : (left : ℕ) (walk : Walk) (bytes : List ℕ) → is_at_header walk ≡ false → walk_end left walk bytes ≡ Ok walk
@@ -17,17 +17,17 @@ unfolding walk_end
 too_many walk bytes there = rw there refl
 
 -- where there is a header, the walk goes on after it
-pub over : (left : ℕ) (walk next : Walk) (bytes : List ℕ) → is_at_header walk ≡ true → behind_header walk bytes ≡ Ok next → walk_end (suc left) walk bytes ≡ walk_end left next bytes
+pub over : (left : ℕ) (walk next : Walk) (bytes : List ℕ) → is_at_header walk ≡ true → after_header walk bytes ≡ Ok next → walk_end (suc left) walk bytes ≡ walk_end left next bytes
 unfolding walk_end
 over left walk next bytes there step = rw (there, step) refl
 
-pub went_on : (left : ℕ) (walk next : Walk) (bytes : List ℕ) → is_at_header walk ≡ true → left ≢ 0 → behind_header walk bytes ≡ Ok next → walk_end left walk bytes ≡ walk_end (left - 1) next bytes
+pub went_on : (left : ℕ) (walk next : Walk) (bytes : List ℕ) → is_at_header walk ≡ true → left ≢ 0 → after_header walk bytes ≡ Ok next → walk_end left walk bytes ≡ walk_end (left - 1) next bytes
 went_on zero walk next bytes there some step = absurd (some refl)
 went_on (suc left) walk next bytes there some step =
     over left walk next bytes there step ∙ ap (λ (n : ℕ). walk_end n next bytes) (omega arith)
 
 -- where a header doesn't fit, the walk fails
-pub failed : (left : ℕ) (walk : Walk) (skip : Skip) (bytes : List ℕ) → is_at_header walk ≡ true → left ≢ 0 → behind_header walk bytes ≡ Err skip → walk_end left walk bytes ≡ Err skip
+pub failed : (left : ℕ) (walk : Walk) (skip : Skip) (bytes : List ℕ) → is_at_header walk ≡ true → left ≢ 0 → after_header walk bytes ≡ Err skip → walk_end left walk bytes ≡ Err skip
 unfolding walk_end
 failed zero walk skip bytes there some step = absurd (some refl)
 failed (suc left) walk skip bytes there some step = rw (there, step) refl

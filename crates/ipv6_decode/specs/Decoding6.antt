@@ -36,8 +36,8 @@ walk_start packet start = record { head = head_at packet start; place = start + 
 
 -- What a packet says, with which the bytes end, and whose walk ended so. A part of a datagram has
 -- no transport header of its own: all bytes after the fragment header are the part.
-unfoldable pub packet_behind : Walk → List ℕ → Checks → Result Fields Skip
-packet_behind walk packet checks =
+unfoldable pub packet_after : Walk → List ℕ → Checks → Result Fields Skip
+packet_after walk packet checks =
     if walk.is_part
     then Ok (record { ip = walk.head; body = Fragment; payload = slice packet walk.place (length packet) })
     else upper_at walk packet checks
@@ -45,7 +45,7 @@ packet_behind walk packet checks =
 -- what the packet at `start` says, with which the bytes end
 unfoldable pub packet_at : List ℕ → ℕ → Checks → Result Fields Skip
 packet_at packet start checks =
-    walk_end most_headers (walk_start packet start) packet >>= (λ walk. packet_behind walk packet checks)
+    walk_end most_headers (walk_start packet start) packet >>= (λ walk. packet_after walk packet checks)
 
 -- what a captured record says: bytes after the payload are no part of the packet
 unfoldable pub decoded6 : Link → List ℕ → Checks → Result Fields Skip

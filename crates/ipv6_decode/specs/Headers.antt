@@ -58,8 +58,8 @@ is_at_header walk = not walk.is_part && (has_length_field walk.head.protocol || 
 
 -- The walk after a header with a length field: its first byte is the next header, and its second one counts
 -- the units of 8 bytes after the first 8 (RFC 8200, sections 4.3, 4.4 and 4.6).
-unfoldable pub behind_length_field : Walk → List ℕ → Result Walk Skip
-behind_length_field walk bytes =
+unfoldable pub after_length_field : Walk → List ℕ → Result Walk Skip
+after_length_field walk bytes =
     if nat_lt (length bytes) (walk.place + 2) then Err Malformed
     else (let end = walk.place + 8 + 8 * byte_at bytes (walk.place + 1) in
     if nat_lt (length bytes) end then Err Malformed
@@ -80,16 +80,16 @@ fragment_head head bytes place =
 
 -- The walk after a fragment header, which has 8 bytes: a part of a datagram, unless it begins at 0 with no
 -- more to come (RFC 6946, section 2).
-unfoldable pub behind_fragment_header : Walk → List ℕ → Result Walk Skip
-behind_fragment_header walk bytes =
+unfoldable pub after_fragment_header : Walk → List ℕ → Result Walk Skip
+after_fragment_header walk bytes =
     if nat_lt (length bytes) (walk.place + 8) then Err Malformed
     else (let head = fragment_head walk.head bytes walk.place in
     Ok (record { head = head; place = walk.place + 8; is_part = is_fragment head }))
 
 -- the walk after the extension header at the place
-unfoldable pub behind_header : Walk → List ℕ → Result Walk Skip
-behind_header walk bytes =
-    if walk.head.protocol == 44 then behind_fragment_header walk bytes else behind_length_field walk bytes
+unfoldable pub after_header : Walk → List ℕ → Result Walk Skip
+after_header walk bytes =
+    if walk.head.protocol == 44 then after_fragment_header walk bytes else after_length_field walk bytes
 
 -- how many extension headers are walked
 abbrev pub most_headers : ℕ
@@ -102,4 +102,4 @@ most_headers = 8
 unfoldable pub walk_end : ℕ → Walk → List ℕ → Result Walk Skip
 walk_end zero walk bytes = if is_at_header walk then Err Malformed else Ok walk
 walk_end (suc left) walk bytes =
-    if is_at_header walk then (behind_header walk bytes >>= (λ next. walk_end left next bytes)) else Ok walk
+    if is_at_header walk then (after_header walk bytes >>= (λ next. walk_end left next bytes)) else Ok walk

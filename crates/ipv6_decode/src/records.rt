@@ -2,7 +2,7 @@
 ghost use Rattle.std.specs.Prelude.{◌≡◌, ◌+◌, ◌≤◌, length, IfOk};
 ghost use Rattle.packet_decode.specs.Decoding.{seen};
 ghost use Rattle.packet_decode.specs.Versions.{version_of};
-ghost use Rattle.ipv6_decode.specs.Decoding6.{upper_at, walk_start, packet_behind, packet_at, decoded6, datagram_decoded6};
+ghost use Rattle.ipv6_decode.specs.Decoding6.{upper_at, walk_start, packet_after, packet_at, decoded6, datagram_decoded6};
 
 use crate::header::{HEADER_LEN, ip_head, packet_stop};
 use crate::walk::{Walk, walk_end};
@@ -34,10 +34,10 @@ fn walk_start(packet: &[u8], start: usize) -> Walk
 }
 
 /// The packet with which the bytes end, and whose walk ended so.
-#[tactic(auto, unfolding(crate::specs::Decoding6::packet_behind))]
-fn packet_behind<'a>(walk: Walk, packet: &'a [u8], checks: Checks) -> Result<Packet<'a>, Skip>
+#[tactic(auto, unfolding(crate::specs::Decoding6::packet_after))]
+fn packet_after<'a>(walk: Walk, packet: &'a [u8], checks: Checks) -> Result<Packet<'a>, Skip>
     requires { walk.place ≤ length packet.now }
-    ensures exact { seen result ≡ packet_behind walk packet.now checks }
+    ensures exact { seen result ≡ packet_after walk packet.now checks }
     ensures within { IfOk result
         (λ found. walk.place + length found.payload.now ≤ length packet.now) }
 {
@@ -61,7 +61,7 @@ fn packet_at<'a>(packet: &'a [u8], start: usize, checks: Checks) -> Result<Packe
         (λ found. start + 40 + length found.payload.now ≤ length packet.now) }
 {
     let walk = walk_end(walk_start(packet, start), packet)?;
-    packet_behind(walk, packet, checks)
+    packet_after(walk, packet, checks)
 }
 
 /// Reads the headers of a captured record: link header and tags, the IPv6 header (RFC 8200), its

@@ -1,6 +1,6 @@
 //! Walking over extension headers to the transport header.
 ghost use Rattle.std.specs.Prelude.{◌≡◌, ◌+◌, ◌≤◌, length, IfOk};
-ghost use Rattle.ipv6_decode.specs.Headers.{has_length_field, is_at_header, behind_length_field, fragment_head, behind_fragment_header, behind_header, most_headers, walk_end};
+ghost use Rattle.ipv6_decode.specs.Headers.{has_length_field, is_at_header, after_length_field, fragment_head, after_fragment_header, after_header, most_headers, walk_end};
 
 use packet_decode::numbers::{be16, be32};
 use packet_decode::{IpHead, Skip};
@@ -50,10 +50,10 @@ fn is_at_header(walk: &Walk) -> bool
 }
 
 /// The walk after an extension header with a length field.
-#[tactic(auto, unfolding(crate::specs::Headers::behind_length_field))]
-fn behind_length_field(walk: Walk, packet: &[u8]) -> Result<Walk, Skip>
+#[tactic(auto, unfolding(crate::specs::Headers::after_length_field))]
+fn after_length_field(walk: Walk, packet: &[u8]) -> Result<Walk, Skip>
     requires { walk.place ≤ length packet.now }
-    ensures exact { result ≡ behind_length_field walk packet.now }
+    ensures exact { result ≡ after_length_field walk packet.now }
     ensures onward { IfOk result (λ next. walk.place ≤ next.place) }
     ensures within { IfOk result (λ next. next.place ≤ length packet.now) }
 {
@@ -92,10 +92,10 @@ fn fragment_head(head: IpHead, packet: &[u8], place: usize) -> IpHead
 }
 
 /// The walk after a fragment header.
-#[tactic(auto, unfolding(crate::specs::Headers::behind_fragment_header))]
-fn behind_fragment_header(walk: Walk, packet: &[u8]) -> Result<Walk, Skip>
+#[tactic(auto, unfolding(crate::specs::Headers::after_fragment_header))]
+fn after_fragment_header(walk: Walk, packet: &[u8]) -> Result<Walk, Skip>
     requires { walk.place ≤ length packet.now }
-    ensures exact { result ≡ behind_fragment_header walk packet.now }
+    ensures exact { result ≡ after_fragment_header walk packet.now }
     ensures onward { IfOk result (λ next. walk.place ≤ next.place) }
     ensures within { IfOk result (λ next. next.place ≤ length packet.now) }
 {
@@ -112,17 +112,17 @@ fn behind_fragment_header(walk: Walk, packet: &[u8]) -> Result<Walk, Skip>
 }
 
 /// The walk after the extension header at the place.
-#[tactic(auto, unfolding(crate::specs::Headers::behind_header))]
-fn behind_header(walk: Walk, packet: &[u8]) -> Result<Walk, Skip>
+#[tactic(auto, unfolding(crate::specs::Headers::after_header))]
+fn after_header(walk: Walk, packet: &[u8]) -> Result<Walk, Skip>
     requires { walk.place ≤ length packet.now }
-    ensures exact { result ≡ behind_header walk packet.now }
+    ensures exact { result ≡ after_header walk packet.now }
     ensures onward { IfOk result (λ next. walk.place ≤ next.place) }
     ensures within { IfOk result (λ next. next.place ≤ length packet.now) }
 {
     if walk.head.protocol == FRAGMENT {
-        behind_fragment_header(walk, packet)
+        after_fragment_header(walk, packet)
     } else {
-        behind_length_field(walk, packet)
+        after_length_field(walk, packet)
     }
 }
 
@@ -140,7 +140,7 @@ pub fn walk_end(start: Walk, packet: &[u8]) -> Result<Walk, Skip>
         if left == 0 {
             return Err(Skip::Malformed);
         }
-        walk = behind_header(walk, packet)?;
+        walk = after_header(walk, packet)?;
         left -= 1;
     }
     Ok(walk)

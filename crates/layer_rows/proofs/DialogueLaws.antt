@@ -13,8 +13,8 @@ use Rattle.layer_rows.specs.Dialogue.{IsDialogue, IsFewTurns, IsTurnHead, IsTurn
 use Rattle.flow_lanes.specs.Flows.{flow_of_work, same_number}
 use Rattle.flow_lanes.specs.Sessions.{Packet}
 use Rattle.flow_lanes.specs.declared.facts.FlowFacts.{FlowFacts}
-use Rattle.flow_lanes.specs.Sound.{IsSoundFor, ends_of, facts_behind, facts_behind_work}
-use Rattle.flow_lanes.specs.Standing.{LaneState, LearnsJob, facts_kept, kept_of, known_of}
+use Rattle.flow_lanes.specs.Sound.{IsSoundFor, ends_of, facts_after_one, facts_after_work}
+use Rattle.flow_lanes.specs.LanesAfter.{LaneState, LearnsJob, facts_kept, kept_of, known_of}
 
 ends_same : (preference : Preference) (done : ℕ) (known : Option FlowFacts) (p : Packet) → ends_of p ≡ dialogue_ends preference → IfSome known (IsFewTurns preference done) → IfSome known (λ f. f.ends ≡ ends_of p)
 ends_same preference done None p ends few = tt
@@ -52,7 +52,7 @@ dialogue-sound preference lane done job engines turn so_far below =
     subst (λ (known : Option FlowFacts). IsSoundFor engines known job) (sym (known_of_turn preference lane job.number job.moment job.work turn))
     (sound_turn preference lane done job.number job.moment job.work engines turn so_far below)
 
-more_turns : (preference : Preference) (done : ℕ) (known : Option FlowFacts) (moment : Moment) (w : Work) → IsTurnWork preference moment w → IfSome known (IsFewTurns preference done) → IfSome (facts_behind_work known moment w) (IsFewTurns preference (done + 1))
+more_turns : (preference : Preference) (done : ℕ) (known : Option FlowFacts) (moment : Moment) (w : Work) → IsTurnWork preference moment w → IfSome known (IsFewTurns preference done) → IfSome (facts_after_work known moment w) (IsFewTurns preference (done + 1))
 more_turns preference done known moment (work.Alone head payload) turn few = absurd turn
 more_turns preference done known moment (work.Packet flow head payload to_dst to_src) turn few = record { ends = turn.ends; packets = counted known few }
   where
@@ -69,10 +69,10 @@ same_turn preference number moment (work.Finish flow) turn = grind (arith, nat_t
 pub dialogue-more : (preference : Preference) (old new : LaneState) (done : ℕ) (job : Job) → IsTurnJob preference job → IsDialogue preference old done → LearnsJob old job new → IsDialogue preference new (done + 1)
 dialogue-more preference old new done job turn so_far learns =
     let at = known_of_turn preference in
-    let is : facts_kept (kept_of new 0) ≡ facts_behind_work (facts_kept (kept_of old 0)) job.moment job.work =
+    let is : facts_kept (kept_of new 0) ≡ facts_after_work (facts_kept (kept_of old 0)) job.moment job.work =
     sym (at new job.number job.moment job.work turn) ∙ learns job
-    ∙ ap (λ (b : Bool). fold facts_behind (known_of old job) (cond b (job ∷ []) [])) (same_turn preference job.number job.moment job.work turn)
-    ∙ ap (λ (known : Option FlowFacts). facts_behind_work known job.moment job.work) (at old job.number job.moment job.work turn) in
+    ∙ ap (λ (b : Bool). fold facts_after_one (known_of old job) (cond b (job ∷ []) [])) (same_turn preference job.number job.moment job.work turn)
+    ∙ ap (λ (known : Option FlowFacts). facts_after_work known job.moment job.work) (at old job.number job.moment job.work turn) in
     subst (λ (known : Option FlowFacts). IfSome known (IsFewTurns preference (done + 1))) (sym is) (more_turns preference done (facts_kept (kept_of old 0)) job.moment job.work turn so_far)
 
 -- the heads of both sides

@@ -17,7 +17,7 @@ use Rattle.flow_lanes.specs.Sessions.{Packet}
 use Rattle.flow_lanes.specs.declared.facts.FlowEnds.{FlowEnds}
 use Rattle.flow_lanes.specs.declared.facts.FlowFacts.{FlowFacts}
 use Rattle.flow_lanes.specs.Sound.{HasSessions, ends_of}
-use Rattle.flow_lanes.specs.Standing.{LaneState, facts_kept, kept_of}
+use Rattle.flow_lanes.specs.LanesAfter.{LaneState, facts_kept, kept_of}
 
 -- the head of a packet of TCP from one end to another
 abbrev pub tcp_head : ℕ → ℕ → ℕ → ℕ → ℕ → ℕ → ℕ → ItemHead

@@ -4,7 +4,7 @@
 
 ghost use Rattle.std.specs.Prelude.{◌≡◌, ◌+◌, ◌<◌, ◌≤◌, ◌^◌, All, IfSome, length};
 ghost use Rattle.conf_types.specs.Sound.{IsStreamConfig};
-ghost use Rattle.fast_pattern.specs.Grouping.{StandFor};
+ghost use Rattle.fast_pattern.specs.Grouping.{AreFor};
 ghost use Rattle.rule_types.specs.Sound.{IsTriable};
 ghost use Rattle.flow_lanes.specs.Course.{AreFrom, IsCourse, IsPlain};
 
@@ -129,7 +129,7 @@ fn run_batch<R: Threads + Sync>(
     requires begun { progress.jobs < 1000 }
     requires engines { length course.stream.now.engines ≡ 0 }
     requires config { IsStreamConfig course.stream.now }
-    requires groups { StandFor course.groups.now course.set.now.rules }
+    requires groups { AreFor course.groups.now course.set.now.rules }
     requires triable { All IsTriable course.set.now.rules }
     ensures { IfSome result (λ progress. IsCourse lanes.new progress.jobs) }
 {
@@ -168,7 +168,7 @@ fn run_words<R: Threads + Sync>(
     requires course { IsCourse lanes.old progress.jobs }
     requires engines { length course.stream.now.engines ≡ 0 }
     requires config { IsStreamConfig course.stream.now }
-    requires groups { StandFor course.groups.now course.set.now.rules }
+    requires groups { AreFor course.groups.now course.set.now.rules }
     requires triable { All IsTriable course.set.now.rules }
     ensures { IfSome result (λ progress. IsCourse lanes.new progress.jobs) }
 {
@@ -190,15 +190,15 @@ fn run_batches<R: Threads + Sync>(
     requires course { IsCourse lanes.old 0 }
     requires engines { length course.stream.now.engines ≡ 0 }
     requires config { IsStreamConfig course.stream.now }
-    requires groups { StandFor course.groups.now course.set.now.rules }
+    requires groups { AreFor course.groups.now course.set.now.rules }
     requires triable { All IsTriable course.set.now.rules }
 {
     let mut progress = Progress { jobs: 0, tries: 0 };
     for words in batches.split('|') {
-        let Some(behind) = run_words(rt, page, lanes, progress, words, course) else {
+        let Some(after) = run_words(rt, page, lanes, progress, words, course) else {
             return page.put("broken off");
         };
-        progress = behind;
+        progress = after;
     }
     page.show(format_args!("tries {}", progress.tries));
 }
@@ -216,7 +216,7 @@ fn run_in_lanes<R: Threads + Sync>(
     requires few { count ≤ 64 }
     requires engines { length course.stream.now.engines ≡ 0 }
     requires config { IsStreamConfig course.stream.now }
-    requires groups { StandFor course.groups.now course.set.now.rules }
+    requires groups { AreFor course.groups.now course.set.now.rules }
     requires triable { All IsTriable course.set.now.rules }
 {
     match Lanes::new(page.alloc, count, 4, false) {
@@ -236,7 +236,7 @@ fn run_grouped<R: Threads + Sync>(
 )
     requires some { 1 ≤ count }
     requires few { count ≤ 64 }
-    requires groups { StandFor groups.now set.now.rules }
+    requires groups { AreFor groups.now set.now.rules }
     requires triable { All IsTriable set.now.rules }
 {
     let stream = stream_of(page.alloc, false);

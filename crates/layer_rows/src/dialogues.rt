@@ -2,7 +2,7 @@
 
 ghost use Rattle.std.specs.Prelude.{◌≡◌, ◌+◌, ◌<◌, ◌≤◌, ◌^◌, All, IfSome, IsTrue, length};
 ghost use Rattle.conf_types.specs.Sound.{IsStreamConfig};
-ghost use Rattle.fast_pattern.specs.Grouping.{StandFor};
+ghost use Rattle.fast_pattern.specs.Grouping.{AreFor};
 ghost use Rattle.rule_types.specs.Sound.{IsTriable};
 ghost use Rattle.layer_rows.specs.Dialogue.{IsDialogue, IsTurnHead, IsTurnJob, tcp_head};
 
@@ -163,7 +163,7 @@ fn run_job(
     requires turn { IsTurnJob manner.preference job.now }
     requires room { done < 2 ^ 32 }
     requires config { IsStreamConfig course.stream.now }
-    requires groups { StandFor course.groups.now course.set.now.rules }
+    requires groups { AreFor course.groups.now course.set.now.rules }
     requires triable { All IsTriable course.set.now.rules }
     ensures { IsTrue result → IsDialogue manner.preference lane.new (done + 1) }
 {
@@ -188,7 +188,7 @@ fn run_step(
     requires dialogue { IsDialogue manner.preference lane.old done }
     requires room { done < 2 ^ 32 }
     requires config { IsStreamConfig course.stream.now }
-    requires groups { StandFor course.groups.now course.set.now.rules }
+    requires groups { AreFor course.groups.now course.set.now.rules }
     requires triable { All IsTriable course.set.now.rules }
     ensures { IsTrue result → IsDialogue manner.preference lane.new (done + 1) }
 {
@@ -202,7 +202,7 @@ fn run_step(
 fn run_steps(page: &mut Page, lane: &mut Lane, manner: Manner, steps: &str, course: Course<'_>)
     requires dialogue { IsDialogue manner.preference lane.old 0 }
     requires config { IsStreamConfig course.stream.now }
-    requires groups { StandFor course.groups.now course.set.now.rules }
+    requires groups { AreFor course.groups.now course.set.now.rules }
     requires triable { All IsTriable course.set.now.rules }
 {
     let mut done = 0u64;
@@ -219,7 +219,7 @@ fn run_in_lane(page: &mut Page, manner: Manner, steps: &str, course: Course<'_>)
     requires flush { 1 ≤ manner.flush }
     requires flush_most { manner.flush ≤ 65536 }
     requires config { IsStreamConfig course.stream.now }
-    requires groups { StandFor course.groups.now course.set.now.rules }
+    requires groups { AreFor course.groups.now course.set.now.rules }
     requires triable { All IsTriable course.set.now.rules }
 {
     let mut lane = Lane::new(page.alloc, manner.flush, manner.inserts);
@@ -236,7 +236,7 @@ fn run_grouped(
 )
     requires flush { 1 ≤ manner.flush }
     requires flush_most { manner.flush ≤ 65536 }
-    requires groups { StandFor groups.now set.now.rules }
+    requires groups { AreFor groups.now set.now.rules }
     requires triable { All IsTriable set.now.rules }
 {
     let stream = stream_of(page.alloc, true);

@@ -111,9 +111,9 @@ impl Page {
     }
 
     /// A text after another.
-    pub fn joined(&mut self, front: &str, behind: &str) -> String {
+    pub fn joined(&mut self, front: &str, after: &str) -> String {
         let mut text = self.copied(front);
-        self.note(text.push_str(behind));
+        self.note(text.push_str(after));
         text
     }
 
@@ -133,8 +133,8 @@ impl Page {
     }
 
     /// The line of a rule with this header, and with these options in front of others.
-    pub fn rule_line(&mut self, header: &str, options: &str, behind: &str) -> String {
-        self.made(format!(in self.alloc; "alert {header} ({options}{behind})"))
+    pub fn rule_line(&mut self, header: &str, options: &str, after: &str) -> String {
+        self.made(format!(in self.alloc; "alert {header} ({options}{after})"))
     }
 
     /// The words of a line, between single blanks.

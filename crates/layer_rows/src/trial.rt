@@ -86,12 +86,12 @@ fn try_line<R: Print + Threads + Sync>(
     only: &str,
     count: &mut Count,
 ) -> io::Result<()> {
-    let stands = RowLine::read(line);
-    if apply(page, row, stands) {
+    let line_read = RowLine::read(line);
+    if apply(page, row, line_read) {
         return Ok(());
     }
     if row.label.contains(only) || line.contains(only) {
-        try_calls(rt, page, row, stands, count)?;
+        try_calls(rt, page, row, line_read, count)?;
     }
     row.close_call();
     Ok(())

@@ -3,10 +3,10 @@
 //! each of the built test in turn.
 ghost use Rattle.std.specs.Prelude.{◌≡◌, ◌≤◌, length, All, IfSome};
 ghost use Rattle.conf_types.specs.Sound.{IsStreamConfig};
-ghost use Rattle.fast_pattern.specs.Grouping.{StandFor};
+ghost use Rattle.fast_pattern.specs.Grouping.{AreFor};
 ghost use Rattle.rule_types.specs.Sound.{IsTriable};
 ghost use Rattle.flow_lanes.specs.Course.{AreFrom, IsCourse, IsPlain};
-ghost use Rattle.flow_lanes.specs.Standing.{HasFailed};
+ghost use Rattle.flow_lanes.specs.LanesAfter.{HasFailed};
 
 use conf_types::StreamConfig;
 use edge_io::{Addr, Items, Literal, Moment, OpenGate, Preference, Text};
@@ -96,7 +96,7 @@ fn first_fault<R: Threads + Sync>(
     requires few { length jobs.now ≤ 1000 }
     requires engines { length course.stream.now.engines ≡ 0 }
     requires config { IsStreamConfig course.stream.now }
-    requires groups { StandFor course.groups.now course.set.now.rules }
+    requires groups { AreFor course.groups.now course.set.now.rules }
     requires triable { All IsTriable course.set.now.rules }
     ensures { IfSome result (λ fault. HasFailed lanes.new) }
 {
@@ -124,7 +124,7 @@ fn next_fault<R: Threads + Sync>(
 ) -> Option<BatchFault>
     requires failed { HasFailed lanes.old }
     requires config { IsStreamConfig course.stream.now }
-    requires groups { StandFor course.groups.now course.set.now.rules }
+    requires groups { AreFor course.groups.now course.set.now.rules }
     requires triable { All IsTriable course.set.now.rules }
     ensures { HasFailed lanes.new }
 {
@@ -151,7 +151,7 @@ fn refuse_any<R: Abort + Threads + Sync>(
 )
     requires failed { HasFailed lanes.old }
     requires config { IsStreamConfig course.stream.now }
-    requires groups { StandFor course.groups.now course.set.now.rules }
+    requires groups { AreFor course.groups.now course.set.now.rules }
     requires triable { All IsTriable course.set.now.rules }
     ensures { HasFailed lanes.new }
 {
@@ -174,7 +174,7 @@ fn compare_lanes<R: Abort + Threads + Sync>(
     requires few { count ≤ 64 }
     requires engines { length course.stream.now.engines ≡ 0 }
     requires config { IsStreamConfig course.stream.now }
-    requires groups { StandFor course.groups.now course.set.now.rules }
+    requires groups { AreFor course.groups.now course.set.now.rules }
     requires triable { All IsTriable course.set.now.rules }
 {
     let mut lanes = Lanes::new(alloc, count, 4, false)?;

@@ -174,7 +174,7 @@ pub(crate) fn push_runs(text: &mut String, runs: &[Run]) -> Result<(), NoMemory>
 }
 
 /// Takes the runs below a place, and compares what is kept after them of the first six places.
-fn check_behind(
+fn check_after(
     rt: &impl Abort,
     alloc: Global,
     queue: &mut Queue,
@@ -200,8 +200,8 @@ fn check_taken(
         start: 9,
         bytes: Text::copy(alloc, b"z")?,
     })?;
-    check_behind(rt, alloc, queue, 3, runs, "...d.e")?;
-    check_behind(rt, alloc, queue, 9, runs, "......")?;
+    check_after(rt, alloc, queue, 3, runs, "...d.e")?;
+    check_after(rt, alloc, queue, 9, runs, "......")?;
     assert!(rt; queue.floor() == 9 && queue.covered_end() == 9);
     push_runs(text, runs.as_slice())?;
     assert!(rt; text.as_str() == "9z 1bc 3d 5e ");

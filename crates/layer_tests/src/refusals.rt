@@ -194,7 +194,7 @@ fn fate_of(direction: &mut Direction, seq: u32) -> Option<Added>
 
 /// What can be seen of a direction that stays as it is: whether it is started with this base, since the byte before
 /// it is old and the first one after the window is past it.
-fn stands_at(direction: &mut Direction, base: u32) -> bool
+fn belongs_at(direction: &mut Direction, base: u32) -> bool
     requires { passed direction.old ≤ 2 ^ 62 }
     ensures { passed direction.new ≤ passed direction.old }
 {
@@ -207,7 +207,7 @@ fn is_full_at(direction: &mut Direction, base: u32) -> bool
     requires { passed direction.old ≤ 2 ^ 62 }
     ensures { passed direction.new ≤ passed direction.old }
 {
-    stands_at(direction, base) && fate_of(direction, base) == Some(Added::TooManySegs)
+    belongs_at(direction, base) && fate_of(direction, base) == Some(Added::TooManySegs)
 }
 
 /// A segment is added, where the base is 0: the answer is that of the call that had memory.
@@ -220,7 +220,7 @@ fn add(rt: &impl Abort, direction: &mut Direction, start: u16, bytes: &str) -> R
     let added = again!(
         rt,
         direction.add(seq, bytes),
-        stands_at(direction, 0) && direction.started()
+        belongs_at(direction, 0) && direction.started()
     );
     assert!(rt; added == Added::Queued);
     Ok(())
@@ -274,7 +274,7 @@ fn flush_rest(
     again!(
         rt,
         direction.flush_all(alloc, runs),
-        stands_at(direction, 12) && is_first(runs.as_slice(), left)
+        belongs_at(direction, 12) && is_first(runs.as_slice(), left)
     );
     Ok(())
 }

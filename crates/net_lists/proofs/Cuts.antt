@@ -4,7 +4,7 @@ use Rattle.std.specs.List.{onto_first, prefix_len}
 use Rattle.std.proofs.lemmas.Bool.{false≢true, cases_lt}
 use Rattle.std.proofs.lemmas.List.{at_drop_more, take_all, drop_all}
 use Rattle.edge_io.specs.Bytes.{trimmed, is_blank, without_front_blanks}
-use Rattle.net_lists.specs.Cutting.{front_len, depth_behind, pieces_between, words_between, words, is_filled, is_comma, comma_parts, first_word, behind_word}
+use Rattle.net_lists.specs.Cutting.{front_len, depth_after, pieces_between, words_between, words, is_filled, is_comma, comma_parts, first_word, after_word}
 
 one_more : (n : ℕ) → 1 + n ≡ suc n
 one_more n = omega arith
@@ -19,7 +19,7 @@ module _ (cuts : ℕ → Bool) where
   unfolding front_len
   front_len-cut depth byte rest e = rw e refl
 
-  front_len-on : (depth byte : ℕ) (rest : List ℕ) → (depth == 0 && cuts byte) ≡ false → front_len cuts depth (byte ∷ rest) ≡ suc (front_len cuts (depth_behind depth byte) rest)
+  front_len-on : (depth byte : ℕ) (rest : List ℕ) → (depth == 0 && cuts byte) ≡ false → front_len cuts depth (byte ∷ rest) ≡ suc (front_len cuts (depth_after depth byte) rest)
   unfolding front_len
   front_len-on depth byte rest e = rw e (one_more _)
 
@@ -27,7 +27,7 @@ module _ (cuts : ℕ → Bool) where
   unfolding pieces_between
   pieces-cut depth byte rest e = rw e refl
 
-  pieces-on : (depth byte : ℕ) (rest : List ℕ) → (depth == 0 && cuts byte) ≡ false → pieces_between cuts depth (byte ∷ rest) ≡ onto_first byte (pieces_between cuts (depth_behind depth byte) rest)
+  pieces-on : (depth byte : ℕ) (rest : List ℕ) → (depth == 0 && cuts byte) ≡ false → pieces_between cuts depth (byte ∷ rest) ≡ onto_first byte (pieces_between cuts (depth_after depth byte) rest)
   unfolding pieces_between
   pieces-on depth byte rest e = rw e refl
 
@@ -35,9 +35,9 @@ module _ (cuts : ℕ → Bool) where
   pub front_len-le : (depth : ℕ) (text : List ℕ) → front_len cuts depth text ≤ length text
   unfolding front_len
   front_len-le depth [] = omega arith
-  front_len-le depth (byte ∷ rest) = go (depth == 0 && cuts byte) (front_len-le (depth_behind depth byte) rest)
+  front_len-le depth (byte ∷ rest) = go (depth == 0 && cuts byte) (front_len-le (depth_after depth byte) rest)
     where
-      go : (b : Bool) → front_len cuts (depth_behind depth byte) rest ≤ length rest → cond b 0 (1 + front_len cuts (depth_behind depth byte) rest) ≤ length (byte ∷ rest)
+      go : (b : Bool) → front_len cuts (depth_after depth byte) rest ≤ length rest → cond b 0 (1 + front_len cuts (depth_after depth byte) rest) ≤ length (byte ∷ rest)
       go true h = omega arith
       go false h = omega arith
 
@@ -45,28 +45,28 @@ module _ (cuts : ℕ → Bool) where
   pub pieces-only : (depth : ℕ) (text : List ℕ) → length text ≤ front_len cuts depth text → pieces_between cuts depth text ≡ text ∷ []
   unfolding pieces_between
   pieces-only depth [] h = refl
-  pieces-only depth (byte ∷ rest) h = go (depth == 0 && cuts byte) refl (pieces-only (depth_behind depth byte) rest)
+  pieces-only depth (byte ∷ rest) h = go (depth == 0 && cuts byte) refl (pieces-only (depth_after depth byte) rest)
     where
-      go : (b : Bool) → (depth == 0 && cuts byte) ≡ b → (length rest ≤ front_len cuts (depth_behind depth byte) rest → pieces_between cuts (depth_behind depth byte) rest ≡ rest ∷ []) → pieces_between cuts depth (byte ∷ rest) ≡ (byte ∷ rest) ∷ []
+      go : (b : Bool) → (depth == 0 && cuts byte) ≡ b → (length rest ≤ front_len cuts (depth_after depth byte) rest → pieces_between cuts (depth_after depth byte) rest ≡ rest ∷ []) → pieces_between cuts depth (byte ∷ rest) ≡ (byte ∷ rest) ∷ []
       go true e more = absurd (omega (arith, front_len-cut depth byte rest e))
       go false e more = pieces-on depth byte rest e ∙ ap (onto_first byte) (more (omega (arith, front_len-on depth byte rest e)))
 
   -- a text with a byte that cuts has its front as its first piece
   pub pieces-first : (depth : ℕ) (text : List ℕ) → front_len cuts depth text < length text → pieces_between cuts depth text ≡ take (front_len cuts depth text) text ∷ pieces_between cuts 0 (drop (suc (front_len cuts depth text)) text)
   pieces-first depth [] h = absurd (omega arith)
-  pieces-first depth (byte ∷ rest) h = go (depth == 0 && cuts byte) refl (pieces-first (depth_behind depth byte) rest)
+  pieces-first depth (byte ∷ rest) h = go (depth == 0 && cuts byte) refl (pieces-first (depth_after depth byte) rest)
     where
       parts : ℕ → List (List ℕ)
       parts n = take n (byte ∷ rest) ∷ pieces_between cuts 0 (drop (suc n) (byte ∷ rest))
 
-      go : (b : Bool) → (depth == 0 && cuts byte) ≡ b → (front_len cuts (depth_behind depth byte) rest < length rest → pieces_between cuts (depth_behind depth byte) rest ≡ take (front_len cuts (depth_behind depth byte) rest) rest ∷ pieces_between cuts 0 (drop (suc (front_len cuts (depth_behind depth byte) rest)) rest)) → pieces_between cuts depth (byte ∷ rest) ≡ parts (front_len cuts depth (byte ∷ rest))
+      go : (b : Bool) → (depth == 0 && cuts byte) ≡ b → (front_len cuts (depth_after depth byte) rest < length rest → pieces_between cuts (depth_after depth byte) rest ≡ take (front_len cuts (depth_after depth byte) rest) rest ∷ pieces_between cuts 0 (drop (suc (front_len cuts (depth_after depth byte) rest)) rest)) → pieces_between cuts depth (byte ∷ rest) ≡ parts (front_len cuts depth (byte ∷ rest))
       go true e more = pieces-cut depth byte rest e ∙ ap parts (sym (front_len-cut depth byte rest e))
       go false e more = pieces-on depth byte rest e ∙ ap (onto_first byte) (more (omega (arith, front_len-on depth byte rest e))) ∙ ap parts (sym (front_len-on depth byte rest e))
 
   -- the front ends at a byte that cuts
-  pieces-behind : (depth : ℕ) (text : List ℕ) → front_len cuts depth text < length text → pieces_between cuts 0 (drop (front_len cuts depth text) text) ≡ [] ∷ pieces_between cuts 0 (drop (suc (front_len cuts depth text)) text)
-  pieces-behind depth [] h = absurd (omega arith)
-  pieces-behind depth (byte ∷ rest) h = go (depth == 0 && cuts byte) refl (pieces-behind (depth_behind depth byte) rest)
+  pieces-after : (depth : ℕ) (text : List ℕ) → front_len cuts depth text < length text → pieces_between cuts 0 (drop (front_len cuts depth text) text) ≡ [] ∷ pieces_between cuts 0 (drop (suc (front_len cuts depth text)) text)
+  pieces-after depth [] h = absurd (omega arith)
+  pieces-after depth (byte ∷ rest) h = go (depth == 0 && cuts byte) refl (pieces-after (depth_after depth byte) rest)
     where
       At : ℕ → Type 0
       At n = pieces_between cuts 0 (drop n (byte ∷ rest)) ≡ [] ∷ pieces_between cuts 0 (drop (suc n) (byte ∷ rest))
@@ -75,7 +75,7 @@ module _ (cuts : ℕ → Bool) where
       outer d true e h = h
       outer d false e h = absurd (false≢true h)
 
-      go : (b : Bool) → (depth == 0 && cuts byte) ≡ b → (front_len cuts (depth_behind depth byte) rest < length rest → pieces_between cuts 0 (drop (front_len cuts (depth_behind depth byte) rest) rest) ≡ [] ∷ pieces_between cuts 0 (drop (suc (front_len cuts (depth_behind depth byte) rest)) rest)) → At (front_len cuts depth (byte ∷ rest))
+      go : (b : Bool) → (depth == 0 && cuts byte) ≡ b → (front_len cuts (depth_after depth byte) rest < length rest → pieces_between cuts 0 (drop (front_len cuts (depth_after depth byte) rest) rest) ≡ [] ∷ pieces_between cuts 0 (drop (suc (front_len cuts (depth_after depth byte) rest)) rest)) → At (front_len cuts depth (byte ∷ rest))
       go true e more = subst At (sym (front_len-cut depth byte rest e)) (pieces-cut 0 byte rest (outer depth (depth == 0) refl e))
       go false e more = subst At (sym (front_len-on depth byte rest e)) (more (omega (arith, front_len-on depth byte rest e)))
 
@@ -100,7 +100,7 @@ module _ (cuts : ℕ → Bool) where
   -- a text that begins with another byte begins with a word
   pub words-first : (byte : ℕ) (rest : List ℕ) → cuts byte ≡ false → words_between cuts (byte ∷ rest) ≡ take (front_len cuts 0 (byte ∷ rest)) (byte ∷ rest) ∷ words_between cuts (drop (front_len cuts 0 (byte ∷ rest)) (byte ∷ rest))
   unfolding words_between
-  words-first byte rest e = go (front_len cuts 0 (byte ∷ rest)) (front_len-some byte rest e) (front_len-le 0 (byte ∷ rest)) (pieces-only 0 (byte ∷ rest)) (pieces-first 0 (byte ∷ rest)) (pieces-behind 0 (byte ∷ rest))
+  words-first byte rest e = go (front_len cuts 0 (byte ∷ rest)) (front_len-some byte rest e) (front_len-le 0 (byte ∷ rest)) (pieces-only 0 (byte ∷ rest)) (pieces-first 0 (byte ∷ rest)) (pieces-after 0 (byte ∷ rest))
     where
       text : List ℕ
       text = byte ∷ rest
@@ -110,8 +110,8 @@ module _ (cuts : ℕ → Bool) where
       filled (suc n) some = refl
 
       go : (n : ℕ) → 0 < n → n ≤ length text → (length text ≤ n → pieces_between cuts 0 text ≡ text ∷ []) → (n < length text → pieces_between cuts 0 text ≡ take n text ∷ pieces_between cuts 0 (drop (suc n) text)) → (n < length text → pieces_between cuts 0 (drop n text) ≡ [] ∷ pieces_between cuts 0 (drop (suc n) text)) → filter is_filled (pieces_between cuts 0 text) ≡ take n text ∷ filter is_filled (pieces_between cuts 0 (drop n text))
-      go n some within only first behind = ⊎_elim
-          (λ h. ap (filter is_filled) (first h) ∙ ap (λ b. cond b (take n text ∷ filter is_filled (pieces_between cuts 0 (drop (suc n) text))) (filter is_filled (pieces_between cuts 0 (drop (suc n) text)))) (filled n some) ∙ ap (λ ps. take n text ∷ filter is_filled ps) (sym (behind h)))
+      go n some within only first after = ⊎_elim
+          (λ h. ap (filter is_filled) (first h) ∙ ap (λ b. cond b (take n text ∷ filter is_filled (pieces_between cuts 0 (drop (suc n) text))) (filter is_filled (pieces_between cuts 0 (drop (suc n) text)))) (filled n some) ∙ ap (λ ps. take n text ∷ filter is_filled ps) (sym (after h)))
           (λ h. ap (filter is_filled) (only h) ∙ ap (λ xs. xs ∷ []) (sym (take_all n text h)) ∙ ap (λ ps. take n text ∷ filter is_filled ps) (sym (ap (pieces_between cuts 0) (drop_all n text h) ∙ pieces_nil cuts)))
           (cases_lt n (length text))
 
@@ -151,8 +151,8 @@ filled_front (suc n) [] m h = absurd (omega arith)
 filled_front (suc n) (byte ∷ rest) m h = refl
 
 -- the words of a text, by its first word and what comes after that
-pub words-first_word : (text : List ℕ) → words text ≡ cond (is_filled (first_word text)) (first_word text ∷ words (behind_word text)) []
-unfolding first_word behind_word front_len
+pub words-first_word : (text : List ℕ) → words text ≡ cond (is_filled (first_word text)) (first_word text ∷ words (after_word text)) []
+unfolding first_word after_word front_len
 words-first_word text = go (without_front_blanks text) refl
   where
     go : (left : List ℕ) → left ≡ without_front_blanks text → words text ≡ cond (is_filled (take (front_len is_blank 0 left) left)) (take (front_len is_blank 0 left) left ∷ words (without_front_blanks (drop (front_len is_blank 0 left) left))) []
@@ -166,9 +166,9 @@ length-without_front_blanks : (text : List ℕ) → length (without_front_blanks
 length-without_front_blanks text = omega (arith, length-drop (prefix_len is_blank text) text)
 
 -- a text is longer than what comes after its first word
-pub behind_word-shorter : (text : List ℕ) → 0 < length text → length (behind_word text) < length text
-unfolding behind_word front_len
-behind_word-shorter text some = go (without_front_blanks text) refl
+pub after_word-shorter : (text : List ℕ) → 0 < length text → length (after_word text) < length text
+unfolding after_word front_len
+after_word-shorter text some = go (without_front_blanks text) refl
   where
     go : (left : List ℕ) → left ≡ without_front_blanks text → length (without_front_blanks (drop (front_len is_blank 0 left) left)) < length text
     go [] e = some
@@ -185,7 +185,7 @@ unfolding comma_parts
 comma_parts-first text h = ap (map trimmed) (pieces-first is_comma 0 text h)
 
 -- a loop's step over the bytes of the front
-pub front_len-step : (cuts : ℕ → Bool) (depth : ℕ) (text : List ℕ) (i : ℕ) → i < length text → (depth == 0 && cuts (get_or text i 0)) ≡ false → front_len cuts depth (drop i text) ≡ suc (front_len cuts (depth_behind depth (get_or text i 0)) (drop (i + 1) text))
+pub front_len-step : (cuts : ℕ → Bool) (depth : ℕ) (text : List ℕ) (i : ℕ) → i < length text → (depth == 0 && cuts (get_or text i 0)) ≡ false → front_len cuts depth (drop i text) ≡ suc (front_len cuts (depth_after depth (get_or text i 0)) (drop (i + 1) text))
 front_len-step cuts depth text i h e = at_drop_more (front_len cuts depth) text i 0 h ∙ front_len-on cuts depth (get_or text i 0) (drop (i + 1) text) e
 
 pub front_len-stop : (cuts : ℕ → Bool) (depth : ℕ) (text : List ℕ) (i : ℕ) → i < length text → (depth == 0 && cuts (get_or text i 0)) ≡ true → front_len cuts depth (drop i text) ≡ 0

@@ -30,7 +30,7 @@ lines_cut text end found =
     ap lines_of_parts (slice_split_first (is_byte 10) text 0 inside)
     ∙ parts_more (before_first (is_byte 10) text) (slice_split (is_byte 10) (after_first (is_byte 10) text)) parts
     ∙ ap (λ (n : ℕ). strip_carriage_return (take n text) ∷ lines (drop (n + 1) text)) place
-    ∙ ap (λ (behind : List ℕ). strip_carriage_return (take end text) ∷ lines behind) (sym rest)
+    ∙ ap (λ (after : List ℕ). strip_carriage_return (take end text) ∷ lines after) (sym rest)
 
 -- one part alone is a line, if it is not empty
 one_part : (part : List ℕ) → 0 < length part → lines_of_parts (part ∷ []) ≡ part ∷ []
@@ -43,7 +43,7 @@ lines_last text nonempty found =
     let rest : take (length text - length text) (drop (length text) text) ≡ [] = grind (arith, common_steps) in
     ap lines_of_parts (slice_split_none (is_byte 10) text (λ k d within. let same : get_or text k d ≡ get_or text k 0 = grind (arith, common_steps) in rw same (not_true _ (found k (omega arith) within))))
     ∙ one_part text nonempty
-    ∙ ap (λ (behind : List ℕ). text ∷ lines behind) (sym rest)
+    ∙ ap (λ (after : List ℕ). text ∷ lines after) (sym rest)
 
 -- a line feed
 abbrev is_feed : ℕ → Bool

@@ -19,15 +19,15 @@ abbrev pub is_blank_or_comma : ℕ → Bool
 is_blank_or_comma byte = is_blank byte || is_comma byte
 
 -- how many brackets are open after a byte, which may be `[` (91) or `]` (93)
-abbrev pub depth_behind : ℕ → ℕ → ℕ
-depth_behind depth byte = if byte == 91 then depth + 1 else if byte == 93 then depth - 1 else depth
+abbrev pub depth_after : ℕ → ℕ → ℕ
+depth_after depth byte = if byte == 91 then depth + 1 else if byte == 93 then depth - 1 else depth
 
 -- what is between the bytes that cut, where `depth` brackets are open in front
 unfoldable pub pieces_between : (ℕ → Bool) → ℕ → List ℕ → List (List ℕ)
 pieces_between cuts depth [] = [] ∷ []
 pieces_between cuts depth (byte ∷ rest) =
     if depth == 0 && cuts byte then [] ∷ pieces_between cuts 0 rest
-    else onto_first byte (pieces_between cuts (depth_behind depth byte) rest)
+    else onto_first byte (pieces_between cuts (depth_after depth byte) rest)
 
 -- a text that is not empty
 abbrev pub is_filled : List ℕ → Bool
@@ -53,12 +53,12 @@ comma_parts text = map trimmed (pieces_between is_comma 0 text)
 -- how many bytes come before the first that cuts
 unfoldable pub front_len : (ℕ → Bool) → ℕ → List ℕ → ℕ
 front_len cuts depth [] = 0
-front_len cuts depth (byte ∷ rest) = if depth == 0 && cuts byte then 0 else 1 + front_len cuts (depth_behind depth byte) rest
+front_len cuts depth (byte ∷ rest) = if depth == 0 && cuts byte then 0 else 1 + front_len cuts (depth_after depth byte) rest
 
 -- the first word of a text, empty where there is none
 unfoldable pub first_word : List ℕ → List ℕ
 first_word text = take (front_len is_blank 0 (without_front_blanks text)) (without_front_blanks text)
 
 -- what comes after the first word and the blanks after that
-unfoldable pub behind_word : List ℕ → List ℕ
-behind_word text = without_front_blanks (drop (front_len is_blank 0 (without_front_blanks text)) (without_front_blanks text))
+unfoldable pub after_word : List ℕ → List ℕ
+after_word text = without_front_blanks (drop (front_len is_blank 0 (without_front_blanks text)) (without_front_blanks text))

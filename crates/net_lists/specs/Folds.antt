@@ -5,6 +5,6 @@ use Rattle.std.specs.Prelude.{Result, Ok, List, [], ◌∷◌}
 use Rattle.edge_io.specs.OnResult.{◌>>=◌}
 
 -- the draft after all parts, or the fault of the first that is refused
-unfoldable pub draft_behind : {D X K : Type 0} → (D → X → Result D K) → D → List X → Result D K
-draft_behind step draft [] = Ok draft
-draft_behind step draft (part ∷ parts) = step draft part >>= λ next. draft_behind step next parts
+unfoldable pub draft_after : {D X K : Type 0} → (D → X → Result D K) → D → List X → Result D K
+draft_after step draft [] = Ok draft
+draft_after step draft (part ∷ parts) = step draft part >>= λ next. draft_after step next parts

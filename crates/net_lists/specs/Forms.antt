@@ -42,11 +42,11 @@ form_to name otherwise shown = record { name = name; end = shown.end + 1; otherw
 -- the form in parentheses with this name, by what comes after the name
 unfoldable pub named_form : List ℕ → Span → Option Form
 named_form text name =
-    let behind = drop name.end text in
-    if starts_with nat_eq behind (codes ")") then Some (record { name = name; end = name.end + 1; otherwise = Refused name })
-    else if starts_with nat_eq behind (codes ":-") then option_map (form_to name (λ shown. Default shown))
+    let after = drop name.end text in
+    if starts_with nat_eq after (codes ")") then Some (record { name = name; end = name.end + 1; otherwise = Refused name })
+    else if starts_with nat_eq after (codes ":-") then option_map (form_to name (λ shown. Default shown))
     (closed text (name.end + 2))
-    else if starts_with nat_eq behind (codes ":?") then option_map (form_to name (λ shown. Refused shown))
+    else if starts_with nat_eq after (codes ":?") then option_map (form_to name (λ shown. Refused shown))
     (closed text (name.end + 2))
     else None
 

@@ -37,8 +37,8 @@ abbrev pub start : Bool → Place
 start negated = at wanted.Item 0 (if negated then 1 else 0)
 
 -- the step after a word: the part that it is, with the place's sign
-unfoldable pub behind_word : {B : Type 0} → (List ℕ → Option B) → Place → List ℕ → Option (Step B)
-behind_word reads place word =
+unfoldable pub after_word : {B : Type 0} → (List ℕ → Option B) → Place → List ℕ → Option (Step B)
+after_word reads place word =
     if wants_operand place
     then option_map (λ bounds. record {
       place = at wanted.Separator place.depth place.negated;
@@ -51,33 +51,33 @@ abbrev pub no_part : {B : Type 0} → Place → Step B
 no_part place = record { place = place; part = None }
 
 -- the step after a `[`
-unfoldable pub behind_open : {B : Type 0} → Place → Option (Step B)
-behind_open place =
+unfoldable pub after_open : {B : Type 0} → Place → Option (Step B)
+after_open place =
     if wants_operand place then Some (no_part (at wanted.Item (place.depth + 1) (if is_negated place then place.negated + 1
     else 0))) else None
 
 -- the step after a `]`
-unfoldable pub behind_close : {B : Type 0} → Place → Option (Step B)
-behind_close place =
+unfoldable pub after_close : {B : Type 0} → Place → Option (Step B)
+after_close place =
     if wants_operand place || place.depth == 0 then None
     else Some (no_part (at wanted.Separator (place.depth - 1) (place.negated - 1)))
 
 -- the step after a `,`
-unfoldable pub behind_comma : {B : Type 0} → Place → Option (Step B)
-behind_comma place = if wants_operand place then None else Some (no_part (at wanted.Item place.depth place.negated))
+unfoldable pub after_comma : {B : Type 0} → Place → Option (Step B)
+after_comma place = if wants_operand place then None else Some (no_part (at wanted.Item place.depth place.negated))
 
 -- the step after a `!`
-unfoldable pub behind_not : {B : Type 0} → Place → Option (Step B)
-behind_not place =
+unfoldable pub after_not : {B : Type 0} → Place → Option (Step B)
+after_not place =
     if wants_item place && place.negated == 0 then Some (no_part (at wanted.Operand place.depth place.negated)) else None
 
 -- the next place after a symbol, with the part that it is, if it may come there
 abbrev pub step_of : {B : Type 0} → (List ℕ → Option B) → Place → Symbol → Option (Step B)
-step_of reads place Open = behind_open place
-step_of reads place Close = behind_close place
-step_of reads place Comma = behind_comma place
-step_of reads place Not = behind_not place
-step_of reads place (Word word) = behind_word reads place word
+step_of reads place Open = after_open place
+step_of reads place Close = after_close place
+step_of reads place Comma = after_comma place
+step_of reads place Not = after_not place
+step_of reads place (Word word) = after_word reads place word
 
 -- the text may end here
 abbrev pub is_end : Place → Bool

@@ -42,9 +42,9 @@ unfoldable pub number_in : ℕ → ℕ → List ℕ → Option ℕ
 number_in least most text = whole_number text >>= kept_in least most
 
 -- what comes after a `-` (45) in front, if there is one
-abbrev pub behind_minus : List ℕ → Option (List ℕ)
-behind_minus [] = None
-behind_minus (first ∷ rest) = if first == 45 then Some rest else None
+abbrev pub after_minus : List ℕ → Option (List ℕ)
+after_minus [] = None
+after_minus (first ∷ rest) = if first == 45 then Some rest else None
 
 -- the number of a text, or of these digits after a `-`, as a negative one
 abbrev pub number_signed : List ℕ → Option (List ℕ) → Option ℤ
@@ -53,7 +53,7 @@ number_signed text (Some digits) = option_map (λ number. neg_ℤ (pos number)) 
 
 -- the number that a text spells, which a `-` in front makes negative
 unfoldable pub signed_number : List ℕ → Option ℤ
-signed_number text = number_signed text (behind_minus text)
+signed_number text = number_signed text (after_minus text)
 
 -- the signed number, if it lies from `least` to `most`
 abbrev pub signed_kept_in : ℤ → ℤ → ℤ → Option ℤ

@@ -99,9 +99,9 @@ fn joined_groups(text: &[u8]) -> Option<Groups>
     let mut groups = Groups { count: 0, value: 0 };
     let mut rest = Some(text);
     while let Some(text) = rest {
-        let (piece, behind) = first_piece(text);
+        let (piece, after) = first_piece(text);
         groups = with_group(groups, group(piece)?)?;
-        rest = behind;
+        rest = after;
     }
     Some(groups)
 }

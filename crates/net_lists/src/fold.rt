@@ -5,7 +5,7 @@
 //! that is refused.
 ghost use Rattle.std.specs.Prelude.{◌≡◌, List, ℕ, Result};
 ghost use Rattle.net_lists.specs.Stops.{Gives};
-ghost use Rattle.net_lists.specs.Folds.{draft_behind};
+ghost use Rattle.net_lists.specs.Folds.{draft_after};
 
 use crate::parts::Parts;
 use crate::stop::Stop;
@@ -32,7 +32,7 @@ impl<'a> Parts<'a> {
     /// The draft after all parts, or the kind of the first fault.
     #[tactic(auto, using(crate::proofs::Drafts::draft_steps))]
     pub fn fold_by<D, K, S: PartStep<D, K>>(self, step: &S, draft: D) -> Result<D, K>
-        ensures { result ≡ draft_behind (S.next_draft step.now) draft self.entry }
+        ensures { result ≡ draft_after (S.next_draft step.now) draft self.entry }
     {
         let mut draft = draft;
         for part in self {
@@ -44,7 +44,7 @@ impl<'a> Parts<'a> {
     /// The draft after all parts, or the kind of the first fault, by a step that may want memory.
     #[tactic(auto, using(crate::proofs::Drafts::draft_steps))]
     pub fn try_fold_by<D, K, S: TryPartStep<D, K>>(self, step: &S, draft: D) -> Result<D, Stop<K>>
-        ensures { Gives result (draft_behind (S.next_draft step.now) draft self.entry) }
+        ensures { Gives result (draft_after (S.next_draft step.now) draft self.entry) }
     {
         let mut draft = draft;
         for part in self {

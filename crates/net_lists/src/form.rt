@@ -32,7 +32,7 @@ pub struct Form {
 pub fn form_at(text: &[u8], place: usize) -> Option<Form>
     requires { place ≤ length text.now }
     ensures form { option_map form_of result ≡ form_at text.now place }
-    ensures behind { IfSome result (λ form. place < form.end) }
+    ensures after { IfSome result (λ form. place < form.end) }
     ensures within { IfSome result (λ form. form.end ≤ length text.now) }
     ensures name { IfSome result (λ form. IsSpan text.now form.name) }
     ensures otherwise { IfSome result (λ form. IsSpan text.now (otherwise_span form.otherwise)) }
@@ -48,7 +48,7 @@ pub fn form_at(text: &[u8], place: usize) -> Option<Form>
 fn bare(text: &[u8], place: usize) -> Option<Form>
     requires { place ≤ length text.now }
     ensures form { option_map form_of result ≡ bare text.now place }
-    ensures behind { IfSome result (λ form. place < form.end) }
+    ensures after { IfSome result (λ form. place < form.end) }
     ensures within { IfSome result (λ form. form.end ≤ length text.now) }
     ensures name { IfSome result (λ form. IsSpan text.now form.name) }
     ensures otherwise { IfSome result (λ form. IsSpan text.now (otherwise_span form.otherwise)) }
@@ -73,7 +73,7 @@ fn bare(text: &[u8], place: usize) -> Option<Form>
 fn parenthesized(text: &[u8], place: usize) -> Option<Form>
     requires { place ≤ length text.now }
     ensures form { option_map form_of result ≡ parenthesized text.now place }
-    ensures behind { IfSome result (λ form. place < form.end) }
+    ensures after { IfSome result (λ form. place < form.end) }
     ensures within { IfSome result (λ form. form.end ≤ length text.now) }
     ensures name { IfSome result (λ form. IsSpan text.now form.name) }
     ensures otherwise { IfSome result (λ form. IsSpan text.now (otherwise_span form.otherwise)) }
@@ -96,20 +96,20 @@ fn parenthesized(text: &[u8], place: usize) -> Option<Form>
 fn named_form(text: &[u8], name: Span) -> Option<Form>
     requires { IsSpan text.now name }
     ensures form { option_map form_of result ≡ named_form text.now name }
-    ensures behind { IfSome result (λ form. name.end < form.end) }
+    ensures after { IfSome result (λ form. name.end < form.end) }
     ensures within { IfSome result (λ form. form.end ≤ length text.now) }
     ensures name { IfSome result (λ form. form.name ≡ name) }
     ensures otherwise { IfSome result (λ form. IsSpan text.now (otherwise_span form.otherwise)) }
 {
-    let behind = &text[name.end..];
-    if behind.starts_with(b")") {
+    let after = &text[name.end..];
+    if after.starts_with(b")") {
         return Some(Form {
             name,
             end: name.end + 1,
             otherwise: Otherwise::Refused(name),
         });
     }
-    if behind.starts_with(b":-") {
+    if after.starts_with(b":-") {
         let default = closed(text, name.end + 2)?;
         return Some(Form {
             name,
@@ -117,7 +117,7 @@ fn named_form(text: &[u8], name: Span) -> Option<Form>
             otherwise: Otherwise::Default(default),
         });
     }
-    if behind.starts_with(b":?") {
+    if after.starts_with(b":?") {
         let shown = closed(text, name.end + 2)?;
         return Some(Form {
             name,

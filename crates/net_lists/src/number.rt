@@ -1,6 +1,6 @@
 //! Whole numbers in texts, as configurations and rules write them.
 ghost use Rattle.std.specs.Prelude.{◌≡◌, ◌<◌, ◌≤◌, ◌^◌, min, option_map, option_copied, IfSome, ◌≤ℤ◌};
-ghost use Rattle.net_lists.specs.Numbers.{whole_number, kept_in, number_in, behind_minus, signed_kept_in, signed_in};
+ghost use Rattle.net_lists.specs.Numbers.{whole_number, kept_in, number_in, after_minus, signed_kept_in, signed_in};
 
 use crate::decimal::{are_digits, capped_value, has_leading_zero};
 
@@ -44,8 +44,8 @@ pub fn number_in(least: u32, most: u32, text: &[u8]) -> Option<u32>
 }
 
 /// What comes after a `-` in front, if there is one.
-fn behind_minus(text: &[u8]) -> Option<&[u8]>
-    ensures { option_copied result ≡ behind_minus text.now }
+fn after_minus(text: &[u8]) -> Option<&[u8]>
+    ensures { option_copied result ≡ after_minus text.now }
 {
     match text {
         [b'-', rest @ ..] => Some(rest),
@@ -71,7 +71,7 @@ pub fn signed_in(least: i32, most: i32, text: &[u8]) -> Option<i32>
     ensures value { result ≡ signed_in least most text.now }
     ensures within { IfSome result (λ number. (least ≤ℤ number) × (number ≤ℤ most)) }
 {
-    match behind_minus(text) {
+    match after_minus(text) {
         Some(digits) => match capped_number(digits) {
             Some(number) => signed_kept_in(least, most, -(number as i64)),
             None => None,

@@ -2,7 +2,7 @@
 ghost use Rattle.std.specs.Prelude.{◌≡◌, ◌<◌, ◌≤◌, ◌+◌, ◌^◌, [], ◌∷◌, length, MatchOption, if◌then◌else◌};
 ghost use Rattle.std.specs.List.{prefix_len};
 ghost use Rattle.std.specs.Iterator.{YieldsFirstBy, item_count};
-ghost use Rattle.net_lists.specs.Cutting.{front_len, depth_behind, words_between, words, settings, comma_parts, first_word, behind_word, is_filled};
+ghost use Rattle.net_lists.specs.Cutting.{front_len, depth_after, words_between, words, settings, comma_parts, first_word, after_word, is_filled};
 ghost use Rattle.net_lists.specs.Parted.{cuts, parts_left, Commas};
 
 use crate::blank::{is_blank, trimmed, without_front_blanks};
@@ -33,9 +33,9 @@ impl Cut {
 }
 
 /// How many brackets are open after a byte.
-fn depth_behind(depth: usize, byte: u8) -> usize
+fn depth_after(depth: usize, byte: u8) -> usize
     requires { depth + 1 < 2 ^ 64 }
-    ensures depth { result ≡ depth_behind depth byte }
+    ensures depth { result ≡ depth_after depth byte }
     ensures within { result ≤ depth + 1 }
 {
     match byte {
@@ -57,7 +57,7 @@ fn front_len(text: &[u8], cut: Cut) -> usize
         if depth == 0 && cut.cuts(*byte) {
             return len;
         }
-        depth = depth_behind(depth, *byte);
+        depth = depth_after(depth, *byte);
         len += 1;
     }
     len
@@ -175,10 +175,10 @@ impl<'a> Iterator for Parts<'a> {
 
 /// The first word of a text, empty where there is none, and what comes after it and the blanks after
 /// that. Blanks inside brackets belong to the word.
-#[tactic(auto, unfolding(crate::specs::Cutting::first_word, crate::specs::Cutting::behind_word))]
+#[tactic(auto, unfolding(crate::specs::Cutting::first_word, crate::specs::Cutting::after_word))]
 pub fn first_word(text: &[u8]) -> (&[u8], &[u8])
     ensures word { result.0.now ≡ first_word text.now }
-    ensures rest { result.1.now ≡ behind_word text.now }
+    ensures rest { result.1.now ≡ after_word text.now }
     ensures words { words text.now ≡ (if is_filled result.0.now then result.0.now ∷ words result.1.now else []) }
     ensures shorter { 0 < length text.now → length result.1.now < length text.now }
 {

@@ -1,7 +1,7 @@
 //! What may come next while a list is read.
 ghost use Rattle.std.specs.Prelude.{◌≡◌, ◌+◌, ◌<◌, ◌^◌, IfSome};
 ghost use Rattle.net_lists.specs.Tokenized.{symbol_of};
-ghost use Rattle.net_lists.specs.Machine.{IsNext, step_of, start, is_end, is_negated, no_part, at, behind_word, behind_open, behind_close, behind_comma, behind_not};
+ghost use Rattle.net_lists.specs.Machine.{IsNext, step_of, start, is_end, is_negated, no_part, at, after_word, after_open, after_close, after_comma, after_not};
 
 use crate::part::{Part, Spelled};
 use crate::token::Token;
@@ -61,11 +61,11 @@ impl Place {
         ensures next { IfSome result (λ step. IsNext self step.place) }
     {
         match token {
-            Token::Open => self.behind_open(),
-            Token::Close => self.behind_close(),
-            Token::Comma => self.behind_comma(),
-            Token::Not => self.behind_not(),
-            Token::Word(word) => self.behind_word(word),
+            Token::Open => self.after_open(),
+            Token::Close => self.after_close(),
+            Token::Comma => self.after_comma(),
+            Token::Not => self.after_not(),
+            Token::Word(word) => self.after_word(word),
         }
     }
 
@@ -75,9 +75,9 @@ impl Place {
         self.wanted == Wanted::Operand || self.negated > 0
     }
 
-    #[tactic(auto, unfolding(crate::specs::Machine::behind_word))]
-    fn behind_word<B: Spelled>(self, word: &[u8]) -> Option<Step<B>>
-        ensures step { result ≡ behind_word B.bounds_of self word.now }
+    #[tactic(auto, unfolding(crate::specs::Machine::after_word))]
+    fn after_word<B: Spelled>(self, word: &[u8]) -> Option<Step<B>>
+        ensures step { result ≡ after_word B.bounds_of self word.now }
         ensures next { IfSome result (λ step. IsNext self step.place) }
     {
         if self.wanted == Wanted::Separator {
@@ -97,11 +97,11 @@ impl Place {
         })
     }
 
-    #[tactic(auto, unfolding(crate::specs::Machine::behind_open))]
-    fn behind_open<B>(self) -> Option<Step<B>>
+    #[tactic(auto, unfolding(crate::specs::Machine::after_open))]
+    fn after_open<B>(self) -> Option<Step<B>>
         requires depth { self.depth + 1 < 2 ^ 64 }
         requires negated { self.negated + 1 < 2 ^ 64 }
-        ensures step { result ≡ behind_open self }
+        ensures step { result ≡ after_open self }
         ensures next { IfSome result (λ step. IsNext self step.place) }
     {
         if self.wanted == Wanted::Separator {
@@ -115,9 +115,9 @@ impl Place {
         Some(Step::to(Wanted::Item, self.depth + 1, negated))
     }
 
-    #[tactic(auto, unfolding(crate::specs::Machine::behind_close))]
-    fn behind_close<B>(self) -> Option<Step<B>>
-        ensures step { result ≡ behind_close self }
+    #[tactic(auto, unfolding(crate::specs::Machine::after_close))]
+    fn after_close<B>(self) -> Option<Step<B>>
+        ensures step { result ≡ after_close self }
         ensures next { IfSome result (λ step. IsNext self step.place) }
     {
         if self.wanted != Wanted::Separator || self.depth == 0 {
@@ -130,9 +130,9 @@ impl Place {
         ))
     }
 
-    #[tactic(auto, unfolding(crate::specs::Machine::behind_comma))]
-    fn behind_comma<B>(self) -> Option<Step<B>>
-        ensures step { result ≡ behind_comma self }
+    #[tactic(auto, unfolding(crate::specs::Machine::after_comma))]
+    fn after_comma<B>(self) -> Option<Step<B>>
+        ensures step { result ≡ after_comma self }
         ensures next { IfSome result (λ step. IsNext self step.place) }
     {
         if self.wanted != Wanted::Separator {
@@ -141,9 +141,9 @@ impl Place {
         Some(Step::to(Wanted::Item, self.depth, self.negated))
     }
 
-    #[tactic(auto, unfolding(crate::specs::Machine::behind_not))]
-    fn behind_not<B>(self) -> Option<Step<B>>
-        ensures step { result ≡ behind_not self }
+    #[tactic(auto, unfolding(crate::specs::Machine::after_not))]
+    fn after_not<B>(self) -> Option<Step<B>>
+        ensures step { result ≡ after_not self }
         ensures next { IfSome result (λ step. IsNext self step.place) }
     {
         if self.wanted != Wanted::Item || self.negated > 0 {

@@ -130,13 +130,13 @@ fn group_parts<B: Spelled>(
     let mut parts = Vec::new(alloc);
     let mut place = Place::start(negated);
     let mut rest = inner;
-    while let Some((token, behind)) = next_token(rest) {
+    while let Some((token, after)) = next_token(rest) {
         let Some(step) = place.step(token) else {
             return Err(ReadFault::Bad);
         };
         push_part(&mut parts, step.part)?;
         place = step.place;
-        rest = behind;
+        rest = after;
     }
     if !place.is_end() {
         return Err(ReadFault::Bad);

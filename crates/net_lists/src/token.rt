@@ -20,7 +20,7 @@ pub enum Token<'a> {
 pub fn next_token(text: &[u8]) -> Option<(Token<'_>, &[u8])>
     ensures token { MatchOption result (symbols text.now ≡ []) (λ found. symbols text.now
         ≡ symbol_of found.0 ∷ symbols found.1.now) }
-    ensures behind { IfSome result (λ found. length found.1.now < length text.now) }
+    ensures after { IfSome result (λ found. length found.1.now < length text.now) }
 {
     let text = skip_blanks(text);
     let (first, rest) = text.split_first()?;
@@ -48,10 +48,10 @@ fn skip_blanks(text: &[u8]) -> &[u8]
 fn first_word(text: &[u8]) -> (Token<'_>, &[u8])
     requires { begins_word text.now ≡ true }
     ensures token { symbols text.now ≡ symbol_of result.0 ∷ symbols result.1.now }
-    ensures behind { length result.1.now < length text.now }
+    ensures after { length result.1.now < length text.now }
 {
-    let (word, behind) = text.split_at(word_len(text));
-    (Token::Word(word), behind)
+    let (word, after) = text.split_at(word_len(text));
+    (Token::Word(word), after)
 }
 
 /// How many bytes of a word are in front.

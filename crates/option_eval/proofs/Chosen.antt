@@ -6,12 +6,12 @@ use Rattle.std.proofs.lemmas.List.Elements.{All-nil, All-cons}
 use Rattle.edge_io.specs.declared.pattern.Span.{Span}
 use Rattle.rule_types.specs.declared.option.Opt.{Opt}
 use Rattle.rule_types.specs.declared.option.Opt.TheVariants as opt
-use Rattle.rule_types.specs.Sound.{IsOption, AreOptions, names_behind}
+use Rattle.rule_types.specs.Sound.{IsOption, AreOptions, names_after_one}
 use Rattle.option_eval.specs.Ready.{IsInRange}
 use Rattle.option_eval.specs.RuleSet.{IsMade, SameMeaning}
-use Rattle.option_eval.specs.Numbers.{Standing}
+use Rattle.option_eval.specs.Numbers.{Point}
 use Rattle.option_eval.specs.Places.{Means, IsWay, start}
-use Rattle.option_eval.specs.Sets.{standing}
+use Rattle.option_eval.specs.Sets.{point}
 use Rattle.option_eval.specs.Walks.{MatchesFrom, MatchesFromOne}
 use Rattle.option_eval.proofs.Sets.Rising.{contains_cases, contains_first}
 
@@ -41,12 +41,12 @@ same_at (a ∷ xs) zero x y below is-x is-y = is-x ∙ sym is-y
 same_at (a ∷ xs) (suc k) x y below is-x is-y = same_at xs k x y (omega arith) is-x is-y
 
 -- some way leads through the options from the payload's start
-pub way_start : (means : Means) (payload : List ℕ) (options : List Opt) → (((way : List Standing) × IsWay means payload options start way) → MatchesFromOne means payload options (0 ∷ 0 ∷ []) (0 ∷ [])) × (MatchesFromOne means payload options (0 ∷ 0 ∷ []) (0 ∷ []) → (way : List Standing) × IsWay means payload options start way)
+pub way_start : (means : Means) (payload : List ℕ) (options : List Opt) → (((way : List Point) × IsWay means payload options start way) → MatchesFromOne means payload options (0 ∷ 0 ∷ []) (0 ∷ [])) × (MatchesFromOne means payload options (0 ∷ 0 ∷ []) (0 ∷ []) → (way : List Point) × IsWay means payload options start way)
 way_start means payload options = (
   λ m. (0, contains_first 0 [], m),
   λ m.
-      let at : m.0 ≡ 0 = ⊎_elim (λ (same : m.0 ≡ 0). same) (λ (behind : Contains [] m.0). absurd (omega (arith, behind.1))) (contains_cases 0 [] m.0 m.1) in
-      subst (λ (p : ℕ). MatchesFrom means payload options (standing (0 ∷ 0 ∷ []) p)) at m.2,
+      let at : m.0 ≡ 0 = ⊎_elim (λ (same : m.0 ≡ 0). same) (λ (after : Contains [] m.0). absurd (omega (arith, after.1))) (contains_cases 0 [] m.0 m.1) in
+      subst (λ (p : ℕ). MatchesFrom means payload options (point (0 ∷ 0 ∷ []) p)) at m.2,
 )
 
 -- one more pair at the end
@@ -80,4 +80,4 @@ in_range names _ h = tt
 
 pub all_in_range : (names : List ℕ) (options : List Opt) → AreOptions names options → All IsInRange options
 all_in_range names [] h = All-nil IsInRange
-all_in_range names (o ∷ options) h = All-cons IsInRange o options (in_range names o h.0) (all_in_range (names_behind names o) options h.1)
+all_in_range names (o ∷ options) h = All-cons IsInRange o options (in_range names o h.0) (all_in_range (names_after_one names o) options h.1)

@@ -16,4 +16,4 @@ IsNoted seen i = i < seen.done → i < seen.last
 pub record SeesOn (occurs : ℕ → Type 0) (low end : ℕ) (old new : Seen) : Type 0 where
   pub found : (i : ℕ) → low ≤ i → i < end → occurs i → IsNoted old i → low < new.last
   pub noted : (i : ℕ) → low ≤ i → occurs i → IsNoted old i → IsNoted new i
-  pub stands : 0 < new.last → (new.last ≡ old.last) ⊎ (occurs (new.last - 1) × (new.last - 1 < end))
+  pub is_found : 0 < new.last → (new.last ≡ old.last) ⊎ (occurs (new.last - 1) × (new.last - 1 < end))

@@ -16,14 +16,14 @@ use Rattle.rule_types.specs.declared.option.Num.{Num}
 use Rattle.rule_types.specs.declared.option.Num.TheVariants as num
 
 -- where an option begins and ends: a place of the payload, and the extracted values by their names
-pub record Standing : Type 0 where
+pub record Point : Type 0 where
   pub place : ℕ
   pub values : List ℕ
 
 -- ---- relative
 
 -- where an option counts from: the place before it if it is relative, else the payload's start
-abbrev pub origin : Bool → Standing → ℕ
+abbrev pub origin : Bool → Point → ℕ
 origin relative before = if relative then before.place else 0
 
 -- ---- a number, or the name of one
@@ -88,7 +88,7 @@ pub record Fetched : Type 0 where
   pub stop : ℕ
 
 -- what a fetch gives; nothing unless all its bytes lie in the payload and hold a number
-unfoldable pub fetched : List ℕ → Fetch → Standing → Option Fetched
+unfoldable pub fetched : List ℕ → Fetch → Point → Option Fetched
 fetched payload fetch before = do
   start ← place_of (pos (origin fetch.relative before) +ℤ number_of before.values fetch.offset)
   bytes ← bytes_from payload fetch.bytes start

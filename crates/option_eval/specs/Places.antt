@@ -1,7 +1,7 @@
 -- Where the payload options of a rule can lead, and when a payload matches a rule.
 --
--- An option leads from a standing, a place of the payload with the values extracted so far, to
--- standings after it. A payload matches where some way leads from the payload's start through all
+-- An option leads from a point, a place of the payload with the values extracted so far, to
+-- points after it. A payload matches where some way leads from the payload's start through all
 -- options of the rule, in their order. How a way is found is not said here.
 -- Source: Snort Users Manual 2.9, section 3.5.
 -- To try it on: in `abxabc` the content `ab` leads from the start to the places 2 and 5; the content `c`
@@ -21,14 +21,14 @@ use Rattle.rule_types.specs.declared.option.Num.{Num}
 use Rattle.rule_types.specs.declared.option.Opt.{Opt}
 use Rattle.rule_types.specs.declared.option.Opt.TheVariants as opt
 use Rattle.rule_types.specs.declared.rule.Rule.{Rule}
-use Rattle.option_eval.specs.Numbers.{Standing, Fetched, number_of, number_if, origin, fetched, rounded_up}
+use Rattle.option_eval.specs.Numbers.{Point, Fetched, number_of, number_if, origin, fetched, rounded_up}
 
 -- what a text with flags finds in bytes, for a maker of patterns
 abbrev pub Means : Type 0
 Means = List ℕ → PatternFlags → List ℕ → Option Span
 
--- the standing at another place
-abbrev pub at_place : Standing → ℕ → Standing
+-- the point at another place
+abbrev pub at_place : Point → ℕ → Point
 at_place before place = record before { place = place }
 
 -- a fact, or under `!` that it doesn't hold
@@ -38,11 +38,11 @@ Unless negated P = MatchBool negated (¬ P) P
 -- ---- offset, depth, distance, within
 
 -- `offset`, or `distance` from the place before: where the window of a content begins
-abbrev pub window_start : Content → Standing → ℤ
+abbrev pub window_start : Content → Point → ℤ
 window_start content before = pos (origin content.relative before) +ℤ unwrap_or (number_if before.values content.from) (pos 0)
 
 -- `depth`, or `within`: the place this many bytes on, by which the content ends
-abbrev pub window_end : Content → Standing → Option ℤ
+abbrev pub window_end : Content → Point → Option ℤ
 window_end content before = option_map (λ room. window_start content before +ℤ room) (number_if before.values content.room)
 
 -- ---- fast_pattern
@@ -60,32 +60,32 @@ pub record Sought : Type 0 where
   pub from : ℤ
   pub until : Option ℤ
 
--- how the content is sought from a standing
-abbrev pub sought : Content → Standing → Sought
+-- how the content is sought from a point
+abbrev pub sought : Content → Point → Sought
 sought content before =
     if is_only content.fast
     then record { nocase = true; from = pos 0; until = None }
     else record { nocase = content.nocase; from = window_start content before; until = window_end content before }
 
 -- bytes occur in the payload at place i, as they are sought
-pub record StandsAt (bytes payload : List ℕ) (how : Sought) (i : ℕ) : Type 0 where
+pub record IsFoundAt (bytes payload : List ℕ) (how : Sought) (i : ℕ) : Type 0 where
   pub from : how.from ≤ℤ pos i
   pub until : IfSome how.until (λ end. pos (i + length bytes) ≤ℤ end)
   pub occurs : OccursAt (folded how.nocase payload) (folded how.nocase bytes) i
 
 -- a content leads to the end of each place where it occurs; a negated one stays, where it occurs nowhere; one
 -- that is sought by the fast pattern alone stays too
-abbrev pub ContentLeads : Content → List ℕ → Standing → Standing → Type 0
+abbrev pub ContentLeads : Content → List ℕ → Point → Point → Type 0
 ContentLeads content payload before after =
-    let Stands = StandsAt content.bytes payload (sought content before) in
+    let IsHere = IsFoundAt content.bytes payload (sought content before) in
     MatchBool content.negated
-    (((i : ℕ) → ¬ Stands i) × (after ≡ before))
-    ((i : ℕ) × Stands i × (after ≡ (if is_only content.fast then before else at_place before (i + length content.bytes))))
+    (((i : ℕ) → ¬ IsHere i) × (after ≡ before))
+    ((i : ℕ) × IsHere i × (after ≡ (if is_only content.fast then before else at_place before (i + length content.bytes))))
 
 -- ---- isdataat
 
 -- isdataat stays, where the payload has a byte so far from where it counts, or under `!` has none
-abbrev pub IsDataAtLeads : Num → Bool → Bool → List ℕ → Standing → Standing → Type 0
+abbrev pub IsDataAtLeads : Num → Bool → Bool → List ℕ → Point → Point → Type 0
 IsDataAtLeads at relative negated payload before after =
     Unless negated ((pos (origin relative before) +ℤ number_of before.values at) <ℤ pos (length payload)) × (after ≡ before)
 
@@ -93,7 +93,7 @@ IsDataAtLeads at relative negated payload before after =
 
 -- pcre leads to the end of the one match that its pattern finds, in the bytes from the place on if it is
 -- relative; a negated one stays, where nothing is found
-abbrev pub PcreLeads : (List ℕ → Option Span) → Bool → Bool → List ℕ → Standing → Standing → Type 0
+abbrev pub PcreLeads : (List ℕ → Option Span) → Bool → Bool → List ℕ → Point → Point → Type 0
 PcreLeads finds relative negated payload before after =
     let found = finds (drop (origin relative before) payload) in
     MatchBool negated
@@ -119,7 +119,7 @@ Compares cmp.And number value = SharesBit number value
 Compares cmp.Within number value = pos number ≡ value
 
 -- byte_test stays, where the number compares so, or under `!` doesn't
-abbrev pub ByteTestLeads : Fetch → Bool → Cmp → Num → List ℕ → Standing → Standing → Type 0
+abbrev pub ByteTestLeads : Fetch → Bool → Cmp → Num → List ℕ → Point → Point → Type 0
 ByteTestLeads fetch negated cmp value payload before after =
     (read : Fetched) × (fetched payload fetch before ≡ Some read)
     × Unless negated (Compares cmp read.number (number_of before.values value)) × (after ≡ before)
@@ -142,7 +142,7 @@ jump times align beginning post = record { times = times; align = align; beginni
 
 -- byte_jump leads so far from the place after the number, or under `from_beginning` from the payload's
 -- start, and `post_offset` bytes more; no further than the payload's end
-abbrev pub ByteJumpLeads : Fetch → Jump → List ℕ → Standing → Standing → Type 0
+abbrev pub ByteJumpLeads : Fetch → Jump → List ℕ → Point → Point → Type 0
 ByteJumpLeads fetch how payload before after =
     (read : Fetched) × (fetched payload fetch before ≡ Some read) × (after.values ≡ before.values)
     × (after.place ≤ length payload)
@@ -152,16 +152,16 @@ ByteJumpLeads fetch how payload before after =
 -- ---- byte_extract
 
 -- byte_extract leads to the end of the number, which the name has from there on
-abbrev pub ByteExtractLeads : Fetch → ℕ → ℕ → ℕ → List ℕ → Standing → Standing → Type 0
+abbrev pub ByteExtractLeads : Fetch → ℕ → ℕ → ℕ → List ℕ → Point → Point → Type 0
 ByteExtractLeads fetch name times align payload before after =
     (read : Fetched) × (fetched payload fetch before ≡ Some read)
     × (after ≡ record { place = read.stop; values = slice_set before.values name (rounded_up align (read.number * times)) })
 
 -- ---- all options of a rule
 
--- from a standing an option leads to another, which has the place and the values after it; an option
+-- from a point an option leads to another, which has the place and the values after it; an option
 -- that asks nothing of the payload leads nowhere else
-unfoldable pub Leads : Means → List ℕ → Opt → Standing → Standing → Type 0
+unfoldable pub Leads : Means → List ℕ → Opt → Point → Point → Type 0
 Leads means payload (opt.Content content) before after = ContentLeads content payload before after
 Leads means payload (opt.IsDataAt at relative negated) before after =
     IsDataAtLeads at relative negated payload before after
@@ -175,8 +175,8 @@ Leads means payload (opt.ByteExtract fetch name times align) before after =
     ByteExtractLeads fetch name times align payload before after
 Leads means payload _ before after = after ≡ before
 
--- a way through the options: the standings after each of them
-abbrev pub IsWay : Means → List ℕ → List Opt → Standing → List Standing → Type 0
+-- a way through the options: the points after each of them
+abbrev pub IsWay : Means → List ℕ → List Opt → Point → List Point → Type 0
 IsWay means payload [] before [] = Unit {0}
 IsWay means payload (option ∷ options) before (after ∷ later) =
     Leads means payload option before after × IsWay means payload options after later
@@ -184,12 +184,12 @@ IsWay means payload [] before (after ∷ later) = ⊥
 IsWay means payload (option ∷ options) before [] = ⊥
 
 -- the payload's start, with no value extracted
-abbrev pub start : Standing
+abbrev pub start : Point
 start = record { place = 0; values = 0 ∷ 0 ∷ [] }
 
 -- the payload matches the rule: some way leads from its start through all options
 abbrev pub PayloadMatches : Means → Rule → List ℕ → Type 0
-PayloadMatches means rule payload = (way : List Standing) × IsWay means payload rule.opts start way
+PayloadMatches means rule payload = (way : List Point) × IsWay means payload rule.opts start way
 
 -- an option that asks something of the payload
 abbrev pub is_payload_option : Opt → Bool

@@ -4,8 +4,8 @@ use Rattle.memchr.specs.Find.{OccursAt}
 use Rattle.edge_io.specs.Matching.{folded}
 use Rattle.rule_types.specs.declared.option.Content.{Content}
 use Rattle.rule_types.specs.declared.option.Opt.{Opt}
-use Rattle.option_eval.specs.Numbers.{Standing, number_if}
-use Rattle.option_eval.specs.Places.{Means, Leads, StandsAt, is_only, sought}
+use Rattle.option_eval.specs.Numbers.{Point, number_if}
+use Rattle.option_eval.specs.Places.{Means, Leads, IsFoundAt, is_only, sought}
 use Rattle.option_eval.specs.declared.reach.Reach.{Reach}
 
 -- places that rise, from one on and below another
@@ -22,13 +22,13 @@ pub record Gathers (every : Bool) (P : ℕ → Type 0) (places : List ℕ) : Typ
   pub sound : (q : ℕ) → Contains places q → P q
   pub complete : (q : ℕ) → P q → IsGot every places q
 
--- the standing at a place with these values
-abbrev pub standing : List ℕ → ℕ → Standing
-standing values place = record { place = place; values = values }
+-- the point at a place with these values
+abbrev pub point : List ℕ → ℕ → Point
+point values place = record { place = place; values = values }
 
 -- the option leads from one place to another, and leaves the values
 abbrev pub LeadsFrom : Means → List ℕ → List ℕ → Opt → ℕ → ℕ → Type 0
-LeadsFrom means payload values option p q = Leads means payload option (standing values p) (standing values q)
+LeadsFrom means payload values option p q = Leads means payload option (point values p) (point values q)
 
 -- the option leads to a place from one of the set
 abbrev pub IsLedTo : (ℕ → ℕ → Type 0) → List ℕ → ℕ → Type 0
@@ -98,5 +98,5 @@ abbrev pub content_origin : Content → ℕ → ℕ
 content_origin content place = if not (is_only content.fast) && content.relative then place else 0
 
 -- the content occurs somewhere, seen from a place
-abbrev pub StandsFrom : List ℕ → Content → List ℕ → ℕ → Type 0
-StandsFrom payload content values place = (i : ℕ) × StandsAt content.bytes payload (sought content (standing values place)) i
+abbrev pub IsFoundFrom : List ℕ → Content → List ℕ → ℕ → Type 0
+IsFoundFrom payload content values place = (i : ℕ) × IsFoundAt content.bytes payload (sought content (point values place)) i

@@ -9,9 +9,9 @@ use Rattle.option_eval.specs.declared.states.Held.{Held}
 use Rattle.option_eval.specs.declared.states.Held.TheVariants as held
 use Rattle.option_eval.specs.declared.states.States.{States}
 use Rattle.option_eval.specs.Places.{Means}
-use Rattle.option_eval.specs.Sets.{standing}
-use Rattle.option_eval.specs.Numbers.{Standing}
-use Rattle.option_eval.specs.Walks.{MatchesFrom, MatchesFromOne, IsListed, HasValues, behind_extraction}
+use Rattle.option_eval.specs.Sets.{point}
+use Rattle.option_eval.specs.Numbers.{Point}
+use Rattle.option_eval.specs.Walks.{MatchesFrom, MatchesFromOne, IsListed, HasValues, after_extraction}
 
 -- the places that go with a value list, if a map has a state with it
 unfoldable pub map_at : StateMap → List ℕ → Option (List ℕ)
@@ -36,7 +36,7 @@ held_count (held.Many map) = length map.places.entries
 unfoldable pub state_count : States → ℕ
 state_count states = held_count states.held
 
--- some state has a standing of this kind
+-- some state has a point of this kind
 abbrev pub SomeState : (List ℕ → ℕ → Type 0) → States → Type 0
 SomeState P states =
     (values : List ℕ) × (places : List ℕ) × (places_at states values ≡ Some places) × (p : ℕ) × Contains places p × P values p
@@ -49,24 +49,24 @@ EachState K R states =
 -- some way leads through the options from some state
 abbrev pub MatchesFromSome : Means → List ℕ → List Opt → States → Type 0
 MatchesFromSome means payload options states =
-    SomeState (λ values p. MatchesFrom means payload options (standing values p)) states
+    SomeState (λ values p. MatchesFrom means payload options (point values p)) states
 
--- the list has the values of each state, and those that are kept after each of the options; each standing of
+-- the list has the values of each state, and those that are kept after each of the options; each point of
 -- a state is listed, and those after each extraction
-abbrev pub HaveValues : Means → List ℕ → List (List ℕ) → Option (List Standing) → List Opt → States → Type 0
+abbrev pub HaveValues : Means → List ℕ → List (List ℕ) → Option (List Point) → List Opt → States → Type 0
 HaveValues means payload lists listed options states = EachState (Contains lists)
-    (λ values p. IsListed listed values p × HasValues means payload lists listed options (standing values p)) states
+    (λ values p. IsListed listed values p × HasValues means payload lists listed options (point values p)) states
 
 -- each place is one of a payload of `size` bytes, or its end
 abbrev pub AreWithin : ℕ → States → Type 0
 AreWithin size states = EachState (λ values. ⊤) (λ values p. p ≤ size) states
 
--- each standing of some states is one of others
+-- each point of some states is one of others
 abbrev pub AreAmong : States → States → Type 0
 AreAmong from to = (values places : List ℕ) → places_at from values ≡ Some places
     → (found : List ℕ) × (places_at to values ≡ Some found) × ((p : ℕ) → Contains places p → Contains found p)
 
--- the states have the same standings
+-- the states have the same points
 abbrev pub AreSame : States → States → Type 0
 AreSame old new = AreAmong old new × AreAmong new old
 
@@ -74,13 +74,13 @@ AreSame old new = AreAmong old new × AreAmong new old
 -- from these places; and their values, where a list has those before
 pub record Leaves (means : Means) (payload : List ℕ) (options : List Opt) (values places : List ℕ)
     (old new : States) : Type 0 where
-  pub sound : MatchesFromSome means payload (behind_extraction options) new
-      → MatchesFromSome means payload (behind_extraction options) old ⊎ MatchesFromOne means payload options values places
-  pub kept : MatchesFromSome means payload (behind_extraction options) old
-      → MatchesFromSome means payload (behind_extraction options) new
+  pub sound : MatchesFromSome means payload (after_extraction options) new
+      → MatchesFromSome means payload (after_extraction options) old ⊎ MatchesFromOne means payload options values places
+  pub kept : MatchesFromSome means payload (after_extraction options) old
+      → MatchesFromSome means payload (after_extraction options) new
   pub complete : MatchesFromOne means payload options values places
-      → MatchesFromSome means payload (behind_extraction options) new
-  pub have : (lists : List (List ℕ)) (listed : Option (List Standing))
-      → ((p : ℕ) → Contains places p → HasValues means payload lists listed options (standing values p))
-      → HaveValues means payload lists listed (behind_extraction options) old
-      → HaveValues means payload lists listed (behind_extraction options) new
+      → MatchesFromSome means payload (after_extraction options) new
+  pub have : (lists : List (List ℕ)) (listed : Option (List Point))
+      → ((p : ℕ) → Contains places p → HasValues means payload lists listed options (point values p))
+      → HaveValues means payload lists listed (after_extraction options) old
+      → HaveValues means payload lists listed (after_extraction options) new

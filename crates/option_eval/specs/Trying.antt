@@ -1,7 +1,7 @@
 -- Options that are tried by what was made of them, and what a trial spends.
 --
 -- To try it on: of `content:"a"; byte_extract:1,0,n,relative; content:"b"; offset:n;` n is read at no more than 100 places of
--- 100 bytes, so few standings follow its extraction, and each payload option is visited at no more than 101 places for
+-- 100 bytes, so few points follow its extraction, and each payload option is visited at no more than 101 places for
 -- each list of values.
 use Rattle.std.specs.Prelude.{ℕ, ◌≤◌, Bool, MatchBool, List, map, length, Option, Some, None}
 use Rattle.std.specs.List.{AllZip}
@@ -12,14 +12,14 @@ use Rattle.option_eval.specs.declared.made.Made.{Made}
 use Rattle.option_eval.specs.declared.next.Next.{Next}
 use Rattle.option_eval.specs.declared.states.States.{States}
 use Rattle.option_eval.specs.Next.{next_set}
-use Rattle.option_eval.specs.Numbers.{Standing}
+use Rattle.option_eval.specs.Numbers.{Point}
 use Rattle.option_eval.specs.Places.{Means}
 use Rattle.option_eval.specs.Ready.{pattern_of}
 use Rattle.option_eval.specs.RuleSet.{Rules, IsMade, FindWhatIsMeant, IsRuleAt}
 use Rattle.option_eval.specs.Sets.{Gathers, IsLedTo, LeadsFrom}
 use Rattle.option_eval.specs.States.{Leaves, MatchesFromSome}
-use Rattle.option_eval.specs.Values.{list_count, standing_count}
-use Rattle.option_eval.specs.Walks.{MatchesFromOne, HasEachValueList, part_standings}
+use Rattle.option_eval.specs.Values.{list_count, point_count}
+use Rattle.option_eval.specs.Walks.{MatchesFromOne, HasEachValueList, part_points}
 
 -- whatever is meant, if what was made of the options finds it
 abbrev pub OfMade : {P : Type 0} → (P → List ℕ → Option Span) → List Opt → List (Made P) → (Means → Type 0) → Type 0
@@ -34,21 +34,21 @@ abbrev pub OfRule : {P : Type 0} → (P → List ℕ → Option Span) → Rules 
 OfRule finds set place Holds =
     (means : Means) → (chosen : Rule) → FindWhatIsMeant finds means set → IsRuleAt set place chosen → Holds means chosen
 
--- few standings follow the extractions: by how many lists of values there are
-abbrev pub OfFewValues : (List (List ℕ) → Option (List Standing) → Type 0) → (ℕ → Type 0) → Type 0
+-- few points follow the extractions: by how many lists of values there are
+abbrev pub OfFewValues : (List (List ℕ) → Option (List Point) → Type 0) → (ℕ → Type 0) → Type 0
 OfFewValues Have Holds =
-    (lists : List (List ℕ)) → (listed : List Standing) → Have lists (Some listed) → length listed ≤ part_standings
+    (lists : List (List ℕ)) → (listed : List Point) → Have lists (Some listed) → length listed ≤ part_points
     → Holds (length lists)
 
--- however many standings follow them
-abbrev pub OfAllValues : (List (List ℕ) → Option (List Standing) → Type 0) → (ℕ → Type 0) → Type 0
+-- however many points follow them
+abbrev pub OfAllValues : (List (List ℕ) → Option (List Point) → Type 0) → (ℕ → Type 0) → Type 0
 OfAllValues Have Holds = (lists : List (List ℕ)) → Have lists None → Holds (length lists)
 
--- some lists have all values of any way, and all standings that follow its extractions, and are short
+-- some lists have all values of any way, and all points that follow its extractions, and are short
 abbrev pub HasFewValues : Means → List ℕ → List Opt → Type 0
 HasFewValues means payload options =
-    (lists : List (List ℕ)) × (listed : List Standing) × HasEachValueList means payload options lists (Some listed)
-    × (length lists ≤ list_count options (length payload)) × (length listed ≤ standing_count options (length payload))
+    (lists : List (List ℕ)) × (listed : List Point) × HasEachValueList means payload options lists (Some listed)
+    × (length lists ≤ list_count options (length payload)) × (length listed ≤ point_count options (length payload))
 
 -- where options are tried: in a payload, with these values, from these places
 pub record Beginning : Type 0 where

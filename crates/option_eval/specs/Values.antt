@@ -10,7 +10,7 @@ use Rattle.rule_types.specs.declared.option.Num.TheVariants as num
 use Rattle.rule_types.specs.declared.option.Opt.{Opt}
 use Rattle.rule_types.specs.declared.option.Opt.TheVariants as opt
 use Rattle.option_eval.specs.Kept.{gives, is_read}
-use Rattle.option_eval.specs.Walks.{visits_of, visits_apart, part_standings}
+use Rattle.option_eval.specs.Walks.{visits_of, visits_apart, part_points}
 
 -- the number is told in the rule
 abbrev pub is_told : Num → Bool
@@ -55,23 +55,23 @@ abbrev pub other_count : ℕ → Opt → List Opt → List Opt → ℕ → ℕ
 other_count name option later all size =
     if not (gives name option) && is_read name later then 1 + extracted_count name all size else 1
 
--- how many standings there can be after the extractions of some of a rule's options: each place that an extraction
+-- how many points there can be after the extractions of some of a rule's options: each place that an extraction
 -- can take its number at, with each value of a name that it doesn't give
-abbrev pub standings_behind : List Opt → List Opt → ℕ → ℕ
-standings_behind all [] size = 0
-standings_behind all (option ∷ later) size =
+abbrev pub points_after : List Opt → List Opt → ℕ → ℕ
+points_after all [] size = 0
+points_after all (option ∷ later) size =
     place_count option size * (other_count 0 option later all size * other_count 1 option later all size)
-    + standings_behind all later size
+    + points_after all later size
 
--- how many standings there can be after the extractions of all of a rule's options
-unfoldable pub standing_count : List Opt → ℕ → ℕ
-standing_count options size = standings_behind options options size
+-- how many points there can be after the extractions of all of a rule's options
+unfoldable pub point_count : List Opt → ℕ → ℕ
+point_count options size = points_after options options size
 
--- how many visits a rule's options can take in a payload of `size` bytes. Where no more standings are held at once
+-- how many visits a rule's options can take in a payload of `size` bytes. Where no more points are held at once
 -- than a part has, the options are gone through once for each list of values at most. Else, and no worse elsewhere,
 -- those after each extraction once for each list of values and each time that they are come to.
 unfoldable pub most_visits : List Opt → ℕ → ℕ
 most_visits options size =
-    if nat_le (standing_count options size) part_standings
+    if nat_le (point_count options size) part_points
     then min (list_count options size * visits_of options size) (visits_apart (list_count options size) options size)
     else visits_apart (list_count options size) options size

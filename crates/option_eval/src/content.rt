@@ -6,7 +6,7 @@ ghost use Rattle.std.specs.Option.{ForSome};
 ghost use Rattle.option_eval.specs.Numbers.{number_if};
 ghost use Rattle.option_eval.specs.Places.{Means, is_only};
 ghost use Rattle.option_eval.specs.Ranges.{IsSmall};
-ghost use Rattle.option_eval.specs.Sets.{IsRising, Gathers, IsHitFrom, IsLedTo, LeadsFrom, IsWithin, Occurs, StandsFrom, reach_from, reach_room, folds_case, content_origin};
+ghost use Rattle.option_eval.specs.Sets.{IsRising, Gathers, IsHitFrom, IsLedTo, LeadsFrom, IsWithin, Occurs, IsFoundFrom, reach_from, reach_room, folds_case, content_origin};
 
 use crate::Steps;
 use crate::absent::places_without;
@@ -92,7 +92,7 @@ pub(crate) fn places_after_negated_content<L: Ledger>(
 }
 
 /// Whether the content occurs somewhere, seen from a place.
-pub(crate) fn content_stands(
+pub(crate) fn content_is_found(
     content: &Content,
     finder: &Finder<'static>,
     payload: &[u8],
@@ -101,13 +101,13 @@ pub(crate) fn content_stands(
 ) -> bool
     requires same { finder.now ≡ content.now.bytes }
     requires some { 1 ≤ length content.now.bytes }
-    ensures { IsTrue result ↔ StandsFrom payload.now content.now values.now place }
+    ensures { IsTrue result ↔ IsFoundFrom payload.now content.now values.now place }
 {
     let needle = needle(content, finder);
     if needle.bytes.len() > payload.len() {
         return false;
     }
-    stands(
+    is_found(
         &needle,
         &reach(content, values),
         payload,
@@ -116,7 +116,7 @@ pub(crate) fn content_stands(
 }
 
 /// Whether the bytes occur within reach of a place.
-fn stands(needle: &Needle, reach: &Reach, payload: &[u8], place: usize) -> bool
+fn is_found(needle: &Needle, reach: &Reach, payload: &[u8], place: usize) -> bool
     requires same { needle.now.finder.now ≡ needle.now.bytes.now }
     requires some { 1 ≤ length needle.now.bytes.now }
     requires fits { length needle.now.bytes.now ≤ length payload.now }

@@ -99,8 +99,8 @@ impl Extraction {
             None => Ok(()),
             Some(read) => {
                 let number = rounded_up(u64::from(self.align), read.number * u64::from(self.times));
-                let behind = kept_values(&self.read, &with_value(values, self.name, number));
-                states.add(behind, read.stop)
+                let after = kept_values(&self.read, &with_value(values, self.name, number));
+                states.add(after, read.stop)
             }
         }
     }
@@ -111,7 +111,7 @@ fn with_value(values: &Values, name: u8, value: u64) -> Values
     requires { name < 2 }
     ensures { result ≡ slice_set values.now name value }
 {
-    let mut behind = *values;
-    behind[usize::from(name)] = value;
-    behind
+    let mut after = *values;
+    after[usize::from(name)] = value;
+    after
 }

@@ -4,7 +4,7 @@ ghost use Rattle.std.specs.Prelude.{◌≡◌, ℕ, ◌+◌, ◌^◌, ◌<◌, �
 ghost use Rattle.std.specs.List.{prefix_len};
 ghost use Rattle.option_eval.specs.Numbers.{number_of, origin, digit_of, digits_number, text_number, bytes_number, fetched, rounded_up};
 ghost use Rattle.option_eval.specs.Ranges.{IsSmall, IsShort};
-ghost use Rattle.option_eval.specs.Sets.{standing};
+ghost use Rattle.option_eval.specs.Sets.{point};
 
 use byteorder::{BigEndian, ByteOrder, LittleEndian};
 use rule_types::{Base, Fetch, Num};
@@ -101,7 +101,7 @@ fn bytes_number(base: Base, bytes: &[u8]) -> Option<u64>
     }
 }
 
-/// The number that a fetch reads from a standing, if all its bytes lie in the payload and hold one.
+/// The number that a fetch reads from a point, if all its bytes lie in the payload and hold one.
 #[tactic(auto, unfolding(crate::specs::Numbers::fetched))]
 pub(crate) fn fetched_number(
     fetch: &Fetch,
@@ -111,7 +111,7 @@ pub(crate) fn fetched_number(
 ) -> Option<Fetched>
     requires { IsShort fetch.now.base fetch.now.bytes }
     ensures value { option_map (λ f. record { number = f.number; stop = f.stop }) result
-        ≡ fetched payload.now fetch.now (standing values.now place) }
+        ≡ fetched payload.now fetch.now (point values.now place) }
     ensures small { IfSome result (λ f. f.number < 2 ^ 41) }
     ensures inside { IfSome result (λ f. f.stop ≤ length payload.now) }
 {

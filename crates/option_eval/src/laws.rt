@@ -9,7 +9,7 @@ ghost use Rattle.option_eval.specs.Values.{list_count, most_visits};
 ghost use Rattle.option_eval.specs.Walks.{visits_of};
 
 /// A rule extracts few values from a payload of n bytes, whatever its patterns find: all lists of its two names'
-/// values that any way through its options keeps are in `lists`, all standings after its extractions in `listed`, and
+/// values that any way through its options keeps are in `lists`, all points after its extractions in `listed`, and
 /// both are short, by the rule's options and n alone.
 ///
 /// - An extraction (`byte_extract`) of w bytes takes its number at one of n + 1 - w places at most; at one place, if
@@ -17,8 +17,8 @@ ghost use Rattle.option_eval.specs.Walks.{visits_of};
 ///   else one at each of its places at most (`number_count`).
 /// - With a and b the numbers that all extractions into the one and the other name can take, there are at most
 ///   (1 + a)(1 + b) lists: each name has 0 before. Where never both are still read there are 1 + a + b (`list_count`).
-/// - After an extraction there is at most one standing for each of its places and each value of the other name, if
-///   that is still read (`standing_count`).
+/// - After an extraction there is at most one point for each of its places and each value of the other name, if
+///   that is still read (`point_count`).
 pub fn extracted_values_are_few()
     ensures { (means : Means) (payload : List ℕ) (options : List Opt) → All (λ byte. byte < 256) payload
         → HasFewValues means payload options }

@@ -11,7 +11,7 @@ ghost use Rattle.option_eval.specs.RuleSet.{IsMade};
 ghost use Rattle.option_eval.specs.Sets.{LeadsFrom, LeadsOnlyTo, PlaceIn};
 ghost use Rattle.edge_io.specs.declared.pattern.PatternFlags.{PatternFlags};
 
-use crate::content::content_stands;
+use crate::content::content_is_found;
 use crate::fetch::{Fetched, Values, fetched_number, number, origin, rounded_up};
 use crate::made::Made;
 use edge_io::{NoMemory, Pattern, Span};
@@ -108,7 +108,7 @@ fn content_holds<P>(
         Made::Needle(finder) => {
             unless(
                 content.negated,
-                content_stands(content, finder, payload, place, values),
+                content_is_found(content, finder, payload, place, values),
             )
         }
         _ => false,

@@ -59,7 +59,7 @@ fn first_folded(bytes: &[u8], payload: &[u8], low: usize, end: usize) -> Option<
     let upper = first.to_ascii_uppercase();
     let mut at = low;
     while let Some(next) = next_of(first, upper, payload, at, end) {
-        if stands_folded(bytes, payload, next) {
+        if is_found_folded(bytes, payload, next) {
             return Some(next);
         }
         at = next + 1;
@@ -80,7 +80,7 @@ fn next_of(lower: u8, upper: u8, payload: &[u8], low: usize, end: usize) -> Opti
 }
 
 /// Whether the bytes are at a place with case folded.
-fn stands_folded(bytes: &[u8], payload: &[u8], at: usize) -> bool
+fn is_found_folded(bytes: &[u8], payload: &[u8], at: usize) -> bool
     requires fits { at + length bytes.now ≤ length payload.now }
     ensures { IsTrue result ↔ Occurs true payload.now bytes.now at }
 {

@@ -1,17 +1,17 @@
 //! A part of the states after an extraction: the rest of the options is tried from it before more are made.
 
 ghost use Rattle.std.specs.Prelude.{◌≡◌, ℕ, ◌*◌, ◌^◌, ◌<◌, ◌≤◌, ◌↔◌, ⊤, List, None, Contains, length, IfOk, IfSome, IfNone};
-ghost use Rattle.option_eval.specs.Numbers.{Standing};
-ghost use Rattle.option_eval.specs.Sets.{IsRising, standing};
+ghost use Rattle.option_eval.specs.Numbers.{Point};
+ghost use Rattle.option_eval.specs.Sets.{IsRising, point};
 ghost use Rattle.option_eval.specs.States.{places_at, AreSame, EachState};
-ghost use Rattle.option_eval.specs.Walks.{part_standings};
+ghost use Rattle.option_eval.specs.Walks.{part_points};
 
 use crate::next::{rising, sorted};
 use crate::states::{State, States};
 use edge_io::NoMemory;
 use std::alloc::Global;
 
-/// States of more standings than these are a part. Where no other value is read after an extraction there are
+/// States of more points than these are a part. Where no other value is read after an extraction there are
 /// no more than half as many, for each place has one value.
 const PART_STANDINGS: usize = 131_072;
 
@@ -31,7 +31,7 @@ fn merged(alloc: Global, state: State) -> Result<State, NoMemory>
 fn merged_states(alloc: Global, states: States) -> Result<States, NoMemory>
     requires small { EachState (λ values. ⊤) (λ values p. p < 2 ^ 63) states }
     ensures same { IfOk result (AreSame states) }
-    ensures few { (listed : List Standing) → EachState (λ values. ⊤) (λ values p. Contains listed (standing values p)) states
+    ensures few { (listed : List Point) → EachState (λ values. ⊤) (λ values p. Contains listed (point values p)) states
         → IfOk result (λ merged. merged.place_count ≤ length listed) }
 {
     let mut done = States::new(alloc);
@@ -50,9 +50,9 @@ pub(crate) fn taken_part(alloc: Global, states: &mut States) -> Result<Option<St
     ensures part { IfOk result (λ part. IfSome part (AreSame states.old)) }
     ensures nowhere { IfOk result (λ part. IfSome part (λ taken. (values : List ℕ) → places_at states.new values ≡ None)) }
     ensures same { IfOk result (λ part. IfNone part (AreSame states.old states.new)) }
-    ensures few { IfOk result (λ part. states.new.place_count ≤ 2 * part_standings) }
-    ensures many { (listed : List Standing) → EachState (λ values. ⊤) (λ values p. Contains listed (standing values p)) states.old
-        → IfOk result (λ part. IfSome part (λ taken. part_standings < length listed)) }
+    ensures few { IfOk result (λ part. states.new.place_count ≤ 2 * part_points) }
+    ensures many { (listed : List Point) → EachState (λ values. ⊤) (λ values p. Contains listed (point values p)) states.old
+        → IfOk result (λ part. IfSome part (λ taken. part_points < length listed)) }
 {
     let added = states.place_count();
     if added <= 2 * PART_STANDINGS {

@@ -15,7 +15,7 @@ ghost use Rattle.option_eval.specs.Ready.{IsReady, pattern_of};
 ghost use Rattle.option_eval.specs.RuleSet.{IsMade};
 ghost use Rattle.option_eval.specs.States.{places_at, AreAmong, AreWithin, HaveValues, MatchesFromSome};
 ghost use Rattle.option_eval.specs.Trying.{OfMade, OfFewValues, OfAllValues, IsPartPassed};
-ghost use Rattle.option_eval.specs.Walks.{MatchesFromOne, ExtractsNothing, HasEachValueList, visits_of, visits_apart, part_standings, behind_extraction};
+ghost use Rattle.option_eval.specs.Walks.{MatchesFromOne, ExtractsNothing, HasEachValueList, visits_of, visits_apart, part_points, after_extraction};
 
 use crate::Steps;
 use crate::asked::Asked;
@@ -24,7 +24,7 @@ use crate::known::{Known, has_free};
 use crate::made::Made;
 use crate::part::taken_part;
 use crate::states::States;
-use crate::walk::{Behind, is_state_walked, is_walked};
+use crate::walk::{AfterExtraction, is_state_walked, is_walked};
 use edge_io::{NoMemory, Pattern};
 use rule_types::Opt;
 use std::alloc::Global;
@@ -49,7 +49,7 @@ pub(crate) fn is_passed<P: Pattern, L: Ledger>(
         OfAllValues (HasEachValueList means payload.now options.now)
         (λ lists. visits.new ≤ visits.old + visits_apart lists options.now (length payload.now))) }
 {
-    let mut behind = Behind {
+    let mut after = AfterExtraction {
         states: States::new(alloc),
         known: Known::nothing(alloc),
     };
@@ -58,15 +58,15 @@ pub(crate) fn is_passed<P: Pattern, L: Ledger>(
         places: &[0],
         values: &[0, 0],
     };
-    if is_walked(alloc, options, made, &at, &mut behind, visits)? {
+    if is_walked(alloc, options, made, &at, &mut after, visits)? {
         return Ok(true);
     }
-    is_passed_behind(alloc, options, made, payload, behind.states, visits)
+    is_passed_after(alloc, options, made, payload, after.states, visits)
 }
 
 /// Whether a way leads through the options after the first extraction, from some of the states there.
 #[cycle(parts)]
-fn is_passed_behind<P: Pattern, L: Ledger>(
+fn is_passed_after<P: Pattern, L: Ledger>(
     alloc: Global,
     options: &[Opt],
     made: &[Made<P>],
@@ -78,16 +78,16 @@ fn is_passed_behind<P: Pattern, L: Ledger>(
     requires inside { AreWithin (length payload.now) states }
     requires nowhere { ExtractsNothing options.now → (values : List ℕ) → places_at states values ≡ None }
     ensures right { OfMade P.finds options.now made.now (λ means. IfOk result (λ passed. IsTrue passed
-        ↔ MatchesFromSome means payload.now (behind_extraction options.now) states)) }
+        ↔ MatchesFromSome means payload.now (after_extraction options.now) states)) }
     ensures unvisited { ExtractsNothing options.now → visits.new ≡ visits.old }
     ensures bounded { OfMade P.finds options.now made.now (λ means.
-        OfFewValues (λ lists listed. HaveValues means payload.now lists listed (behind_extraction options.now) states)
-        (λ lists. visits.new ≤ visits.old + lists * visits_of (behind_extraction options.now) (length payload.now))) }
+        OfFewValues (λ lists listed. HaveValues means payload.now lists listed (after_extraction options.now) states)
+        (λ lists. visits.new ≤ visits.old + lists * visits_of (after_extraction options.now) (length payload.now))) }
     ensures bounded_in_parts { OfMade P.finds options.now made.now (λ means.
-        OfAllValues (λ lists listed. HaveValues means payload.now lists listed (behind_extraction options.now) states)
-        (λ lists. visits.new ≤ visits.old + lists * visits_apart lists (behind_extraction options.now) (length payload.now))) }
+        OfAllValues (λ lists listed. HaveValues means payload.now lists listed (after_extraction options.now) states)
+        (λ lists. visits.new ≤ visits.old + lists * visits_apart lists (after_extraction options.now) (length payload.now))) }
 {
-    let Some((later, made_later)) = behind_extraction(options, made) else {
+    let Some((later, made_later)) = after_extraction(options, made) else {
         return Ok(false);
     };
     is_passed_from(alloc, later, made_later, payload, states, visits)
@@ -115,22 +115,22 @@ fn is_passed_from<P: Pattern, L: Ledger>(
         (λ lists. visits.new ≤ visits.old + lists * visits_apart lists options.now (length payload.now))) }
 {
     let known = nothing_known(alloc, &states, options)?;
-    let mut behind = Behind {
+    let mut after = AfterExtraction {
         states: States::new(alloc),
         known,
     };
     let mut left = states;
     while let Some(state) = left.take_first() {
-        let walked = is_state_walked(alloc, options, made, payload, state, &mut behind, visits)?;
+        let walked = is_state_walked(alloc, options, made, payload, state, &mut after, visits)?;
         if walked {
             return Ok(true);
         }
-        let passed = is_part_passed(alloc, options, made, payload, &mut behind.states, visits)?;
+        let passed = is_part_passed(alloc, options, made, payload, &mut after.states, visits)?;
         if passed {
             return Ok(true);
         }
     }
-    is_passed_behind(alloc, options, made, payload, behind.states, visits)
+    is_passed_after(alloc, options, made, payload, after.states, visits)
 }
 
 /// Whether a way leads through the options after the first extraction from the states there, if they are a
@@ -148,22 +148,22 @@ fn is_part_passed<P: Pattern, L: Ledger>(
     requires inside { AreWithin (length payload.now) states.old }
     requires nowhere { ExtractsNothing options.now → (values : List ℕ) → places_at states.old values ≡ None }
     ensures right { OfMade P.finds options.now made.now (λ means.
-        IfOk result (IsPartPassed means payload.now (behind_extraction options.now) states.old states.new)) }
+        IfOk result (IsPartPassed means payload.now (after_extraction options.now) states.old states.new)) }
     ensures among { IfOk result (λ passed. AreAmong states.new states.old) }
-    ensures few { IfOk result (λ passed. states.new.place_count ≤ 2 * part_standings) }
+    ensures few { IfOk result (λ passed. states.new.place_count ≤ 2 * part_points) }
     ensures bounded { (means : Means)
-        → OfFewValues (λ lists listed. HaveValues means payload.now lists listed (behind_extraction options.now) states.old)
+        → OfFewValues (λ lists listed. HaveValues means payload.now lists listed (after_extraction options.now) states.old)
         (λ lists. visits.new ≡ visits.old) }
     ensures bounded_in_parts { OfMade P.finds options.now made.now (λ means.
-        OfAllValues (λ lists listed. HaveValues means payload.now lists listed (behind_extraction options.now) states.old)
-        (λ lists. visits.new ≤ visits.old + lists * visits_apart lists (behind_extraction options.now) (length payload.now))) }
+        OfAllValues (λ lists listed. HaveValues means payload.now lists listed (after_extraction options.now) states.old)
+        (λ lists. visits.new ≤ visits.old + lists * visits_apart lists (after_extraction options.now) (length payload.now))) }
     ensures forgotten { IfOk result (λ passed. (visits.new ≡ visits.old)
         ⊎ ((values : List ℕ) → places_at states.new values ≡ None)) }
 {
     let part = taken_part(alloc, states)?;
     match part {
         None => Ok(false),
-        Some(taken) => is_passed_behind(alloc, options, made, payload, taken, visits),
+        Some(taken) => is_passed_after(alloc, options, made, payload, taken, visits),
     }
 }
 
@@ -180,19 +180,19 @@ fn nothing_known(alloc: Global, states: &States, options: &[Opt]) -> Result<Know
 }
 
 /// The options after the first that extracts a value, and what was made of them.
-fn behind_extraction<'a, 'b, P>(
+fn after_extraction<'a, 'b, P>(
     options: &'a [Opt],
     made: &'b [Made<P>],
 ) -> Option<(&'a [Opt], &'b [Made<P>])>
     requires ready { AllZip IsReady options.now made.now }
     ensures none { IfNone result (ExtractsNothing options.now) }
-    ensures some { IfSome result (λ behind. ¬ ExtractsNothing options.now) }
-    ensures options { IfSome result (λ behind. behind.0.now ≡ behind_extraction options.now) }
-    ensures fewer { IfSome result (λ behind. length behind.0.now < length options.now) }
-    ensures ready { IfSome result (λ behind. AllZip IsReady behind.0.now behind.1.now) }
+    ensures some { IfSome result (λ after. ¬ ExtractsNothing options.now) }
+    ensures options { IfSome result (λ after. after.0.now ≡ after_extraction options.now) }
+    ensures fewer { IfSome result (λ after. length after.0.now < length options.now) }
+    ensures ready { IfSome result (λ after. AllZip IsReady after.0.now after.1.now) }
     ensures made { (finds : P → List ℕ → Option Span) → (means : Means)
         → AllZip (IsMade finds means) options.now (map pattern_of made.now)
-        → IfSome result (λ behind. AllZip (IsMade finds means) behind.0.now (map pattern_of behind.1.now)) }
+        → IfSome result (λ after. AllZip (IsMade finds means) after.0.now (map pattern_of after.1.now)) }
 {
     let [option, later @ ..] = options else {
         return None;
@@ -203,6 +203,6 @@ fn behind_extraction<'a, 'b, P>(
     if is_extract(option) {
         Some((later, made_later))
     } else {
-        behind_extraction(later, made_later)
+        after_extraction(later, made_later)
     }
 }

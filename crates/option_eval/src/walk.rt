@@ -29,7 +29,7 @@ use std::sync::ledger::Ledger;
 /// What a walk up to the first extraction leaves: the states after it, and where options led that lead alike
 /// from each state.
 #[derive(Drop)]
-pub(crate) struct Behind {
+pub(crate) struct AfterExtraction {
     pub states: States,
     pub known: Known,
 }
@@ -42,24 +42,24 @@ pub(crate) fn is_state_walked<P: Pattern, L: Ledger>(
     made: &[Made<P>],
     payload: &[u8],
     state: State,
-    behind: &mut Behind,
+    after: &mut AfterExtraction,
     visits: &mut Steps<L>,
 ) -> Result<bool, NoMemory>
     requires ready { AllZip IsReady options.now made.now }
     requires inside { (p : ℕ) → Contains state.places.items p → p ≤ length payload.now }
-    requires known_rising { AreRising (length payload.now + 1) behind.old.known }
+    requires known_rising { AreRising (length payload.now + 1) after.old.known }
     ensures right { OfMade P.finds options.now made.now (λ means.
-        AreKnown means payload.now options.now behind.old.known
+        AreKnown means payload.now options.now after.old.known
         → IfOk result (IsWalked means options.now (beginning payload.now state.values state.places.items)
-        behind.old.states behind.new.states)) }
-    ensures inside { AreWithin (length payload.now) behind.old.states
-        → IfOk result (λ walked. AreWithin (length payload.now) behind.new.states) }
-    ensures nowhere { ExtractsNothing options.now → behind.new.states ≡ behind.old.states }
+        after.old.states after.new.states)) }
+    ensures inside { AreWithin (length payload.now) after.old.states
+        → IfOk result (λ walked. AreWithin (length payload.now) after.new.states) }
+    ensures nowhere { ExtractsNothing options.now → after.new.states ≡ after.old.states }
     ensures bounded { visits.new ≤ visits.old + visits_of (upto_extraction options.now) (length payload.now) }
     ensures known { OfMade P.finds options.now made.now (λ means.
-        AreKnown means payload.now options.now behind.old.known
-        → IfOk result (λ walked. AreKnown means payload.now options.now behind.new.known)) }
-    ensures known_rising { IfOk result (λ walked. AreRising (length payload.now + 1) behind.new.known) }
+        AreKnown means payload.now options.now after.old.known
+        → IfOk result (λ walked. AreKnown means payload.now options.now after.new.known)) }
+    ensures known_rising { IfOk result (λ walked. AreRising (length payload.now + 1) after.new.known) }
 {
     let places = rising(alloc, sorted(state.places).as_slice())?;
     if places.is_empty() {
@@ -70,7 +70,7 @@ pub(crate) fn is_state_walked<P: Pattern, L: Ledger>(
         places: places.as_slice(),
         values: &state.values,
     };
-    is_walked(alloc, options, made, &at, behind, visits)
+    is_walked(alloc, options, made, &at, after, visits)
 }
 
 /// Whether a way leads through the options from a set of places with these values.
@@ -80,25 +80,25 @@ pub(crate) fn is_walked<P: Pattern, L: Ledger>(
     options: &[Opt],
     made: &[Made<P>],
     at: &Asked,
-    behind: &mut Behind,
+    after: &mut AfterExtraction,
     visits: &mut Steps<L>,
 ) -> Result<bool, NoMemory>
     requires ready { AllZip IsReady options.now made.now }
     requires rising { IsRising 0 at.now.places.now (length at.now.payload.now + 1) }
-    requires known_rising { AreRising (length at.now.payload.now + 1) behind.old.known }
+    requires known_rising { AreRising (length at.now.payload.now + 1) after.old.known }
     ensures right { OfMade P.finds options.now made.now (λ means.
-        AreKnown means at.now.payload.now options.now behind.old.known
+        AreKnown means at.now.payload.now options.now after.old.known
         → IfOk result (IsWalked means options.now (beginning at.now.payload.now at.now.values.now at.now.places.now)
-        behind.old.states behind.new.states)) }
-    ensures inside { AreWithin (length at.now.payload.now) behind.old.states
-        → IfOk result (λ walked. AreWithin (length at.now.payload.now) behind.new.states) }
-    ensures nowhere { ExtractsNothing options.now → behind.new.states ≡ behind.old.states }
+        after.old.states after.new.states)) }
+    ensures inside { AreWithin (length at.now.payload.now) after.old.states
+        → IfOk result (λ walked. AreWithin (length at.now.payload.now) after.new.states) }
+    ensures nowhere { ExtractsNothing options.now → after.new.states ≡ after.old.states }
     ensures bounded { visits.new ≤ visits.old + visits_of (upto_extraction options.now) (length at.now.payload.now) }
     ensures known { OfMade P.finds options.now made.now (λ means.
-        AreKnown means at.now.payload.now options.now behind.old.known
-        → IfOk result (λ walked. AreKnown means at.now.payload.now options.now behind.new.known)) }
+        AreKnown means at.now.payload.now options.now after.old.known
+        → IfOk result (λ walked. AreKnown means at.now.payload.now options.now after.new.known)) }
     ensures kept { IfOk result (λ walked. KeepsKnown (length options.now) (length at.now.payload.now + 1)
-        behind.old.known behind.new.known) }
+        after.old.known after.new.known) }
 {
     let [option, later @ ..] = options else {
         return Ok(true);
@@ -120,12 +120,12 @@ pub(crate) fn is_walked<P: Pattern, L: Ledger>(
             align: *align,
             read: names_read(later),
         };
-        extraction.extract(at.payload, at.places, at.values, &mut behind.states, visits)?;
+        extraction.extract(at.payload, at.places, at.values, &mut after.states, visits)?;
         return Ok(false);
     }
-    let next = next_known(alloc, option, kept, later, at, &mut behind.known, visits)?;
-    let walked = is_walked_from(alloc, &next, later, made_later, at, behind, visits)?;
-    behind.known.keep(option, later.len(), next);
+    let next = next_known(alloc, option, kept, later, at, &mut after.known, visits)?;
+    let walked = is_walked_from(alloc, &next, later, made_later, at, after, visits)?;
+    after.known.keep(option, later.len(), next);
     Ok(walked)
 }
 
@@ -137,29 +137,29 @@ fn is_walked_from<P: Pattern, L: Ledger>(
     options: &[Opt],
     made: &[Made<P>],
     at: &Asked,
-    behind: &mut Behind,
+    after: &mut AfterExtraction,
     visits: &mut Steps<L>,
 ) -> Result<bool, NoMemory>
     requires ready { AllZip IsReady options.now made.now }
     requires rising { IsRising 0 (next_set next.now at.now.places.now) (length at.now.payload.now + 1) }
-    requires known_rising { AreRising (length at.now.payload.now + 1) behind.old.known }
+    requires known_rising { AreRising (length at.now.payload.now + 1) after.old.known }
     ensures right { OfMade P.finds options.now made.now (λ means.
-        AreKnown means at.now.payload.now options.now behind.old.known
+        AreKnown means at.now.payload.now options.now after.old.known
         → IfOk result (IsWalked means options.now
         (beginning at.now.payload.now at.now.values.now (next_set next.now at.now.places.now))
-        behind.old.states behind.new.states)) }
-    ensures inside { AreWithin (length at.now.payload.now) behind.old.states
-        → IfOk result (λ walked. AreWithin (length at.now.payload.now) behind.new.states) }
-    ensures nowhere { ExtractsNothing options.now → behind.new.states ≡ behind.old.states }
+        after.old.states after.new.states)) }
+    ensures inside { AreWithin (length at.now.payload.now) after.old.states
+        → IfOk result (λ walked. AreWithin (length at.now.payload.now) after.new.states) }
+    ensures nowhere { ExtractsNothing options.now → after.new.states ≡ after.old.states }
     ensures bounded { visits.new ≤ visits.old + visits_of (upto_extraction options.now) (length at.now.payload.now) }
     ensures known { OfMade P.finds options.now made.now (λ means.
-        AreKnown means at.now.payload.now options.now behind.old.known
-        → IfOk result (λ walked. AreKnown means at.now.payload.now options.now behind.new.known)) }
+        AreKnown means at.now.payload.now options.now after.old.known
+        → IfOk result (λ walked. AreKnown means at.now.payload.now options.now after.new.known)) }
     ensures kept { IfOk result (λ walked. KeepsKnown (length options.now) (length at.now.payload.now + 1)
-        behind.old.known behind.new.known) }
+        after.old.known after.new.known) }
 {
     match next {
-        Next::Same => is_walked(alloc, options, made, at, behind, visits),
+        Next::Same => is_walked(alloc, options, made, at, after, visits),
         Next::To(next) => {
             if next.is_empty() {
                 return Ok(false);
@@ -169,7 +169,7 @@ fn is_walked_from<P: Pattern, L: Ledger>(
                 places: next.as_slice(),
                 values: at.values,
             };
-            is_walked(alloc, options, made, &there, behind, visits)
+            is_walked(alloc, options, made, &there, after, visits)
         }
     }
 }

@@ -41,7 +41,7 @@ at_reversed {T} some taken falls i j d up within =
     let back = ap number (get_or-reverse taken j some (omega arith)) in
     elim (cases_lt i j) [
       | inl before ↦ omega (arith, falls (length taken - 1 - j) (length taken - 1 - i) some (omega arith) (omega arith), low, high, front, back)
-      | inr behind ↦ let here : i ≡ j = omega arith in rw here (omega arith)
+      | inr after ↦ let here : i ≡ j = omega arith in rw here (omega arith)
     ]
 
 IsNonDecreasing-reversed : {T : Type 0} (taken : List (Numbered T)) → Falls taken → IsNonDecreasing (numbers (reverse taken))

@@ -17,12 +17,12 @@ use Rattle.ordered_merge.proofs.Numbers.{apart_above, eqb_flips}
 
 -- what a number finds at the first entry or after it
 at_first : {T : Type 0} (first entry : Numbered T) (entries : List (Numbered T)) (number : ℕ) (same : Bool) → eqb first.number number ≡ same → cond same (Some first) (entry_of entries number) ≡ Some entry → (entry_of entries number ≡ Some entry → Contains entries entry × (entry.number ≡ number)) → Contains (first ∷ entries) entry × (entry.number ≡ number)
-at_first {T} first entry entries number true test found behind =
+at_first {T} first entry entries number true test found after =
     let is : first ≡ entry = same_Some first entry found in
     let numbered : first.number ≡ number = grind (arith, nat_tests) in
     ((0, omega arith, is), ap (λ (e : Numbered T). e.number) (sym is) ∙ numbered)
-at_first first entry entries number false test found behind =
-    let has = behind found in
+at_first first entry entries number false test found after =
+    let has = after found in
     ((suc has.0.0, omega (arith, has.0.1), has.0.2), has.1)
 
 -- what a number finds has it and is in the list
@@ -86,14 +86,14 @@ least_or_same x z xs up (zero, within, is) = omega (arith, is)
 least_or_same x z xs up (suc k, within, is) = let above = least x z xs up (k, omega arith, is) in omega arith
 
 -- a number above the first is after it
-behind_first : (y z : ℕ) (ys : List ℕ) → y < z → Contains (y ∷ ys) z → Contains ys z
-behind_first y z ys above (zero, within, is) = absurd (omega (arith, is))
-behind_first y z ys above (suc k, within, is) = (k, omega arith, is)
+after_the_first : (y z : ℕ) (ys : List ℕ) → y < z → Contains (y ∷ ys) z → Contains ys z
+after_the_first y z ys above (zero, within, is) = absurd (omega (arith, is))
+after_the_first y z ys above (suc k, within, is) = (k, omega arith, is)
 
 tails_have : (x y : ℕ) (xs ys : List ℕ) → x ≡ y → Rises (x ∷ xs) → ((z : ℕ) → Contains (x ∷ xs) z → Contains (y ∷ ys) z) → (z : ℕ) → Contains xs z → Contains ys z
 tails_have x y xs ys same up there z has =
     let above = least x z xs up has in
-    behind_first y z ys (omega arith) (there z (suc has.0, omega (arith, has.1), has.2))
+    after_the_first y z ys (omega arith) (there z (suc has.0, omega (arith, has.1), has.2))
 
 -- ascending lists that have the same numbers are one list
 same_lists : (xs ys : List ℕ) → Rises xs → Rises ys → ((z : ℕ) → Contains xs z → Contains ys z) → ((z : ℕ) → Contains ys z → Contains xs z) → xs ≡ ys

@@ -10,5 +10,5 @@ mod greatest;
 mod merging;
 mod numbered;
 
-pub use merging::{merge, permuted_numbers_stand_apart};
+pub use merging::{merge, permuted_numbers_are_apart};
 pub use numbered::Numbered;

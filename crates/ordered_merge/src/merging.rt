@@ -66,7 +66,7 @@ pub fn merge<T: Drop>(
 
 /// A law for callers: numbers that are those of an ascending list, in another order, are all different, as
 /// `merge` asks of the numbers of its parts.
-pub fn permuted_numbers_stand_apart()
+pub fn permuted_numbers_are_apart()
     ensures { (given permuted : List ℕ) → IsStrictlyIncreasing given
         → IsPermutation given permuted → IsDistinct nat_eq permuted }
 {}

@@ -13,7 +13,7 @@ pub row-bytes : (low high : ℕ) (pieces : List Piece) → IsRow low pieces high
 row-bytes low high [] row = omega (arith, row)
 row-bytes low high (piece ∷ pieces) row =
     let rest = row-bytes (piece_end piece) high pieces row.2 in
-    let behind = row.0 in
-    omega (arith, rest, behind)
+    let after = row.0 in
+    omega (arith, rest, after)
 
 pub ruleset few = (row-few, row-bytes)

@@ -45,13 +45,13 @@ abbrev pub stronger : Preference → Segment → Segment → Segment
 stronger preference old new = if wins preference (bounds_of old) (bounds_of new) then new else old
 
 -- of segments in order of arrival, the one that is kept: the first, until a later one takes its place
-abbrev pub standing : Preference → List Segment → Option Segment
-standing preference [] = None
-standing preference (first ∷ later) = Some (fold (stronger preference) first later)
+abbrev pub winner : Preference → List Segment → Option Segment
+winner preference [] = None
+winner preference (first ∷ later) = Some (fold (stronger preference) first later)
 
 -- of the segments that cover the place, the one that is kept there
 unfoldable pub chosen_segment : Preference → List Segment → ℕ → Option Segment
-chosen_segment preference segments place = standing preference (filter (λ segment. covers segment place) segments)
+chosen_segment preference segments place = winner preference (filter (λ segment. covers segment place) segments)
 
 -- the byte that the host keeps at the place, if a segment covers it
 unfoldable pub chosen_byte : Preference → List Segment → ℕ → Option ℕ

@@ -6,7 +6,7 @@ use Rattle.std.specs.Prelude.{◌≡◌, ℕ, ◌+◌, ◌-◌, ◌<◌, ◌≤�
 use Rattle.edge_io.specs.declared.policy.Preference.{Preference}
 use Rattle.piece_list.specs.Pieces.{Pieces}
 use Rattle.overlap_core.specs.declared.room.Buffers.{Buffers}
-use Rattle.overlap_core.specs.declared.room.Buffers.TheVariants.{Among, Behind}
+use Rattle.overlap_core.specs.declared.room.Buffers.TheVariants.{Among, AfterAll}
 use Rattle.overlap_core.specs.declared.segment.Bounds.{Bounds}
 use Rattle.overlap_core.specs.Segments.{Segment}
 use Rattle.overlap_core.specs.Overlap.{bounds_of, end_of, wins}
@@ -71,7 +71,7 @@ gap_sizes low high [] = gap_size low high
 gap_sizes low high (piece ∷ pieces) = gap_size low (min piece.start high) ++ gap_sizes (piece_end piece) high pieces
 
 -- the list's place is between these pieces
-pub record StandsAt (pieces : Pieces Piece) (front rest : List Piece) : Type 0 where
+pub record Between (pieces : Pieces Piece) (front rest : List Piece) : Type 0 where
   pub list : pieces.list ≡ front ++ rest
   pub place : pieces.place ≡ length front
 
@@ -80,7 +80,7 @@ pub record StandsAt (pieces : Pieces Piece) (front rest : List Piece) : Type 0 w
 pub record IsReady (pieces : Pieces Piece) (gaps : List (List ℕ)) (low high : ℕ) : Type 0 where
   pub front : List Piece
   pub rest : List Piece
-  pub stands : StandsAt pieces front rest
+  pub between : Between pieces front rest
   pub top : ℕ
   pub row : IsRow low rest top
   pub sizes : map length gaps ≡ gap_sizes low high rest
@@ -110,14 +110,14 @@ pub record IsRoomAmong (floor : ℕ) (bounds : Bounds) (pieces : Pieces Piece) (
 
 -- a segment of these bounds, which lies after all pieces, can be laid without further memory: the pieces end at
 -- `top` at the latest, and there is a node, and a buffer of its length
-pub record IsRoomBehind (top : ℕ) (bounds : Bounds) (pieces : Pieces Piece) (buffer : List ℕ) : Type 0 where
-  pub behind : top ≤ bounds.start
+pub record IsRoomAfter (top : ℕ) (bounds : Bounds) (pieces : Pieces Piece) (buffer : List ℕ) : Type 0 where
+  pub after : top ≤ bounds.start
   pub size : bounds.start + length buffer ≡ bounds.end
   pub node : 0 < pieces.spare
 
 -- there is room for a segment of these bounds, after all pieces or among them, by the buffers that were made
 abbrev pub IsRoomFor : ℕ → ℕ → Bounds → Pieces Piece → Buffers → Type 0
-IsRoomFor floor top bounds pieces (Behind buffer) = IsRoomBehind top bounds pieces buffer
+IsRoomFor floor top bounds pieces (AfterAll buffer) = IsRoomAfter top bounds pieces buffer
 IsRoomFor floor top bounds pieces (Among buffers) = IsRoomAmong floor bounds pieces buffers.items
 
 -- other pieces in a row that tell the same of every place

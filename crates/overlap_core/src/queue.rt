@@ -7,7 +7,7 @@ ghost use Rattle.overlap_core.specs.QueueState.{byte_of, with_room, with_segment
 ghost use Rattle.overlap_core.specs.Runs.{AppendsBytes, AppendsRuns, AreBytes};
 
 use crate::arriving::{Arrivals, Arriving};
-use crate::room::{Buffers, add_behind, lay_over, room_for};
+use crate::room::{Buffers, add_after, lay_over, room_for};
 use crate::runs::{append_places, byte_of, filled, take_below};
 use crate::{Bounds, Piece, Run};
 use edge_io::{NoMemory, Preference};
@@ -105,7 +105,7 @@ impl Queue {
         ensures err { OnErr result (self.new ≡ with_room self.old None) }
     {
         if self.covered_end() <= start {
-            return self.insert_behind(start, bytes);
+            return self.insert_after(start, bytes);
         }
         self.reserve(start, bytes.len())?;
         self.insert_reserved(start, bytes);
@@ -113,8 +113,8 @@ impl Queue {
     }
 
     /// Makes room for a segment after all that came, and adds it, in one step.
-    fn insert_behind(&mut self, start: u64, bytes: &[u8]) -> Result<(), NoMemory>
-        requires behind { covered_end self.old.floor self.old.segments ≤ start }
+    fn insert_after(&mut self, start: u64, bytes: &[u8]) -> Result<(), NoMemory>
+        requires after { covered_end self.old.floor self.old.segments ≤ start }
         requires some { 0 < length bytes.now }
         requires fits { start + length bytes.now < 2 ^ 64 }
         ensures ok { OnOk result (self.new ≡ with_segment self.old (record { start = start; bytes = bytes.now })) }
@@ -122,7 +122,7 @@ impl Queue {
     {
         self.room = None;
         let new = Arriving::new(start, bytes);
-        add_behind(self.alloc, &mut self.pieces, &new)?;
+        add_after(self.alloc, &mut self.pieces, &new)?;
         self.top = new.bounds().end;
         self.arrivals = self.arrivals.with(&new);
         Ok(())

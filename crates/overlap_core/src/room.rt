@@ -17,7 +17,7 @@ use std::collections::VecDeque;
 #[derive(Drop)]
 pub enum Buffers {
     /// The segment lies after all pieces: one buffer.
-    Behind(Text),
+    AfterAll(Text),
     /// The segment may lie anywhere: a buffer for each gap that it fills.
     Among(VecDeque<Text>),
 }
@@ -36,15 +36,15 @@ pub fn room_for(
     ensures room { IfOk result (λ buffers. IsRow floor pieces.old.list top → IsRoomFor floor top bounds pieces.new buffers) }
 {
     if top <= bounds.start {
-        let buffer = room_behind(alloc, pieces, bounds)?;
-        return Ok(Buffers::Behind(buffer));
+        let buffer = room_after(alloc, pieces, bounds)?;
+        return Ok(Buffers::AfterAll(buffer));
     }
     let buffers = room_among(alloc, pieces, floor, bounds)?;
     Ok(Buffers::Among(buffers))
 }
 
 /// Makes room for a segment of these bounds after all pieces: a node, and a buffer of its length.
-fn room_behind(
+fn room_after(
     alloc: Global,
     pieces: &mut PieceList<Piece>,
     bounds: Bounds,
@@ -96,13 +96,13 @@ pub fn lay_over(
         → HoldChosen preference (segments ++ new.now ∷ []) floor pieces.new.list }
 {
     match buffers {
-        Buffers::Behind(buffer) => lay_behind(pieces, buffer, new),
+        Buffers::AfterAll(buffer) => lay_after(pieces, buffer, new),
         Buffers::Among(buffers) => lay_among(pieces, buffers, preference, floor, new),
     }
 }
 
 /// Puts a segment after the last piece. Takes no memory.
-fn lay_behind(pieces: &mut PieceList<Piece>, buffer: Text, new: &Arriving<'_>)
+fn lay_after(pieces: &mut PieceList<Piece>, buffer: Text, new: &Arriving<'_>)
     requires size { new.now.start + length buffer ≡ end_of new.now }
     requires node { 0 < pieces.old.spare }
     ensures { pieces.new.list ≡ pieces.old.list ++ part_of new.now new.now.start (end_of new.now) ∷ [] }
@@ -112,7 +112,7 @@ fn lay_behind(pieces: &mut PieceList<Piece>, buffer: Text, new: &Arriving<'_>)
 }
 
 /// Puts a segment after the last piece without room that was made before. Without memory the list stays.
-pub fn add_behind(
+pub fn add_after(
     alloc: Global,
     pieces: &mut PieceList<Piece>,
     new: &Arriving<'_>,

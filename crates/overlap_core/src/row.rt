@@ -2,7 +2,7 @@
 ghost use Rattle.std.specs.Prelude.{◌≡◌, ℕ, ◌+◌, ◌-◌, ◌^◌, ◌<◌, ◌≤◌, ◌↔◌, ◌++◌, ◌∷◌, [], List, None, Some, IsTrue, IfOk, IfSome, MatchOption, OnOk, OnErr, OnSome, length, map, slice_get};
 ghost use Rattle.overlap_core.specs.Overlap.{end_of};
 ghost use Rattle.overlap_core.specs.Pieces.{IsRow, Piece as Kept, piece_end};
-ghost use Rattle.overlap_core.specs.Rows.{BeginBelow, BeginFrom, cut_row, gap_piece, gap_size, gap_sizes, IsReady, IsRecut, laid, NextBelow, overlaid, parts, raised, StandsAt};
+ghost use Rattle.overlap_core.specs.Rows.{BeginBelow, BeginFrom, cut_row, gap_piece, gap_size, gap_sizes, IsReady, IsRecut, laid, NextBelow, overlaid, parts, raised, Between};
 
 use crate::arriving::Arriving;
 use crate::{Bounds, Piece};
@@ -65,7 +65,7 @@ pub fn seek(pieces: &mut PieceList<Piece>, at: u64)
 /// an error only the place has changed.
 fn cut_before(alloc: Global, pieces: &mut PieceList<Piece>, at: u64) -> Result<(), NoMemory>
     requires { 0 < pieces.old.spare }
-    ensures ok { OnOk result ((front rest : List Kept) (last : Kept) → StandsAt pieces.old (front ++ last ∷ []) rest
+    ensures ok { OnOk result ((front rest : List Kept) (last : Kept) → Between pieces.old (front ++ last ∷ []) rest
         → pieces.new.list ≡ front ++ (parts at last ++ rest)) }
     ensures first { OnOk result (pieces.old.place ≡ 0 → pieces.new.list ≡ pieces.old.list) }
     ensures err { OnErr result (pieces.new.list ≡ pieces.old.list) }
@@ -98,7 +98,7 @@ pub fn cut(alloc: Global, pieces: &mut PieceList<Piece>, at: u64) -> Result<(), 
 
 /// The bounds of the piece at the place, if it begins below `high`.
 fn next_below(pieces: &PieceList<Piece>, high: u64) -> Option<Bounds>
-    ensures next { (front rest : List Kept) → StandsAt pieces.now front rest → NextBelow rest high result }
+    ensures next { (front rest : List Kept) → Between pieces.now front rest → NextBelow rest high result }
     ensures here { OnSome result (pieces.now.place < length pieces.now.list) }
 {
     match pieces.peek() {
@@ -134,7 +134,7 @@ pub fn buffers_for(
     high: u64,
 ) -> Result<VecDeque<Text>, NoMemory>
     ensures list { pieces.new.list ≡ pieces.old.list }
-    ensures sizes { IfOk result (λ buffers. (front rest : List Kept) (top : ℕ) → StandsAt pieces.old front rest
+    ensures sizes { IfOk result (λ buffers. (front rest : List Kept) (top : ℕ) → Between pieces.old front rest
         → IsRow low rest top → map length buffers.items ≡ gap_sizes low high rest) }
 {
     let mut buffers = VecDeque::new(alloc);
@@ -160,8 +160,8 @@ fn fill_gap(
     requires to { high ≤ end_of new.now }
     requires ready { (sizes : List ℕ) × (map length buffers.old.items ≡ gap_size low high ++ sizes) }
     requires nodes { length buffers.old.items ≤ pieces.old.spare }
-    ensures list { (front rest : List Kept) → StandsAt pieces.old front rest
-        → StandsAt pieces.new (front ++ gap_piece new.now low high) rest }
+    ensures list { (front rest : List Kept) → Between pieces.old front rest
+        → Between pieces.new (front ++ gap_piece new.now low high) rest }
     ensures sizes { (sizes : List ℕ) → map length buffers.old.items ≡ gap_size low high ++ sizes
         → map length buffers.new.items ≡ sizes }
     ensures left { length buffers.new.items ≤ pieces.new.spare }
@@ -176,8 +176,8 @@ fn fill_gap(
 
 /// Lays the new segment over the piece at the place, and is then after it.
 fn overlay(pieces: &mut PieceList<Piece>, preference: Preference, new: &Arriving<'_>)
-    ensures list { (front rest : List Kept) (piece : Kept) → StandsAt pieces.old front (piece ∷ rest)
-        → StandsAt pieces.new (front ++ overlaid preference new.now piece ∷ []) rest }
+    ensures list { (front rest : List Kept) (piece : Kept) → Between pieces.old front (piece ∷ rest)
+        → Between pieces.new (front ++ overlaid preference new.now piece ∷ []) rest }
     ensures spare { pieces.old.spare ≤ pieces.new.spare }
 {
     if let Some(piece) = pieces.remove_here() {
@@ -196,7 +196,7 @@ pub fn lay(
 )
     requires from { new.now.start ≤ low }
     requires ready { IsReady pieces.old buffers.items low (end_of new.now) }
-    ensures { (front rest : List Kept) → StandsAt pieces.old front rest
+    ensures { (front rest : List Kept) → Between pieces.old front rest
         → pieces.new.list ≡ front ++ laid preference new.now low rest }
 {
     let (mut buffers, mut low) = (buffers, low);

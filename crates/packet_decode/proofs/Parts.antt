@@ -49,7 +49,7 @@ part_be32 {bytes = bytes} {part = part} p i place at within =
 pub part_slice : {bytes part : List ℕ} {start stop : ℕ} → IsPart bytes part start stop → (i j from to : ℕ) → from ≡ start + i → to ≡ start + j → to ≤ stop → slice part i j ≡ slice bytes from to
 part_slice {bytes = bytes} {part = part} {start = start} {stop = stop} p i j from to at_from at_to within =
     ⊎_elim
-    (λ behind.
+    (λ after.
     let nothing : j - i ≡ 0 = omega arith in
     let nothing_too : to - from ≡ 0 = omega arith in
     ap (λ (n : ℕ). take n (drop i part)) nothing ∙ ap (λ (n : ℕ). take n (drop from bytes)) (sym nothing_too))

@@ -60,8 +60,8 @@ placed bytes (Some skip) packet = Err skip
 
 -- The place of the type field after a tag whose own type, 8100, is at `place`: a tag has 4
 -- bytes, and the type of what it holds follows it (IEEE 802.1Q). Without a tag it is the place itself.
-unfoldable pub behind_tag : List ℕ → ℕ → Result ℕ Skip
-behind_tag bytes place =
+unfoldable pub after_tag : List ℕ → ℕ → Result ℕ Skip
+after_tag bytes place =
     if be16 bytes place == 0x8100
     then (if nat_lt (length bytes) (place + 6) then Err Short else Ok (place + 4))
     else Ok place
@@ -70,8 +70,8 @@ behind_tag bytes place =
 -- and after a type that names the version.
 unfoldable pub typed_start : IpVersion → List ℕ → ℕ → Result ℕ Skip
 typed_start version bytes place = do
-  inner ← behind_tag bytes place
-  innermost ← behind_tag bytes inner
+  inner ← after_tag bytes place
+  innermost ← after_tag bytes inner
   if be16 bytes innermost == ether_type version then Ok (innermost + 2) else Err OtherProtocol
 
 -- Where the packet of a version starts: Ethernet has 14 bytes with the type at 12, Linux cooked

@@ -44,7 +44,7 @@ fn add_wide(total: u128, bytes: &[u8]) -> (u128, &[u8])
     requires long { 8 ≤ length bytes.now }
     ensures same { sums_to_all_ones result.0 result.1.now ≡ sums_to_all_ones total bytes.now }
     ensures bound { result.0 < total + 2 ^ 64 }
-    ensures behind { length result.1.now + 8 ≡ length bytes.now }
+    ensures after { length result.1.now + 8 ≡ length bytes.now }
 {
     let (front, rest) = bytes.split_at(WIDE_LEN);
     (total + u128::from(LittleEndian::read_u64(front)), rest)
@@ -56,12 +56,12 @@ fn add_row(total: u128, bytes: &[u8]) -> (u128, &[u8])
     requires long { 32 ≤ length bytes.now }
     ensures same { sums_to_all_ones result.0 result.1.now ≡ sums_to_all_ones total bytes.now }
     ensures bound { result.0 < total + 2 ^ 66 }
-    ensures behind { length result.1.now + 32 ≡ length bytes.now }
+    ensures after { length result.1.now + 32 ≡ length bytes.now }
 {
-    let (one, behind_one) = add_wide(total, bytes);
-    let (two, behind_two) = add_wide(one, behind_one);
-    let (three, behind_three) = add_wide(two, behind_two);
-    add_wide(three, behind_three)
+    let (one, after_one) = add_wide(total, bytes);
+    let (two, after_two) = add_wide(one, after_one);
+    let (three, after_three) = add_wide(two, after_two);
+    add_wide(three, after_three)
 }
 
 /// Adds the wide words, row by row while there are rows, and gives the bytes that are left.
@@ -76,9 +76,9 @@ fn add_rows(start: u128, bytes: &[u8]) -> (u128, &[u8])
     let mut total = start;
     let mut rest = bytes;
     while rest.len() >= ROW_LEN {
-        let (sum, behind) = add_row(total, rest);
+        let (sum, after) = add_row(total, rest);
         total = sum;
-        rest = behind;
+        rest = after;
     }
     (total, rest)
 }
@@ -104,9 +104,9 @@ fn add_wides(start: u128, bytes: &[u8]) -> (u128, &[u8])
     ensures bound { result.0 < start + 2 ^ 66 }
     ensures few { length result.1.now < 8 }
 {
-    let (one, behind_one) = add_eight(start, bytes);
-    let (two, behind_two) = add_eight(one, behind_one);
-    add_eight(two, behind_two)
+    let (one, after_one) = add_eight(start, bytes);
+    let (two, after_two) = add_eight(one, after_one);
+    add_eight(two, after_two)
 }
 
 /// Adds the two words in the first four bytes, if there are as many, and gives the bytes that are left.
@@ -144,9 +144,9 @@ fn add_last(start: u128, bytes: &[u8]) -> u128
     ensures same { is_all_ones result ≡ sums_to_all_ones start bytes.now }
     ensures bound { result < 2 ^ 127 }
 {
-    let (fours, behind_fours) = add_four(start, bytes);
-    let (twos, behind_twos) = add_two(fours, behind_fours);
-    match behind_twos {
+    let (fours, after_fours) = add_four(start, bytes);
+    let (twos, after_twos) = add_two(fours, after_fours);
+    match after_twos {
         [last] => twos + u128::from(*last),
         _ => twos,
     }
@@ -157,9 +157,9 @@ fn sums_to_all_ones(start: u128, bytes: &[u8]) -> bool
     requires { start < 2 ^ 76 }
     ensures { result ≡ sums_to_all_ones start bytes.now }
 {
-    let (rows, behind_rows) = add_rows(start, bytes);
-    let (wides, behind_wides) = add_wides(rows, behind_rows);
-    is_all_ones(add_last(wides, behind_wides))
+    let (rows, after_rows) = add_rows(start, bytes);
+    let (wides, after_wides) = add_wides(rows, after_rows);
+    is_all_ones(add_last(wides, after_wides))
 }
 
 /// An address as a sum that stands for its words.
@@ -198,9 +198,9 @@ pub fn is_header_right(header: &[u8]) -> bool
     requires { 20 ≤ length header.now }
     ensures { result ≡ is_all_ones (word_sum header.now) }
 {
-    let (eight, behind_eight) = add_wide(0, header);
-    let (sixteen, behind_sixteen) = add_wide(eight, behind_eight);
-    let (twenty, options) = add_four(sixteen, behind_sixteen);
+    let (eight, after_eight) = add_wide(0, header);
+    let (sixteen, after_sixteen) = add_wide(eight, after_eight);
+    let (twenty, options) = add_four(sixteen, after_sixteen);
     if options.is_empty() {
         is_all_ones(twenty)
     } else {

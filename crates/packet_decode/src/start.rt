@@ -1,6 +1,6 @@
 //! Where the header of IP begins, after Ethernet, its tags or the cooked header.
 ghost use Rattle.std.specs.Prelude.{◌≡◌, ◌+◌, ◌≤◌, length, IfOk};
-ghost use Rattle.packet_decode.specs.Decoding.{behind_tag, typed_start, link_start};
+ghost use Rattle.packet_decode.specs.Decoding.{after_tag, typed_start, link_start};
 
 use crate::numbers::be16;
 use crate::version::{ether_type, first_digit};
@@ -18,10 +18,10 @@ const TAG_LEN: usize = 4;
 const TAGGED: u16 = 0x8100;
 
 /// The place of the next type field where the one at `place` is a tag's, and else `place`.
-#[tactic(auto, unfolding(crate::specs::Decoding::behind_tag))]
-fn behind_tag(bytes: &[u8], place: usize) -> Result<usize, Skip>
+#[tactic(auto, unfolding(crate::specs::Decoding::after_tag))]
+fn after_tag(bytes: &[u8], place: usize) -> Result<usize, Skip>
     requires { place + 2 ≤ length bytes.now }
-    ensures exact { result ≡ behind_tag bytes.now place }
+    ensures exact { result ≡ after_tag bytes.now place }
     ensures within { IfOk result (λ inner. inner + 2 ≤ length bytes.now) }
 {
     if be16(bytes, place) != TAGGED {
@@ -40,8 +40,8 @@ fn typed_start(version: IpVersion, bytes: &[u8], place: usize) -> Result<usize, 
     ensures exact { result ≡ typed_start version bytes.now place }
     ensures within { IfOk result (λ start. start ≤ length bytes.now) }
 {
-    let inner = behind_tag(bytes, place)?;
-    let innermost = behind_tag(bytes, inner)?;
+    let inner = after_tag(bytes, place)?;
+    let innermost = after_tag(bytes, inner)?;
     if be16(bytes, innermost) == ether_type(version) {
         Ok(innermost + TYPE_LEN)
     } else {

@@ -13,9 +13,9 @@ use Rattle.pattern_search.proofs.Finding.Occurring.{begins-split}
 use Rattle.pattern_search.proofs.Windowing.{same-lower, same-slot}
 
 -- where a pattern ends, its letters are there
-letters-stand : (letters pattern bytes : List ℕ) (end k : ℕ) → end ≤ length bytes → begins (word_of letters pattern) (word_of letters (take end bytes)) ≡ true → k < length pattern → slice_index letters (slice_index pattern k) ≡ slice_index letters (slice_index bytes (end - length pattern + k))
+letters-hold : (letters pattern bytes : List ℕ) (end k : ℕ) → end ≤ length bytes → begins (word_of letters pattern) (word_of letters (take end bytes)) ≡ true → k < length pattern → slice_index letters (slice_index pattern k) ≡ slice_index letters (slice_index bytes (end - length pattern + k))
 unfolding word_of
-letters-stand letters pattern bytes end k h b low =
+letters-hold letters pattern bytes end k h b low =
     let f : ℕ → ℕ = slice_index letters in
     let read = map f (take end bytes) in
     let split = begins-split (reverse (map f pattern)) (reverse read) b in
@@ -51,33 +51,33 @@ letter-short letters patterns told place k = ⊎_elim
     (cases_lt place (length patterns))
 
 pub skips-none : (sieve : Sieve) (bytes : List ℕ) (from : ℕ) → Skips sieve bytes from from
-skips-none sieve bytes from = record { none = λ letters patterns apart sifts short place end h stands low. low }
+skips-none sieve bytes from = record { none = λ letters patterns apart sifts short place end h holds low. low }
 
 -- a window whose slot isn't set
 pub skips-more : (sieve : Sieve) (bytes : List ℕ) (from to : ℕ) → 0 < sieve.stride → window_bit sieve bytes (to + sieve.stride - 1) ≡ 0
     → Skips sieve bytes from to → Skips sieve bytes from (to + sieve.stride)
 unfolding window_bit
 skips-more sieve bytes from to step empty were = record {
-  none = λ letters patterns apart sifts short place end h stands low.
+  none = λ letters patterns apart sifts short place end h holds low.
       let stride = sieve.stride in
       let mask = sieve.mask in
       let pattern = word_at patterns place in
       ⊎_elim
-      (λ before. were.none letters patterns apart sifts short place end h stands before)
-      (λ behind.
+      (λ before. were.none letters patterns apart sifts short place end h holds before)
+      (λ after.
       let start = end - length pattern in
       let at = to + stride - 1 in
       let offset = to + stride - 1 - (end - length pattern) in
-      let whole = sifts.whole place h stands.some in
-      let has = (sifts.windows.each place h).has offset (omega (arith, behind, step)) (omega (arith, behind, step, whole, sifts.some)) in
+      let whole = sifts.whole place h holds.some in
+      let has = (sifts.windows.each place h).has offset (omega (arith, after, step)) (omega (arith, after, step, whole, sifts.some)) in
       let small = letter-short letters patterns apart place in
       let same : slot_of (window_at pattern offset) mask ≡ slot_of (window_at bytes at) mask =
       ap (slot_of (window_at pattern offset)) sifts.masked
       ∙ same-slot sifts.letters offset at pattern bytes small short (λ m j.
-      let q : start + (offset + m) ≡ at + m = omega (arith, behind, low) in
-      let inside : offset + m < length pattern = omega (arith, whole, behind, step) in
-      let stand = letters-stand letters pattern bytes end (offset + m) stands.within stands.is inside in
-      letter-same letters patterns apart place (offset + m) h inside (slice_index bytes (at + m)) (short (at + m)) (stand ∙ ap (λ n. slice_index letters (slice_index bytes n)) q))
+      let q : start + (offset + m) ≡ at + m = omega (arith, after, low) in
+      let inside : offset + m < length pattern = omega (arith, whole, after, step) in
+      let hold = letters-hold letters pattern bytes end (offset + m) holds.within holds.is inside in
+      letter-same letters patterns apart place (offset + m) h inside (slice_index bytes (at + m)) (short (at + m)) (hold ∙ ap (λ n. slice_index letters (slice_index bytes n)) q))
       ∙ sym (ap (slot_of (window_at bytes at)) sifts.masked) in
       absurd (omega (arith, has, ap (slot_bit sieve.table.items) same, empty)))
       (cases_lt end (to + length pattern));
@@ -85,16 +85,16 @@ skips-more sieve bytes from to step empty were = record {
 
 pub skips-trans : (sieve : Sieve) (bytes : List ℕ) (from near to : ℕ) → Skips sieve bytes from near → Skips sieve bytes near to → Skips sieve bytes from to
 skips-trans sieve bytes from near to one two = record {
-  none = λ letters patterns apart sifts short place end h stands low. one.none letters patterns apart sifts short place end h stands
-      (two.none letters patterns apart sifts short place end h stands low);
+  none = λ letters patterns apart sifts short place end h holds low. one.none letters patterns apart sifts short place end h holds
+      (two.none letters patterns apart sifts short place end h holds low);
 }
 
 -- a rest that is too short for a pattern
 pub skips-end : (sieve : Sieve) (bytes : List ℕ) (from to : ℕ) → to ≤ length bytes → length bytes < to + sieve.shortest
     → Skips sieve bytes from to → Skips sieve bytes from (length bytes)
 skips-end sieve bytes from to within few were = record {
-  none = λ letters patterns apart sifts short place end h stands low. were.none letters patterns apart sifts short place end h stands
-      (omega (arith, sifts.long place h stands.some, stands.within));
+  none = λ letters patterns apart sifts short place end h holds low. were.none letters patterns apart sifts short place end h holds
+      (omega (arith, sifts.long place h holds.some, holds.within));
 }
 
 pub sifts-made : (sieve : Sieve) (letters : ℕ) (patterns : List (List ℕ)) → 0 < sieve.shortest → sieve.stride ≤ sieve.shortest

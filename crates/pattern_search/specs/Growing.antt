@@ -23,7 +23,7 @@ pub record AreBetween (words : List (List ℕ)) (letters : List ℕ) (patterns :
   pub count : length ends ≡ length patterns
   pub before : (place : ℕ) → place < done → place < length patterns
       → EndsAt words letters (take (depth + 1) (word_at patterns place)) (slice_index ends place)
-  pub behind : (place : ℕ) → done ≤ place → place < length patterns
+  pub after : (place : ℕ) → done ≤ place → place < length patterns
       → EndsAt words letters (take depth (word_at patterns place)) (slice_index ends place)
 
 -- a pattern ends one letter deeper

@@ -28,7 +28,7 @@ pub record Sifts (sieve : Sieve) (patterns : List (List ℕ)) : Type 0 where
   pub windows : HaveWindows sieve.table.items sieve.mask sieve.stride patterns
 
 -- a pattern, with the letters that bytes have, occurs in a text and ends before a place
-pub record Stands (letters pattern bytes : List ℕ) (end : ℕ) : Type 0 where
+pub record EndsBefore (letters pattern bytes : List ℕ) (end : ℕ) : Type 0 where
   pub some : 0 < length pattern
   pub within : end ≤ length bytes
   pub is : begins (word_of letters pattern) (word_of letters (take end bytes)) ≡ true
@@ -37,5 +37,5 @@ pub record Stands (letters pattern bytes : List ℕ) (end : ℕ) : Type 0 where
 pub record Skips (sieve : Sieve) (bytes : List ℕ) (from to : ℕ) : Type 0 where
   pub none : (letters : List ℕ) (patterns : List (List ℕ)) → AllTold letters patterns → Sifts sieve patterns
       → ((k : ℕ) → slice_index bytes k < 256) → (place end : ℕ) → place < length patterns
-      → Stands letters (word_at patterns place) bytes end
+      → EndsBefore letters (word_at patterns place) bytes end
       → end < to + length (word_at patterns place) → end < from + length (word_at patterns place)

@@ -12,7 +12,7 @@ use Rattle.pcap_input.specs.Reader.{Reading, after_next, Gives, TakesRecord, Tak
 use Rattle.pcap_input.specs.Reading.{cut_for, HasRead, AreWhole, EndsWith, IsRefusedBy}
 use Rattle.pcap_input.proofs.Cuts.{front_of_front, front_of_none}
 use Rattle.pcap_input.proofs.Laws.{next_of_nothing}
-use Rattle.pcap_input.proofs.Records.{records_left-ends, records_left-stands, shows_ending}
+use Rattle.pcap_input.proofs.Records.{records_left-ends, records_left-follows, shows_ending}
 use Rattle.pcap_input.proofs.Told.{split_told}
 
 -- nothing was read yet
@@ -43,7 +43,7 @@ reading-one reader next given left left_next fresh takes is =
       head = refl;
       taken = takes.taken;
       took = takes.took;
-      cut = λ more. records_left-stands reader.head reader.number reader.at (takes.taken ++ more) given more (takes.goes more);
+      cut = λ more. records_left-follows reader.head reader.number reader.at (takes.taken ++ more) given more (takes.goes more);
     } in
     subst (λ (r : Reading). HasRead reader r (given ∷ []) left left_next) (sym is) step
 

@@ -7,16 +7,16 @@ use Rattle.pcap_input.specs.declared.capture.Record.{Record}
 use Rattle.pcap_input.specs.declared.capture.CaptureFault.{CaptureFault}
 use Rattle.pcap_input.specs.declared.capture.CaptureFault.TheVariants.{NotPcap, LinkType, Truncated, TooLong, TooMany, Failed, NoMemory}
 use Rattle.pcap_input.specs.Cut.{Ending, Refused, Cut, no_more, with_first}
-use Rattle.pcap_input.specs.Savefile.{captured_length, record_of, Next, Ends, Stands, next_of, place_behind, cut_up, records_left}
+use Rattle.pcap_input.specs.Savefile.{captured_length, record_of, Next, Ends, Follows, next_of, place_after, cut_up, records_left}
 use Rattle.pcap_input.specs.Reader.{Shows}
-use Rattle.pcap_input.proofs.Laws.{behind_means, bytes_stand, next_means, next_of_header}
+use Rattle.pcap_input.proofs.Laws.{after_means, bytes_follow, next_means, next_of_header}
 
 -- a record that is there: its own bytes, and that it is there whatever follows them
 pub record Parts (head : CaptureHead) (number place : ℕ) (bytes : List ℕ) (given : Record) (rest : List ℕ) : Type 0 where
   pub own : List ℕ
   pub joined : bytes ≡ own ++ rest
   pub size : length own ≡ 16 + length given.bytes
-  pub goes : (more : List ℕ) → next_of head number place (own ++ more) ≡ Stands given more
+  pub goes : (more : List ℕ) → next_of head number place (own ++ more) ≡ Follows given more
   pub numbered : given.number ≡ number
   pub few : number < 4294967295
   pub short : length given.bytes ≤ 262144
@@ -30,40 +30,40 @@ record_of-bytes : (head : CaptureHead) (number : ℕ) (header bytes : List ℕ) 
 unfolding record_of
 record_of-bytes head number header bytes = refl
 
-pub stands_parts : (head : CaptureHead) (number place : ℕ) (bytes : List ℕ) (given : Record) (rest : List ℕ)
-    → next_of head number place bytes ≡ Stands given rest → Parts head number place bytes given rest
-stands_parts head number place bytes given rest is =
+pub follows_parts : (head : CaptureHead) (number place : ℕ) (bytes : List ℕ) (given : Record) (rest : List ℕ)
+    → next_of head number place bytes ≡ Follows given rest → Parts head number place bytes given rest
+follows_parts head number place bytes given rest is =
     let next = next_means head number place bytes given rest is in
-    let behind = behind_means head number place (take 16 bytes) (drop 16 bytes) given rest next.behind in
+    let after = after_means head number place (take 16 bytes) (drop 16 bytes) given rest next.after in
     let captured = captured_length head (take 16 bytes) in
     let body = take captured (drop 16 bytes) in
     let whole : length (take 16 bytes) ≡ 16 = length-take-le 16 bytes next.header in
-    let size : length body ≡ captured = length-take-le captured (drop 16 bytes) behind.whole in
-    let holds : given.bytes ≡ body = ap (λ (r : Record). r.bytes) behind.is ∙ record_of-bytes head number (take 16 bytes) body in
+    let size : length body ≡ captured = length-take-le captured (drop 16 bytes) after.whole in
+    let holds : given.bytes ≡ body = ap (λ (r : Record). r.bytes) after.is ∙ record_of-bytes head number (take 16 bytes) body in
     record {
       own = take 16 bytes ++ body;
       joined = sym (take-append-drop 16 bytes) ∙ ap (λ xs. take 16 bytes ++ xs) (sym (take-append-drop captured (drop 16 bytes)))
-          ∙ sym (append_assoc (take 16 bytes) body (drop captured (drop 16 bytes))) ∙ ap (λ xs. (take 16 bytes ++ body) ++ xs) (sym behind.left);
+          ∙ sym (append_assoc (take 16 bytes) body (drop captured (drop 16 bytes))) ∙ ap (λ xs. (take 16 bytes ++ body) ++ xs) (sym after.left);
       size = omega (arith, length-append (take 16 bytes) body, ap length holds);
       goes = λ more. ap (next_of head number place) (append_assoc (take 16 bytes) body more)
           ∙ next_of_header head number place (take 16 bytes) (body ++ more) whole next.few
-          ∙ bytes_stand head number place (take 16 bytes) body more (sym size) (omega (arith, behind.short))
-          ∙ ap (λ r. Stands r more) (sym behind.is);
-      numbered = ap (λ (r : Record). r.number) behind.is ∙ record_of-number head number (take 16 bytes) body;
+          ∙ bytes_follow head number place (take 16 bytes) body more (sym size) (omega (arith, after.short))
+          ∙ ap (λ r. Follows r more) (sym after.is);
+      numbered = ap (λ (r : Record). r.number) after.is ∙ record_of-number head number (take 16 bytes) body;
       few = next.few;
-      short = omega (arith, ap length holds, behind.short);
+      short = omega (arith, ap length holds, after.short);
     }
 
 -- a cut after one more step
 cut_on : ℕ → CaptureHead → ℕ → ℕ → Next → Cut Record CaptureFault
 cut_on most head number place (Ends ending) = no_more ending
-cut_on most head number place (Stands first more) = with_first first (cut_up most head (number + 1) (place_behind place first) more)
+cut_on most head number place (Follows first more) = with_first first (cut_up most head (number + 1) (place_after place first) more)
 
 cut_up-suc : (most : ℕ) (head : CaptureHead) (number place : ℕ) (rest : List ℕ) (next : Next) → next_of head number place rest ≡ next
     → cut_up (suc most) head number place rest ≡ cut_on most head number place next
 unfolding cut_up cut_on
 cut_up-suc most head number place rest (Ends ending) is = rw (is, cut_up) refl
-cut_up-suc most head number place rest (Stands first more) is = rw (is, cut_up) refl
+cut_up-suc most head number place rest (Follows first more) is = rw (is, cut_up) refl
 
 -- any number of steps above the number of bytes gives the same
 enough_by : (some more_steps : ℕ) (head : CaptureHead) (number place : ℕ) (rest : List ℕ)
@@ -72,10 +72,10 @@ enough_by : (some more_steps : ℕ) (head : CaptureHead) (number place : ℕ) (r
     → (next : Next) → next_of head number place rest ≡ next → cut_on some head number place next ≡ cut_on more_steps head number place next
 unfolding cut_on
 enough_by some more_steps head number place rest same fits fits_more (Ends ending) is = refl
-enough_by some more_steps head number place rest same fits fits_more (Stands first more) is =
-    let parts = stands_parts head number place rest first more is in
+enough_by some more_steps head number place rest same fits fits_more (Follows first more) is =
+    let parts = follows_parts head number place rest first more is in
     let less : 16 + length more ≤ length rest = omega (arith, ap length parts.joined, length-append parts.own more, parts.size) in
-    ap (with_first first) (same (number + 1) (place_behind place first) more (omega arith) (omega arith))
+    ap (with_first first) (same (number + 1) (place_after place first) more (omega arith) (omega arith))
 
 enough : (some more_steps : ℕ) (head : CaptureHead) (number place : ℕ) (rest : List ℕ) → length rest < some → length rest < more_steps
     → cut_up some head number place rest ≡ cut_up more_steps head number place rest
@@ -96,15 +96,15 @@ records_left-ends head number place rest ending is =
     ap (λ (n : ℕ). cut_up n head number place rest) step ∙ cut_up-suc (length rest) head number place rest (Ends ending) is
 
 -- what is left is the record that comes next, and then what is left after it
-pub records_left-stands : (head : CaptureHead) (number place : ℕ) (rest : List ℕ) (first : Record) (more : List ℕ) → next_of head number place rest ≡ Stands first more
-    → records_left head number place rest ≡ with_first first (records_left head (number + 1) (place_behind place first) more)
+pub records_left-follows : (head : CaptureHead) (number place : ℕ) (rest : List ℕ) (first : Record) (more : List ℕ) → next_of head number place rest ≡ Follows first more
+    → records_left head number place rest ≡ with_first first (records_left head (number + 1) (place_after place first) more)
 unfolding records_left cut_on
-records_left-stands head number place rest first more is =
+records_left-follows head number place rest first more is =
     let step : length rest + 1 ≡ suc (length rest) = omega arith in
-    let parts = stands_parts head number place rest first more is in
+    let parts = follows_parts head number place rest first more is in
     let less : 16 + length more ≤ length rest = omega (arith, ap length parts.joined, length-append parts.own more, parts.size) in
-    ap (λ (n : ℕ). cut_up n head number place rest) step ∙ cut_up-suc (length rest) head number place rest (Stands first more) is
-    ∙ ap (with_first first) (enough (length rest) (length more + 1) head (number + 1) (place_behind place first) more (omega arith) (omega arith))
+    ap (λ (n : ℕ). cut_up n head number place rest) step ∙ cut_up-suc (length rest) head number place rest (Follows first more) is
+    ∙ ap (with_first first) (enough (length rest) (length more + 1) head (number + 1) (place_after place first) more (omega arith) (omega arith))
 
 -- bytes that hold a refusal, or that memory lacked for or a host failed at, hold no record
 pub shows_ending : (why : CaptureFault) (next : Next) → Shows why next → (ending : Ending CaptureFault) × (next ≡ Ends ending)

@@ -96,16 +96,16 @@ segment_at s client server DataAck = record {
 }
 
 -- a sequence number after `count` bytes: they go round at 2 ^ 32
-abbrev pub seq_behind : ℕ → ℕ → ℕ
-seq_behind seq count = (seq + count) % 2 ^ 32
+abbrev pub seq_after : ℕ → ℕ → ℕ
+seq_after seq count = (seq + count) % 2 ^ 32
 
 -- the session after its turn
-unfoldable pub session_behind : ℕ → ℕ → Turn → Session
-session_behind client server Syn = record { client = seq_behind client 1; server = server; turn = SynAck }
-session_behind client server SynAck = record { client = client; server = seq_behind server 1; turn = Established }
-session_behind client server Established = record { client = client; server = server; turn = Data }
-session_behind client server Data = record { client = seq_behind client 64; server = server; turn = DataAck }
-session_behind client server DataAck = record { client = client; server = server; turn = Data }
+unfoldable pub session_after : ℕ → ℕ → Turn → Session
+session_after client server Syn = record { client = seq_after client 1; server = server; turn = SynAck }
+session_after client server SynAck = record { client = client; server = seq_after server 1; turn = Established }
+session_after client server Established = record { client = client; server = server; turn = Data }
+session_after client server Data = record { client = seq_after client 64; server = server; turn = DataAck }
+session_after client server DataAck = record { client = client; server = server; turn = Data }
 
 -- only a turn of data has a payload
 abbrev pub has_payload : Turn → Bool
@@ -120,8 +120,8 @@ unfoldable pub payload_at : Turn → ℕ → List ℕ
 payload_at turn state = if has_payload turn then payload_drawn state else []
 
 -- the state after the payload of a turn
-unfoldable pub state_behind : Turn → ℕ → ℕ
-state_behind turn state = if has_payload turn then steps 65 state else state
+unfoldable pub state_after : Turn → ℕ → ℕ
+state_after turn state = if has_payload turn then steps 65 state else state
 
 -- the traffic with this state of the generator
 abbrev pub with_state : Traffic → ℕ → Traffic
@@ -138,7 +138,7 @@ session_at sessions s = slice_index_or sessions s (first_session s)
 -- a frame, and the traffic after it
 pub record Made : Type 0 where
   pub frame : List ℕ
-  pub behind : Traffic
+  pub after : Traffic
 
 -- what session `s` sends from this state, in which its number was drawn
 unfoldable pub made_of_session : ℕ → Traffic → Made
@@ -146,9 +146,9 @@ made_of_session s traffic =
     let session = session_at traffic.sessions s in
     record {
       frame = tcp_frame (segment_at s session.client session.server session.turn) (payload_at session.turn traffic.draws.state);
-      behind = record {
-        draws = record { state = state_behind session.turn traffic.draws.state };
-        sessions = slice_set traffic.sessions s (session_behind session.client session.server session.turn);
+      after = record {
+        draws = record { state = state_after session.turn traffic.draws.state };
+        sessions = slice_set traffic.sessions s (session_after session.client session.server session.turn);
       };
     }
 
@@ -168,23 +168,23 @@ made_datagram traffic = record {
       (record { net = 1; host = 1 + draw 16 traffic.draws.state; port = 1024 })
       (record { net = 2; host = 2; port = 53 })
       (text_drawn (step traffic.draws.state));
-  behind = with_state traffic (steps 2 traffic.draws.state);
+  after = with_state traffic (steps 2 traffic.draws.state);
 }
 
 -- the next frame: one in four is a datagram
 unfoldable pub made : Traffic → Made
 made traffic =
-    let behind = with_state traffic (step traffic.draws.state) in
-    if draw 4 traffic.draws.state == 0 then made_datagram behind else made_segment behind
+    let after = with_state traffic (step traffic.draws.state) in
+    if draw 4 traffic.draws.state == 0 then made_datagram after else made_segment after
 
 -- this is the next frame, and this is the traffic after it
 abbrev pub IsMade : Made → List ℕ → Traffic → Type 0
-IsMade next frame behind = next ≡ record { frame = frame; behind = behind }
+IsMade next frame after = next ≡ record { frame = frame; after = after }
 
 -- the next `count` frames
 unfoldable pub frames : ℕ → Traffic → List (List ℕ)
 frames zero traffic = []
-frames (suc count) traffic = (made traffic).frame ∷ frames count (made traffic).behind
+frames (suc count) traffic = (made traffic).frame ∷ frames count (made traffic).after
 
 -- the file header
 abbrev pub header_bytes : List ℕ

@@ -9,7 +9,7 @@ use Rattle.pcap_input.specs.declared.capture.Record.{Record}
 use Rattle.pcap_input.specs.declared.capture.CaptureFault.{CaptureFault}
 use Rattle.pcap_input.specs.declared.capture.CaptureFault.TheVariants as fault
 use Rattle.pcap_input.specs.Cut.{Refused}
-use Rattle.pcap_input.specs.Savefile.{file_header, head_of, Next, Ends, Stands, next_behind}
+use Rattle.pcap_input.specs.Savefile.{file_header, head_of, Next, Ends, Follows, next_after}
 use Rattle.pcap_input.specs.Reader.{Shows}
 
 -- the answer is the head or its refusal, unless the host failed
@@ -27,7 +27,7 @@ pub record TakesFileHeader (answer : Result CaptureHead CaptureFault) (old new :
 
 -- the answer is what comes next, unless memory lacked or the host failed
 abbrev pub GivesOne : Result Record CaptureFault → Next → Type 0
-GivesOne (Ok given) next = (rest : List ℕ) × (next ≡ Stands given rest)
+GivesOne (Ok given) next = (rest : List ℕ) × (next ≡ Follows given rest)
 GivesOne (Err fault.NoMemory) next = ⊤
 GivesOne (Err fault.Failed) next = ⊤
 GivesOne (Err why) next = next ≡ Ends (Refused why)
@@ -38,14 +38,14 @@ pub record TakesBytes (head : CaptureHead) (number place : ℕ) (header : List �
   pub taken : List ℕ
   pub took : old ≡ before taken new
   pub size : length taken ≡ length given.bytes
-  pub goes : (more : List ℕ) → next_behind head number place header (taken ++ more) ≡ Stands given more
+  pub goes : (more : List ℕ) → next_after head number place header (taken ++ more) ≡ Follows given more
 
 -- fewer than the captured bytes after this header were taken, and they show the refusal
 pub record TakesFewer (head : CaptureHead) (number place : ℕ) (header : List ℕ) (why : CaptureFault)
     (old new : Option (List ℕ)) : Type 0 where
   pub taken : List ℕ
   pub took : old ≡ before taken new
-  pub shows : Shows why (next_behind head number place header taken)
+  pub shows : Shows why (next_after head number place header taken)
 
 -- what a read of captured bytes that stopped early says: memory lacked, the host failed, or nothing is left
 abbrev pub Stops : ℕ → CaptureFault → Option (List ℕ) → Type 0

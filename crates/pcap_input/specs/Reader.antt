@@ -14,7 +14,7 @@ use Rattle.pcap_input.specs.declared.capture.Record.{Record}
 use Rattle.pcap_input.specs.declared.capture.CaptureFault.{CaptureFault}
 use Rattle.pcap_input.specs.declared.capture.CaptureFault.TheVariants as fault
 use Rattle.pcap_input.specs.Cut.{Ending, Clean, Refused}
-use Rattle.pcap_input.specs.Savefile.{file_header, record_header, head_of, Next, Ends, Stands, next_of, place_behind}
+use Rattle.pcap_input.specs.Savefile.{file_header, record_header, head_of, Next, Ends, Follows, next_of, place_after}
 
 -- a reader: its head, how many records it has given, where it is, and what it has refused
 pub record Reading : Type 0 where
@@ -35,7 +35,7 @@ new_reader head = reader_at head 0 file_header
 abbrev pub after_next : Reading → Option Record → Reading
 after_next reader None = reader
 after_next reader (Some given) =
-    record { head = reader.head; number = reader.number + 1; at = place_behind reader.at given; refused = reader.refused }
+    record { head = reader.head; number = reader.number + 1; at = place_after reader.at given; refused = reader.refused }
 
 -- the reader with a refusal, which it keeps
 abbrev pub after_refusal : Reading → CaptureFault → Reading
@@ -80,7 +80,7 @@ IsOfHead fault.NoMemory = ⊥
 -- the answer is what comes next, unless memory lacked or the host failed
 abbrev pub Gives : Result (Option Record) CaptureFault → Next → Type 0
 Gives (Ok None) next = next ≡ Ends Clean
-Gives (Ok (Some given)) next = (rest : List ℕ) × (next ≡ Stands given rest)
+Gives (Ok (Some given)) next = (rest : List ℕ) × (next ≡ Follows given rest)
 Gives (Err fault.NoMemory) next = ⊤
 Gives (Err fault.Failed) next = ⊤
 Gives (Err why) next = next ≡ Ends (Refused why)
@@ -90,7 +90,7 @@ pub record TakesRecord (reader : Reading) (given : Record) (old new : Option (Li
   pub taken : List ℕ
   pub took : old ≡ before taken new
   pub size : length taken ≡ record_header + length given.bytes
-  pub goes : (more : List ℕ) → next_of reader.head reader.number reader.at (taken ++ more) ≡ Stands given more
+  pub goes : (more : List ℕ) → next_of reader.head reader.number reader.at (taken ++ more) ≡ Follows given more
 
 -- these bytes alone show the refusal; where memory lacked or the host failed, they hold no record
 abbrev pub Shows : CaptureFault → Next → Type 0

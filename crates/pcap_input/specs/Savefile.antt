@@ -54,8 +54,8 @@ head_with swapped nanos link_type =
 
 -- the head of a file header after its magic number: the major version is 2, and the low 16 bits of
 -- the last field are the link type
-unfoldable pub head_behind : Bool → Bool → List ℕ → Result CaptureHead CaptureFault
-head_behind swapped nanos bytes =
+unfoldable pub head_after : Bool → Bool → List ℕ → Result CaptureHead CaptureFault
+head_after swapped nanos bytes =
     if number_at swapped 4 2 bytes == 2
     then head_with swapped nanos (number_at swapped 20 4 bytes % 65536)
     else Err NotPcap
@@ -65,10 +65,10 @@ head_behind swapped nanos bytes =
 unfoldable pub head_of : List ℕ → Result CaptureHead CaptureFault
 head_of bytes =
     if nat_lt (length bytes) file_header then Err (Truncated 0) else
-    if number_at false 0 4 bytes == 0xa1b2_c3d4 then head_behind false false bytes else
-    if number_at false 0 4 bytes == 0xa1b2_3c4d then head_behind false true bytes else
-    if number_at true 0 4 bytes == 0xa1b2_c3d4 then head_behind true false bytes else
-    if number_at true 0 4 bytes == 0xa1b2_3c4d then head_behind true true bytes else
+    if number_at false 0 4 bytes == 0xa1b2_c3d4 then head_after false false bytes else
+    if number_at false 0 4 bytes == 0xa1b2_3c4d then head_after false true bytes else
+    if number_at true 0 4 bytes == 0xa1b2_c3d4 then head_after true false bytes else
+    if number_at true 0 4 bytes == 0xa1b2_3c4d then head_after true true bytes else
     Err NotPcap
 
 -- how many bytes a record header says were captured
@@ -93,14 +93,14 @@ record_of head number header bytes = record {
 -- what is at a place: the ending, or a record and the bytes after it
 pub data Next : Type 0 where
   Ends : Ending CaptureFault → Next
-  Stands : Record → List ℕ → Next
+  Follows : Record → List ℕ → Next
 
 -- what comes where these bytes of a record header are at `place`, before these bytes
-unfoldable pub next_behind : CaptureHead → ℕ → ℕ → List ℕ → List ℕ → Next
-next_behind head number place header bytes =
+unfoldable pub next_after : CaptureHead → ℕ → ℕ → List ℕ → List ℕ → Next
+next_after head number place header bytes =
     if nat_lt longest (captured_length head header) then Ends (Refused (TooLong place (captured_length head header))) else
     if nat_lt (length bytes) (captured_length head header) then Ends (Refused (Truncated place)) else
-    Stands (record_of head number header (take (captured_length head header) bytes)) (drop (captured_length head header) bytes)
+    Follows (record_of head number header (take (captured_length head header) bytes)) (drop (captured_length head header) bytes)
 
 -- what comes after `number` records, at `place`, where these bytes are left
 unfoldable pub next_of : CaptureHead → ℕ → ℕ → List ℕ → Next
@@ -108,11 +108,11 @@ next_of head number place rest =
     if length rest == 0 then Ends Clean else
     if nat_le most_records number then Ends (Refused TooMany) else
     if nat_lt (length rest) record_header then Ends (Refused (Truncated place)) else
-    next_behind head number place (take record_header rest) (drop record_header rest)
+    next_after head number place (take record_header rest) (drop record_header rest)
 
 -- the place after a record that begins at this place
-abbrev pub place_behind : ℕ → Record → ℕ
-place_behind place record_here = place + record_header + length record_here.bytes
+abbrev pub place_after : ℕ → Record → ℕ
+place_after place record_here = place + record_header + length record_here.bytes
 
 -- at most `most` records, one after the other, and then the ending
 unfoldable pub cut_up : ℕ → CaptureHead → ℕ → ℕ → List ℕ → Cut Record CaptureFault
@@ -120,7 +120,7 @@ cut_up zero head number place rest = no_more Clean
 cut_up (suc most) head number place rest =
     elim (next_of head number place rest) [
       | Ends ending ↦ no_more ending
-      | Stands first more ↦ with_first first (cut_up most head (number + 1) (place_behind place first) more)
+      | Follows first more ↦ with_first first (cut_up most head (number + 1) (place_after place first) more)
     ]
 
 -- the records and the ending of these bytes, which come after `number` records at `place`: there

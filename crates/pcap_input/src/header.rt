@@ -1,6 +1,6 @@
 //! The headers of a savefile and of its records, as bytes.
 ghost use Rattle.std.specs.Prelude.{◌≡◌, ℕ, ◌+◌, ◌<◌, ◌≤◌, ◌^◌, false, List, length, Err};
-ghost use Rattle.pcap_input.specs.Savefile.{file_header, record_header, number_at, head_with, head_behind, head_of, captured_length, moment_of};
+ghost use Rattle.pcap_input.specs.Savefile.{file_header, record_header, number_at, head_with, head_after, head_of, captured_length, moment_of};
 
 use crate::number::{u16_at, u32_at};
 use crate::{CaptureFault, CaptureHead};
@@ -49,10 +49,10 @@ fn with_link(order: Order, link_type: u32) -> Result<CaptureHead, CaptureFault>
 }
 
 /// The head of a file header, by what its magic number told.
-#[tactic(auto, unfolding(crate::specs::Savefile::head_behind))]
-fn behind_magic(order: Order, bytes: &[u8]) -> Result<CaptureHead, CaptureFault>
+#[tactic(auto, unfolding(crate::specs::Savefile::head_after))]
+fn after_magic(order: Order, bytes: &[u8]) -> Result<CaptureHead, CaptureFault>
     requires { length bytes.now ≡ file_header }
-    ensures { result ≡ head_behind order.swapped order.nanos bytes.now }
+    ensures { result ≡ head_after order.swapped order.nanos bytes.now }
 {
     if u16_at(order.swapped, bytes, 4) != MAJOR {
         return Err(CaptureFault::NotPcap);
@@ -69,7 +69,7 @@ pub fn read_head(bytes: &[u8]) -> Result<CaptureHead, CaptureFault>
     let least_first = u32_at(false, bytes, 0);
     let most_first = u32_at(true, bytes, 0);
     if least_first == MICROSECONDS {
-        behind_magic(
+        after_magic(
             Order {
                 swapped: false,
                 nanos: false,
@@ -77,7 +77,7 @@ pub fn read_head(bytes: &[u8]) -> Result<CaptureHead, CaptureFault>
             bytes,
         )
     } else if least_first == NANOSECONDS {
-        behind_magic(
+        after_magic(
             Order {
                 swapped: false,
                 nanos: true,
@@ -85,7 +85,7 @@ pub fn read_head(bytes: &[u8]) -> Result<CaptureHead, CaptureFault>
             bytes,
         )
     } else if most_first == MICROSECONDS {
-        behind_magic(
+        after_magic(
             Order {
                 swapped: true,
                 nanos: false,
@@ -93,7 +93,7 @@ pub fn read_head(bytes: &[u8]) -> Result<CaptureHead, CaptureFault>
             bytes,
         )
     } else if most_first == NANOSECONDS {
-        behind_magic(
+        after_magic(
             Order {
                 swapped: true,
                 nanos: true,

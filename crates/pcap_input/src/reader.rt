@@ -4,7 +4,7 @@ ghost use Rattle.edge_io.specs.Frames.{OnlyRead};
 ghost use Rattle.edge_io.specs.Told.{before, one_more, Rose};
 ghost use Rattle.edge_io.specs.Files.{Files, Lacks, IsUnopened, MaySee, left_by};
 ghost use Rattle.pcap_input.specs.Cut.{Clean};
-ghost use Rattle.pcap_input.specs.Savefile.{file_header, record_header, longest, most_records, IsReachable, Ends, head_of, next_of, next_behind};
+ghost use Rattle.pcap_input.specs.Savefile.{file_header, record_header, longest, most_records, IsReachable, Ends, head_of, next_of, next_after};
 ghost use Rattle.pcap_input.specs.Reader.{reader_at, after_next, after_refusal, Opens, Tells, TakesHead, IsOfHead, Gives, TakesRecord, TakesNone};
 ghost use Rattle.pcap_input.specs.Pieces.{Reads, TakesFileHeader, GivesOne, TakesBytes, TakesFewer, TakesLess};
 
@@ -116,7 +116,7 @@ impl CaptureReader {
     /// A reader that has given `number` records and is at the byte `at` of the capture. Takes
     /// no memory.
     pub fn resume(head: CaptureHead, number: u32, at: u64) -> CaptureReader
-        requires behind_header { file_header ≤ at }
+        requires after_header { file_header ≤ at }
         requires within_records { IsReachable number at }
         ensures { result ≡ reader_at head number at }
     {
@@ -160,7 +160,7 @@ impl CaptureReader {
             → IfErr result (λ why. TakesNone self.old why (H.left host.old) (H.left host.new)) }
 
         // Where the reader is afterwards.
-        ensures stands { IfOk result (λ given. self.new ≡ after_next self.old given) }
+        ensures holds { IfOk result (λ given. self.new ≡ after_next self.old given) }
         ensures refused { IfErr result (λ why. self.new ≡ after_refusal self.old why) }
 
         // A refusal is repeated, and nothing is read.
@@ -225,7 +225,7 @@ impl CaptureReader {
             (left_by (H.left_of host.old) seen) (left_by (H.left_of host.new) seen)) }
 
         // Where the reader is afterwards.
-        ensures stands { IfOk result (λ given. self.new ≡ after_next self.old given) }
+        ensures holds { IfOk result (λ given. self.new ≡ after_next self.old given) }
         ensures refused { IfErr result (λ why. self.new ≡ after_refusal self.old why) }
 
         // A refusal is repeated, and nothing is read.
@@ -318,12 +318,12 @@ fn read_record<H: Host>(
     if count < RECORD_HEADER {
         return Err(CaptureFault::Truncated { at });
     }
-    let given = read_behind(host, head, number, at, &header, block)?;
+    let given = read_after(host, head, number, at, &header, block)?;
     Ok(Some(given))
 }
 
 /// Reads the captured bytes after a record header that is at `at`.
-fn read_behind<H: Host>(
+fn read_after<H: Host>(
     host: &mut H,
     head: CaptureHead,
     number: u32,
@@ -334,7 +334,7 @@ fn read_behind<H: Host>(
     requires { length header.now ≡ record_header }
     ensures gives { (seen : Option Files) → MaySee (H.contents host.new) (H.agrees host.new) seen
         → (rest : List ℕ) → left_by (H.left_of host.old) seen ≡ Some rest
-        → GivesOne result (next_behind head number at header.now rest) }
+        → GivesOne result (next_after head number at header.now rest) }
     ensures takes { (seen : Option Files) → MaySee (H.contents host.new) (H.agrees host.new) seen
         → IfOk result (λ given. TakesBytes head number at header.now given
         (left_by (H.left_of host.old) seen) (left_by (H.left_of host.new) seen)) }

@@ -1,6 +1,6 @@
 //! Which sessions and datagrams a made capture has, packet by packet.
 ghost use Rattle.std.specs.Prelude.{◌≡◌, ◌+◌, ◌<◌, ◌≤◌, length, IfOk};
-ghost use Rattle.pcap_input.specs.Generated.{first_session, session_at, segment_at, session_behind, has_payload, payload_at, state_behind, first_traffic, made_of_session, made_segment, made_datagram, made, IsMade};
+ghost use Rattle.pcap_input.specs.Generated.{first_session, session_at, segment_at, session_after, has_payload, payload_at, state_after, first_traffic, made_of_session, made_segment, made_datagram, made, IsMade};
 
 use crate::draws::Draws;
 use crate::frames::{Endpoint, Segment, udp_frame};
@@ -113,9 +113,9 @@ impl Session {
     }
 
     /// The session after its turn.
-    #[tactic(auto, unfolding(crate::specs::Generated::session_behind))]
-    fn behind(self) -> Session
-        ensures { result ≡ session_behind self.client self.server self.turn }
+    #[tactic(auto, unfolding(crate::specs::Generated::session_after))]
+    fn after(self) -> Session
+        ensures { result ≡ session_after self.client self.server self.turn }
     {
         match self.turn {
             Turn::Syn => Session {
@@ -176,11 +176,11 @@ impl Traffic {
     }
 
     /// The payload of a turn.
-    #[tactic(auto, unfolding(crate::specs::Generated::payload_at, crate::specs::Generated::state_behind))]
+    #[tactic(auto, unfolding(crate::specs::Generated::payload_at, crate::specs::Generated::state_after))]
     fn payload(&mut self, alloc: Global, turn: Turn) -> Result<Vec<u8>, AllocError>
         ensures drawn { IfOk result (λ payload. payload.items ≡ payload_at turn self.old.draws.state) }
         ensures state { IfOk result (λ payload. self.new.draws.state
-            ≡ state_behind turn self.old.draws.state) }
+            ≡ state_after turn self.old.draws.state) }
         ensures sessions { self.new.sessions ≡ self.old.sessions }
         ensures short { IfOk result (λ payload. length payload.items ≤ 100) }
     {
@@ -200,7 +200,7 @@ impl Traffic {
         let number = self.draws.below(16) as u8;
         let session = self.session(number);
         let payload = self.payload(alloc, session.turn)?;
-        self.sessions[number as usize] = session.behind();
+        self.sessions[number as usize] = session.after();
         let frame = session.segment(number).frame(alloc, &payload)?;
         Ok(frame)
     }

@@ -8,27 +8,27 @@ use Rattle.pcapng_input.specs.declared.capture.NgRecord.{NgRecord}
 use Rattle.pcapng_input.specs.declared.capture.NgFault.{NgFault}
 use Rattle.pcapng_input.specs.declared.capture.NgFault.TheVariants as fault
 use Rattle.pcap_input.specs.Cut.{Ending, Clean, Cut, first_records, with_front}
-use Rattle.pcapng_input.specs.Blocks.{opening, Next, Ends, Stands, next_of, records_left, ng_records}
+use Rattle.pcapng_input.specs.Blocks.{opening, Next, Ends, Follows, next_of, records_left, ng_records}
 use Rattle.pcap_input.specs.Reader.{Tells}
 use Rattle.pcapng_input.specs.Reader.{Reading, Opens, TakesHead, Answers}
 use Rattle.pcapng_input.specs.Calls.{IsOpenCall, IsNextCall, IsOfBytes, IsEnding, HasGiven, none, one_more, HasRead, IsBelow, IsLastCall, ReadsCut, ReadsAll, ReadsFirst}
 use Rattle.pcapng_input.proofs.Blocks.Heads.{tells_opened}
-use Rattle.pcapng_input.proofs.Captures.Records.{records_left-ends, records_left-stands}
+use Rattle.pcapng_input.proofs.Captures.Records.{records_left-ends, records_left-follows}
 use Rattle.pcapng_input.proofs.Captures.Endings.{below_limit, ng_records-skips, ng_records-refused}
 
 -- ---- a call of `open`
 
 -- `open` gave a reader: some bytes are left, and the capture's records are those that they hold for it
-record IsBehind (bytes : List ℕ) (first : Reading) (left : Option (List ℕ)) : Type 0 where
+record IsAfter (bytes : List ℕ) (first : Reading) (left : Option (List ℕ)) : Type 0 where
   fresh : first.refused ≡ None
   rest : List ℕ
   still : left ≡ Some rest
   all : (limit : Option ℕ) → ng_records bytes limit ≡ Ok (first_records limit (records_left first.walk rest))
 
-behind_head : (contents : Option Files) (name bytes : List ℕ) (first : Reading) (left : Option (List ℕ))
+after_head : (contents : Option Files) (name bytes : List ℕ) (first : Reading) (left : Option (List ℕ))
     → Tells contents name bytes
-    → first.refused ≡ None → TakesHead contents name (Ok first) left → IsBehind bytes first left
-behind_head contents name bytes first left tells fresh takes =
+    → first.refused ≡ None → TakesHead contents name (Ok first) left → IsAfter bytes first left
+after_head contents name bytes first left tells fresh takes =
     let split = split_told takes.whole left takes.taken bytes takes.took (tells_opened contents name bytes takes.whole tells takes.opened) in
     record {
       fresh = fresh;
@@ -37,13 +37,13 @@ behind_head contents name bytes first left tells fresh takes =
       all = λ limit. ng_records-skips bytes limit first.walk split.rest (ap opening split.joined ∙ takes.shows split.rest);
     }
 
-behind_open : (contents : Option Files) (name bytes : List ℕ) (first : Reading) (left : Option (List ℕ))
+after_open : (contents : Option Files) (name bytes : List ℕ) (first : Reading) (left : Option (List ℕ))
     → Tells contents name bytes
-    → IsOpenCall contents name (Ok first) left → IsBehind bytes first left
-behind_open contents name bytes first left tells call =
+    → IsOpenCall contents name (Ok first) left → IsAfter bytes first left
+after_open contents name bytes first left tells call =
     let opens = call.gives bytes tells in
     ⊎_elim
-    (λ (takes : TakesHead contents name (Ok first) left). behind_head contents name bytes first left tells opens.2 takes)
+    (λ (takes : TakesHead contents name (Ok first) left). after_head contents name bytes first left tells opens.2 takes)
     (λ (failed : IsErrOf (Ok first) fault.Failed × (left ≡ None)). let no : Ok first ≡ Err fault.Failed = failed.0 in cc)
     call.takes
 
@@ -76,15 +76,15 @@ goes_on first left_first whole fresh told given last left none = record { fresh 
 goes_on first left_first whole fresh told given last left (one_more {given = front} {old = old} {left_old = left_old} {last = newest} gave call) =
     let before = goes_on first left_first whole fresh told front old left_old gave in
     let split = split_told left_old left call.takes.taken before.rest call.takes.took before.still in
-    let stands : next_of old.walk before.rest ≡ Stands newest last.walk split.rest = ap (next_of old.walk) split.joined ∙ call.takes.goes split.rest in
-    let behind = records_left last.walk split.rest in
+    let holds : next_of old.walk before.rest ≡ Follows newest last.walk split.rest = ap (next_of old.walk) split.joined ∙ call.takes.goes split.rest in
+    let after = records_left last.walk split.rest in
     record {
       fresh = call.takes.fresh;
       rest = split.rest;
       still = split.still;
       cut = before.cut
-          ∙ ap (with_front front) (records_left-stands old.walk before.rest newest last.walk split.rest stands)
-          ∙ front_of_front front (newest ∷ []) behind;
+          ∙ ap (with_front front) (records_left-follows old.walk before.rest newest last.walk split.rest holds)
+          ∙ front_of_front front (newest ∷ []) after;
     }
 
 -- ---- the end
@@ -146,14 +146,14 @@ all_cut : (contents : Option Files) (name bytes : List ℕ) (limit : Option ℕ)
     → ReadsCut contents name limit cut → ng_records bytes limit ≡ Ok cut
 all_cut contents name bytes limit cut tells reads =
     let first = reads.read.first in
-    let behind = behind_open contents name bytes first reads.read.left_first tells reads.read.opened in
-    let on = goes_on first reads.read.left_first behind.rest behind.fresh behind.still cut.records reads.reader reads.left reads.read.gave in
-    behind.all limit
+    let after = after_open contents name bytes first reads.read.left_first tells reads.read.opened in
+    let on = goes_on first reads.read.left_first after.rest after.fresh after.still cut.records reads.reader reads.left reads.read.gave in
+    after.all limit
     ∙ ap Ok (
     ⊎_elim
-    (λ (at : (limit ≡ Some (length cut.records)) × (cut.ending ≡ Clean)). reached first behind.rest cut reads.reader reads.left limit on at.0 at.1)
+    (λ (at : (limit ≡ Some (length cut.records)) × (cut.ending ≡ Clean)). reached first after.rest cut reads.reader reads.left limit on at.0 at.1)
     (λ (ends : IsBelow limit (length cut.records) × IsLastCall reads.reader reads.left cut.ending).
-    ended first behind.rest cut reads.reader reads.left limit on ends.0 ends.1)
+    ended first after.rest cut reads.reader reads.left limit on ends.0 ends.1)
     reads.ended
     )
 
@@ -164,10 +164,10 @@ reads_all contents name bytes limit (Err why) tells reads = refused_open content
 pub reads_first : ReadsFirst
 reads_first contents name bytes given reader left tells read =
     let first = read.first in
-    let behind = behind_open contents name bytes first read.left_first tells read.opened in
-    let on = goes_on first read.left_first behind.rest behind.fresh behind.still given reader left read.gave in (
-      records_left first.walk behind.rest,
+    let after = after_open contents name bytes first read.left_first tells read.opened in
+    let on = goes_on first read.left_first after.rest after.fresh after.still given reader left read.gave in (
+      records_left first.walk after.rest,
       (records_left reader.walk on.rest).records,
-      behind.all None ∙ ap Ok (first_records-none (records_left first.walk behind.rest)),
+      after.all None ∙ ap Ok (first_records-none (records_left first.walk after.rest)),
       ap (λ (cut : Cut NgRecord NgFault). cut.records) on.cut,
     )

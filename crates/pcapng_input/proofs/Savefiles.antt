@@ -11,9 +11,9 @@ use Rattle.pcap_input.specs.declared.capture.CaptureHead.{CaptureHead}
 use Rattle.pcap_input.specs.declared.capture.CaptureFault.{CaptureFault}
 use Rattle.pcap_input.specs.declared.capture.Record.{Record}
 use Rattle.pcap_input.specs.Cut.{Clean, Cut, clean_with, first_records, with_first}
-use Rattle.pcap_input.specs.Savefile.{Stands, captured_length, head_behind, head_of, head_with, moment_of, most_records, next_of, number_at, place_behind, record_of, records_left, savefile}
-use Rattle.pcap_input.proofs.Laws.{bytes_stand, head_of-append, next_of_header, next_of_nothing}
-use Rattle.pcap_input.proofs.Records.{records_left-ends, records_left-stands}
+use Rattle.pcap_input.specs.Savefile.{Follows, captured_length, head_after, head_of, head_with, moment_of, most_records, next_of, number_at, place_after, record_of, records_left, savefile}
+use Rattle.pcap_input.proofs.Laws.{bytes_follow, head_of-append, next_of_header, next_of_nothing}
+use Rattle.pcap_input.proofs.Records.{records_left-ends, records_left-follows}
 use Rattle.pcapng_input.specs.Twins.{Caught, IsSavefileOf, IsWritable, a_second, held_from, nanos_each, number_of, held_as, pcap_record, pcap_text, word}
 
 -- ---- words
@@ -41,7 +41,7 @@ pcap_header-length true nanos link = refl
 pcap_header-length false nanos link = refl
 
 pcap_header-head : (swapped nanos : Bool) (link : Link) → head_of (pcap_header swapped nanos link) ≡ Ok (record { link = link; swapped = swapped; nanos = nanos })
-unfolding pcap_header word head_of head_behind head_with number_at
+unfolding pcap_header word head_of head_after head_with number_at
 pcap_header-head true true Ethernet = refl
 pcap_header-head true true RawIp = refl
 pcap_header-head true true Cooked = refl
@@ -114,17 +114,17 @@ pcap_record-is swapped nanos link number packet held =
     let fields = pcap_fields-read swapped nanos packet held in
     rw (fields.first, fields.second, fields.fourth, moment_read nanos packet.time) refl
 
-pcap_record-stands : (swapped nanos : Bool) (link : Link) (number place : ℕ) (packet : Caught) (more : List ℕ) → number < 4294967295 → IsWritable nanos packet
-    → next_of (record { link = link; swapped = swapped; nanos = nanos }) number place (pcap_record swapped nanos packet ++ more) ≡ Stands (held_as number nanos packet) more
+pcap_record-follows : (swapped nanos : Bool) (link : Link) (number place : ℕ) (packet : Caught) (more : List ℕ) → number < 4294967295 → IsWritable nanos packet
+    → next_of (record { link = link; swapped = swapped; nanos = nanos }) number place (pcap_record swapped nanos packet ++ more) ≡ Follows (held_as number nanos packet) more
 unfolding pcap_record pcap_fields captured_length
-pcap_record-stands swapped nanos link number place packet more few held =
+pcap_record-follows swapped nanos link number place packet more few held =
     let head : CaptureHead = record { link = link; swapped = swapped; nanos = nanos } in
     let fields = pcap_fields swapped nanos packet in
     let read = pcap_fields-read swapped nanos packet held in
     ap (next_of head number place) (append_assoc fields packet.bytes more)
     ∙ next_of_header head number place fields (packet.bytes ++ more) (pcap_fields-length swapped nanos packet) few
-    ∙ bytes_stand head number place fields packet.bytes more read.third held.short
-    ∙ ap (λ r. Stands r more) (pcap_record-is swapped nanos link number packet held)
+    ∙ bytes_follow head number place fields packet.bytes more read.third held.short
+    ∙ ap (λ r. Follows r more) (pcap_record-is swapped nanos link number packet held)
 
 pcap_records-are : (swapped nanos : Bool) (link : Link) (number place : ℕ) (packets : List Caught) → All (IsWritable nanos) packets → number + length packets ≤ 4294967295
     → records_left (record { link = link; swapped = swapped; nanos = nanos }) number place (flat_map (pcap_record swapped nanos) packets) ≡ clean_with (held_from number nanos packets)
@@ -134,10 +134,10 @@ pcap_records-are swapped nanos link number place (packet ∷ packets) all few =
     let head : CaptureHead = record { link = link; swapped = swapped; nanos = nanos } in
     let more = flat_map (pcap_record swapped nanos) packets in
     let first = held_as number nanos packet in
-    records_left-stands head number place (pcap_record swapped nanos packet ++ more) first more
-    (pcap_record-stands swapped nanos link number place packet more (omega arith) (All-head (IsWritable nanos) packet packets all))
+    records_left-follows head number place (pcap_record swapped nanos packet ++ more) first more
+    (pcap_record-follows swapped nanos link number place packet more (omega arith) (All-head (IsWritable nanos) packet packets all))
     ∙ ap (with_first first)
-    (pcap_records-are swapped nanos link (number + 1) (place_behind place first) packets (All-tail (IsWritable nanos) packet packets all) (omega arith))
+    (pcap_records-are swapped nanos link (number + 1) (place_after place first) packets (All-tail (IsWritable nanos) packet packets all) (omega arith))
 
 savefile_with : (bytes : List ℕ) (head : CaptureHead) (limit : Option ℕ) → head_of bytes ≡ Ok head → savefile bytes limit ≡ Ok (record { head = head; cut = first_records limit (records_left head 0 24 (drop 24 bytes)) })
 unfolding savefile
@@ -152,10 +152,10 @@ savefile_is swapped nanos link packets limit all few =
     let more = flat_map (pcap_record swapped nanos) packets in
     let header = pcap_header swapped nanos link in
     let begins : head_of (header ++ more) ≡ Ok head = head_of-append header more (omega (arith, pcap_header-length swapped nanos link)) ∙ pcap_header-head swapped nanos link in
-    let behind : drop 24 (header ++ more) ≡ more = drop_at header more 24 (pcap_header-length swapped nanos link) in
+    let after : drop 24 (header ++ more) ≡ more = drop_at header more 24 (pcap_header-length swapped nanos link) in
     savefile_with (header ++ more) head limit begins
     ∙ ap (λ (cut : Cut Record CaptureFault). Ok (record { head = head; cut = first_records limit cut }))
-    (ap (records_left head 0 24) behind ∙ pcap_records-are swapped nanos link 0 24 packets all (omega (arith, few)))
+    (ap (records_left head 0 24) after ∙ pcap_records-are swapped nanos link 0 24 packets all (omega (arith, few)))
 
 -- the file is read as what was written
 pub pcap_text-read : (swapped nanos : Bool) (link : Link) (packets : List Caught) → All (IsWritable nanos) packets → length packets ≤ most_records → IsSavefileOf swapped nanos link packets

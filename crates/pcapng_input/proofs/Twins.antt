@@ -25,7 +25,7 @@ use Rattle.pcapng_input.specs.declared.walk.Interface.{Interface}
 use Rattle.pcapng_input.specs.declared.walk.Walk.{Walk}
 use Rattle.pcapng_input.specs.Blocks.{Gives, Skips, content_of, enhanced_of, front_length, given_by, inner_length, interface_of, is_full, is_sized, kind_of, known, link_of, other_block, packet_of, section_type, step_of, first_walk, next_of as ng_next, ng_records, opening, order_of, section_of, records_left as ng_left}
 use Rattle.pcapng_input.proofs.Captures.Nexts.{next_of-gives, next_of-skips, next_of-stops}
-use Rattle.pcapng_input.proofs.Captures.Records.{records_left-ends as ng_left-ends, records_left-same as ng_left-same, records_left-stands as ng_left-stands}
+use Rattle.pcapng_input.proofs.Captures.Records.{records_left-ends as ng_left-ends, records_left-same as ng_left-same, records_left-follows as ng_left-follows}
 use Rattle.pcapng_input.specs.Options.{resolution_along, resolution_told}
 use Rattle.pcapng_input.proofs.Blocks.Begins.{begun_other, begun_section, fronted-ok, known_fronted, section_known, step_begun, step_nothing}
 use Rattle.pcapng_input.proofs.Blocks.Closing.{closing_whole, given-interface, given-packet, given-skipped}
@@ -270,8 +270,8 @@ packets-are swapped nanos link number at last (packet ∷ packets) all few near 
     let text = block_text swapped 6 (packet_body swapped packet) ++ more in
     let first = on_link link (held_as number nanos packet) in
     let moment : Moment = record { nanos = packet.time * nanos_each nanos } in
-    let behind = walk_in swapped (interface_is nanos link ∷ []) (number + 1) moment (at + packet_total swapped packet) in
-    ng_left-stands walk text first behind more (next_of-gives walk text first behind more (packet-given swapped nanos link number at last packet more held (omega arith) (omega arith)))
+    let after = walk_in swapped (interface_is nanos link ∷ []) (number + 1) moment (at + packet_total swapped packet) in
+    ng_left-follows walk text first after more (next_of-gives walk text first after more (packet-given swapped nanos link number at last packet more held (omega arith) (omega arith)))
     ∙ ap (with_first first)
     (packets-are swapped nanos link (number + 1) (at + packet_total swapped packet) moment packets (All-tail (IsWritable nanos) packet packets all) (omega arith)
     (omega (arith, packet_total-short swapped packet held.short)))
@@ -395,15 +395,15 @@ section-opens swapped more =
     let type_is : number_at false 0 4 bytes ≡ section_type = number_at-append false 0 4 (section_first swapped) rest (omega (arith, is.eight)) ∙ is.type_is in
     let begins : (nat_le 4 (length bytes) && (number_at false 0 4 bytes == section_type)) ≡ true = grind (arith, nat_tests, type_is) in
     let enough : nat_lt (length bytes) 12 ≡ false = grind (arith, nat_tests) in
-    let behind : drop 8 bytes ≡ rest = drop_at (section_first swapped) rest 8 is.eight in
-    let magic : take 4 (drop 8 bytes) ≡ word swapped 4 0x1a2b_3c4d = ap (take 4) behind ∙ take_at (word swapped 4 0x1a2b_3c4d) (section_front swapped ++ (([] ++ word swapped 4 28) ++ more)) 4 (word-length swapped 4 0x1a2b_3c4d) in
+    let after : drop 8 bytes ≡ rest = drop_at (section_first swapped) rest 8 is.eight in
+    let magic : take 4 (drop 8 bytes) ≡ word swapped 4 0x1a2b_3c4d = ap (take 4) after ∙ take_at (word swapped 4 0x1a2b_3c4d) (section_front swapped ++ (([] ++ word swapped 4 28) ++ more)) 4 (word-length swapped 4 0x1a2b_3c4d) in
     ap opening parts ∙ opening-on bytes swapped begins enough (ap order_of magic ∙ is.order_is) ∙ ap (step_of first_walk) (sym parts) ∙ section-skipped swapped more
 
 -- ---- whole
 
-ng_records-with : (bytes more : List ℕ) (behind : Walk) (limit : Option ℕ) → opening bytes ≡ Skips behind more → ng_records bytes limit ≡ Ok (first_records limit (ng_left first_walk bytes))
+ng_records-with : (bytes more : List ℕ) (after : Walk) (limit : Option ℕ) → opening bytes ≡ Skips after more → ng_records bytes limit ≡ Ok (first_records limit (ng_left first_walk bytes))
 unfolding ng_records
-ng_records-with bytes more behind limit is = rw (ng_records, is) refl
+ng_records-with bytes more after limit is = rw (ng_records, is) refl
 
 pcapng_is : (swapped nanos : Bool) (link : Link) (packets : List Caught) (limit : Option ℕ) → All (IsWritable nanos) packets → length packets ≤ most_records
     → ng_records (ng_text swapped nanos link packets) limit ≡ Ok (first_records limit (clean_with (map (on_link link) (held_from 0 nanos packets))))

@@ -137,19 +137,19 @@ abbrev pub new_section : Walk → Bool → Walk
 new_section walk swapped = record walk { section = record { swapped = swapped; interfaces = [] } }
 
 -- the walk after a block
-abbrev pub behind_block : Walk → Block → Walk
-behind_block walk block = record walk { at = walk.at + block.total }
+abbrev pub after_block : Walk → Block → Walk
+after_block walk block = record walk { at = walk.at + block.total }
 
 -- the walk after an interface description
-abbrev pub behind_interface : Walk → Block → Interface → Walk
-behind_interface walk block interface = record walk {
+abbrev pub after_interface : Walk → Block → Interface → Walk
+after_interface walk block interface = record walk {
   section = record { swapped = walk.section.swapped; interfaces = walk.section.interfaces ++ interface ∷ [] };
   at = walk.at + block.total;
 }
 
 -- the walk after a packet
-abbrev pub behind_packet : Walk → Block → Packet → Walk
-behind_packet walk block packet = record walk { number = walk.number + 1; last = packet.moment; at = walk.at + block.total }
+abbrev pub after_packet : Walk → Block → Packet → Walk
+after_packet walk block packet = record walk { number = walk.number + 1; last = packet.moment; at = walk.at + block.total }
 
 -- the link layer of a link type, where it is one of the three
 abbrev pub link_of : ℕ → Option Link
@@ -239,31 +239,31 @@ record_of walk packet bytes = record {
 
 -- what a whole block gives: these bytes are between its fixed front and its last four, and these come after
 unfoldable pub given_by : Walk → Block → Content → List ℕ → List ℕ → Step
-given_by walk block content.Skipped inner more = Skips (behind_block walk block) more
+given_by walk block content.Skipped inner more = Skips (after_block walk block) more
 given_by walk block (content.Interface link snaplen) inner more =
     elim (resolution_told walk.section.swapped inner) [
       | None ↦ refused (bad_block walk)
-      | Some resolution ↦ Skips (behind_interface walk block (record { link = link; snaplen = snaplen; resolution = resolution }))
+      | Some resolution ↦ Skips (after_interface walk block (record { link = link; snaplen = snaplen; resolution = resolution }))
           more
     ]
 given_by walk block (content.Packet packet) inner more =
-    Gives (record_of walk packet (take packet.captured inner)) (behind_packet walk block packet) more
+    Gives (record_of walk packet (take packet.captured inner)) (after_packet walk block packet) more
 
 -- what comes after a fixed front that tells this: the block is whole, and its last four bytes are its
 -- total length again
 unfoldable pub closing : Walk → Block → Content → List ℕ → Step
-closing walk block told behind =
-    if nat_lt (length behind) (inner_length block + 4) then truncated walk else
-    if number_at walk.section.swapped 0 4 (drop (inner_length block) behind) == block.total
-    then given_by walk block told (take (inner_length block) behind) (drop (inner_length block + 4) behind)
+closing walk block told after =
+    if nat_lt (length after) (inner_length block + 4) then truncated walk else
+    if number_at walk.section.swapped 0 4 (drop (inner_length block) after) == block.total
+    then given_by walk block told (take (inner_length block) after) (drop (inner_length block + 4) after)
     else refused (bad_block walk)
 
 -- what comes where a block has this fixed front, before these bytes
 unfoldable pub fronted : Walk → Block → List ℕ → List ℕ → Step
-fronted walk block front behind =
+fronted walk block front after =
     elim (content_of walk block front) [
       | Err why ↦ refused why
-      | Ok told ↦ closing walk block told behind
+      | Ok told ↦ closing walk block told after
     ]
 
 -- what comes where a block is known, before its front
@@ -324,7 +324,7 @@ opening bytes =
 -- what comes next: the ending, or a record, how far the blocks were read, and the bytes after its block
 pub data Next : Type 0 where
   Ends : Ending NgFault → Next
-  Stands : NgRecord → Walk → List ℕ → Next
+  Follows : NgRecord → Walk → List ℕ → Next
 
 -- what comes next after at most `most` skipped blocks
 unfoldable pub next_along : ℕ → Walk → List ℕ → Next
@@ -332,8 +332,8 @@ next_along zero walk rest = Ends Clean
 next_along (suc most) walk rest =
     elim (step_of walk rest) [
       | Stops ending ↦ Ends ending
-      | Skips behind more ↦ next_along most behind more
-      | Gives given behind more ↦ Stands given behind more
+      | Skips after more ↦ next_along most after more
+      | Gives given after more ↦ Follows given after more
     ]
 
 -- what comes next: fewer blocks are skipped than bytes are left
@@ -346,7 +346,7 @@ cut_up zero walk rest = no_more Clean
 cut_up (suc most) walk rest =
     elim (next_of walk rest) [
       | Ends ending ↦ no_more ending
-      | Stands first behind more ↦ with_first first (cut_up most behind more)
+      | Follows first after more ↦ with_first first (cut_up most after more)
     ]
 
 -- the records and the ending of these bytes: there are fewer records than bytes, so all of them

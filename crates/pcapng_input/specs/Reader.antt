@@ -15,7 +15,7 @@ use Rattle.pcapng_input.specs.Steps.{HoldsNone}
 use Rattle.pcapng_input.specs.declared.step.BlockRead.{BlockRead}
 use Rattle.pcapng_input.specs.declared.step.BlockRead.TheVariants as read
 use Rattle.pcap_input.specs.Cut.{Ending, Clean, Refused}
-use Rattle.pcapng_input.specs.Blocks.{Step, Stops, Skips, opening, Next, Ends, Stands, next_of}
+use Rattle.pcapng_input.specs.Blocks.{Step, Stops, Skips, opening, Next, Ends, Follows, next_of}
 
 -- a reader: how far it has walked, and what it has refused
 pub record Reading : Type 0 where
@@ -70,7 +70,7 @@ IsHeadAnswer (Err why) = IsOfHead why
 -- the answer is what comes next, unless memory lacked or the host failed
 abbrev pub Answers : Result (Option NgRecord) NgFault → Next → Type 0
 Answers (Ok None) next = next ≡ Ends Clean
-Answers (Ok (Some given)) next = (walk : Walk) × ((rest : List ℕ) × (next ≡ Stands given walk rest))
+Answers (Ok (Some given)) next = (walk : Walk) × ((rest : List ℕ) × (next ≡ Follows given walk rest))
 Answers (Err fault.NoMemory) next = ⊤
 Answers (Err fault.Failed) next = ⊤
 Answers (Err why) next = next ≡ Ends (Refused why)
@@ -80,7 +80,7 @@ Answers (Err why) next = next ≡ Ends (Refused why)
 pub record TakesRecord (old new : Reading) (given : NgRecord) (left_old left_new : Option (List ℕ)) : Type 0 where
   pub taken : List ℕ
   pub took : left_old ≡ before taken left_new
-  pub goes : (more : List ℕ) → next_of old.walk (taken ++ more) ≡ Stands given new.walk more
+  pub goes : (more : List ℕ) → next_of old.walk (taken ++ more) ≡ Follows given new.walk more
   pub fresh : new.refused ≡ None
 
 -- only blocks that are skipped were taken: whatever follows them, the reader goes on with it
@@ -107,7 +107,7 @@ abbrev pub GoesBy : Walk → Walk → Result (Option NgRecord) NgFault → List 
 GoesBy old new (Ok None) taken left =
     ((more : List ℕ) → next_of old (taken ++ more) ≡ next_of new more)
     × ((rest : List ℕ) → left ≡ Some rest → next_of old (taken ++ rest) ≡ Ends Clean)
-GoesBy old new (Ok (Some given)) taken left = (more : List ℕ) → next_of old (taken ++ more) ≡ Stands given new more
+GoesBy old new (Ok (Some given)) taken left = (more : List ℕ) → next_of old (taken ++ more) ≡ Follows given new more
 GoesBy old new (Err fault.Failed) taken left = (ending : Ending NgFault) × (next_of old taken ≡ Ends ending)
 GoesBy old new (Err fault.NoMemory) taken left = (ending : Ending NgFault) × (next_of old taken ≡ Ends ending)
 GoesBy old new (Err why) taken left =

@@ -57,8 +57,8 @@ pub record TakesLast (swapped : Bool) (total len : ℕ) (same : Bool) (old new :
 -- no record is in these bytes: they end a block before one is whole, or end with a block
 abbrev pub HoldsNone : Step → Type 0
 HoldsNone (Stops ending) = ⊤
-HoldsNone (Skips behind more) = more ≡ []
-HoldsNone (Gives given behind more) = ⊥
+HoldsNone (Skips after more) = more ≡ []
+HoldsNone (Gives given after more) = ⊥
 
 -- the bytes taken, and all that were left, have this ending
 pub record EndsBy (stage : List ℕ → Step) (step : Step) (taken : List ℕ) (new : Option (List ℕ)) : Type 0 where

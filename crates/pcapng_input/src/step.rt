@@ -132,8 +132,8 @@ fn read_packet<H: Host>(
     ensures only_read { OnlyRead H.Host host.old host.new }
 {
     let bytes = read_bytes(host, walk.at, packet.captured, spares.pop(alloc))?;
-    let behind = block.inner() - packet.captured;
-    let closed = is_closed(host, walk.at, behind, walk.section.swapped, block.total)?;
+    let after = block.inner() - packet.captured;
+    let closed = is_closed(host, walk.at, after, walk.section.swapped, block.total)?;
     if !closed {
         return Err(walk.bad_block());
     }

@@ -6,4 +6,4 @@ pub mod Memory
 pub mod Places
 pub mod Sharing
 pub mod Splits
-pub mod Standing
+pub mod Moving

@@ -5,4 +5,4 @@ pub mod Linked
 pub mod Ownership
 pub mod Pieces
 pub mod Rooms
-pub mod Stands
+pub mod Placed

@@ -20,13 +20,13 @@ pub(crate) struct Chain<T> {
 impl<T> Model for Chain<T> {
     ghost use Rattle.std.specs.Prelude.{ℕ, List};
     ghost use Rattle.piece_list.specs.Linked.{values};
-    ghost use Rattle.piece_list.specs.Stands.{Stands};
+    ghost use Rattle.piece_list.specs.Placed.{Placed};
 
     ghost Value = { List T × ℕ };
 
     ghost view = { λ c. (values c.ring.nodes, c.at) };
 
-    ghost invariant = { λ c. Stands c.ring c.head.ptr c.tail.ptr c.here.ptr c.len c.at };
+    ghost invariant = { λ c. Placed c.ring c.head.ptr c.tail.ptr c.here.ptr c.len c.at };
 }
 
 impl<T> Chain<T> {

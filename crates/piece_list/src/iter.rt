@@ -19,13 +19,13 @@ pub(crate) struct ChainIter<'a, T> {
 impl<'a, T> Model for ChainIter<'a, T> {
     ghost use Rattle.std.specs.Prelude.{◌+◌, ◌^◌, ◌<◌, List, drop};
     ghost use Rattle.piece_list.specs.Linked.{values};
-    ghost use Rattle.piece_list.specs.Stands.{Stands};
+    ghost use Rattle.piece_list.specs.Placed.{Placed};
 
     ghost Value = { List T };
 
     ghost view = { λ i. drop i.from (values i.ring.now.nodes) };
 
-    ghost invariant = { λ i. Stands i.ring.now i.ring.now.head i.ring.now.tail i.here.ptr (i.from + i.left) i.from
+    ghost invariant = { λ i. Placed i.ring.now i.ring.now.head i.ring.now.tail i.here.ptr (i.from + i.left) i.from
         × (i.from + i.left < 2 ^ 64) };
 }
 

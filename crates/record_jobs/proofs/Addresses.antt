@@ -15,7 +15,7 @@ use Rattle.frag3_core.specs.declared.answer.Ignored.{Ignored}
 use Rattle.frag3_core.specs.declared.answer.Taken.TheVariants as answer
 use Rattle.frag3_core.specs.Trackers.{Frag3State, Fragment, answer_of, datagram_of, ignored, own, taken}
 use Rattle.record_jobs.specs.Addresses.{KeepEnds}
-use Rattle.record_jobs.specs.Packets.{datagram_in, datagram_of_fragment, fragment_of, frag3_behind, is_fragment, fragment_fields, said_by, completed_datagram}
+use Rattle.record_jobs.specs.Packets.{datagram_in, datagram_of_fragment, fragment_of, frag3_after, is_fragment, fragment_fields, said_by, completed_datagram}
 use Rattle.record_jobs.specs.Way.{LinkedRecord, Way}
 
 -- between the addresses of this head
@@ -66,6 +66,6 @@ pub ends : (way : Way) (before : List LinkedRecord) (r : LinkedRecord) → KeepE
 unfolding datagram_in
 ends way before r datagram is =
     let moment : Moment = r.captured.moment in
-    let waiting : Option Frag3State = frag3_behind way before in
+    let waiting : Option Frag3State = frag3_after way before in
     let same = from_ends (datagram_of_fragment way waiting moment) (fragment_ends way waiting moment) (said_by way r) datagram is in
     record { ends = same; version = one_version (said_by way r) datagram (of_one way r) same }

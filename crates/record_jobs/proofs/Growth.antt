@@ -16,7 +16,7 @@ use Rattle.frag3_core.proofs.Laws.{state_after-push}
 use Rattle.flow_lanes.specs.declared.job.Job.{Job}
 use Rattle.flow_lanes.specs.declared.job.Work.{Work}
 use Rattle.record_jobs.specs.Jobs.{begin_of, end_of, job_count, numbered, works}
-use Rattle.record_jobs.specs.Packets.{fragment_in, fragment_of, fragments, frag3_behind, fragment_fields, said_by}
+use Rattle.record_jobs.specs.Packets.{fragment_in, fragment_of, fragments, frag3_after, fragment_fields, said_by}
 use Rattle.record_jobs.specs.Steps.{waiting_after, waiting_after_fragment}
 use Rattle.record_jobs.specs.Touches.{keys_in, key_in, touches}
 use Rattle.record_jobs.specs.Way.{LinkedRecord, Way}
@@ -85,9 +85,9 @@ frag3_step way before r (Some config) (Some fields) e =
     ∙ ap (λ (o : Option Fields). option_map_or (after (state_after config.max_frags (fragments way config before))) (option_map (fragment_of way config r.captured.moment) o) (state_after config.max_frags (fragments way config before))) e)
 
 -- the fragments that wait after one record more
-pub frag3_behind-push : (way : Way) (before : List LinkedRecord) (r : LinkedRecord) → frag3_behind way (before ++ r ∷ []) ≡ waiting_after way (frag3_behind way before) r
-unfolding frag3_behind waiting_after waiting_after_fragment
-frag3_behind-push way before r = frag3_step way before r way.frag (fragment_fields (said_by way r)) refl
+pub frag3_after-push : (way : Way) (before : List LinkedRecord) (r : LinkedRecord) → frag3_after way (before ++ r ∷ []) ≡ waiting_after way (frag3_after way before) r
+unfolding frag3_after waiting_after waiting_after_fragment
+frag3_after-push way before r = frag3_step way before r way.frag (fragment_fields (said_by way r)) refl
 
 -- ---- jobs
 

@@ -11,7 +11,7 @@ use Rattle.flow_lanes.specs.declared.job.Job.{Job}
 use Rattle.record_jobs.specs.declared.counts.RecordCounts.{RecordCounts}
 use Rattle.record_jobs.specs.Counts.{counts}
 use Rattle.record_jobs.specs.Jobs.{begin_of, end_of, finishes, job_count, jobs}
-use Rattle.record_jobs.specs.Packets.{frag3_behind}
+use Rattle.record_jobs.specs.Packets.{frag3_after}
 use Rattle.record_jobs.specs.Ready.{HasShortData}
 use Rattle.record_jobs.specs.Touches.{most_flows, touches}
 use Rattle.record_jobs.specs.Way.{LinkedRecord, Way}
@@ -27,8 +27,8 @@ pub record FrontState : Type 0 where
   pub counts : RecordCounts
 
 -- the front stands for these records
-pub record StandsFor (way : Way) (front : FrontState) (before : List LinkedRecord) : Type 0 where
-  pub frag3 : front.frag3 ≡ frag3_behind way before
+pub record IsFrontAfter (way : Way) (front : FrontState) (before : List LinkedRecord) : Type 0 where
+  pub frag3 : front.frag3 ≡ frag3_after way before
   pub flows : HasSeen front.flows (touches way before)
   pub most : front.flows.max ≡ most_flows way.stream
   pub begin : front.begin ≡ begin_of before
@@ -42,18 +42,18 @@ pub record StandsFor (way : Way) (front : FrontState) (before : List LinkedRecor
 pub record HasTaken (way : Way) (before : List LinkedRecord) (r : LinkedRecord) (new : FrontState)
     (jobs_old jobs_new : List Job) : Type 0 where
   pub added : jobs_new ≡ jobs_old ++ jobs way before r
-  pub stands : StandsFor way new (before ++ r ∷ [])
+  pub holds : IsFrontAfter way new (before ++ r ∷ [])
 
 -- whatever records the front stood for, it took one more
 abbrev pub TakesRecord : Way → FrontState → LinkedRecord → FrontState → List Job → List Job → Type 0
 TakesRecord way old r new jobs_old jobs_new =
-    (before : List LinkedRecord) → StandsFor way old before → HasTaken way before r new jobs_old jobs_new
+    (before : List LinkedRecord) → IsFrontAfter way old before → HasTaken way before r new jobs_old jobs_new
 
 -- whatever records the front stands for, the jobs after them were added to the old list
 abbrev pub GivesFinishes : FrontState → List Job → List Job → Type 0
 GivesFinishes front jobs_old jobs_new =
-    (way : Way) (before : List LinkedRecord) → StandsFor way front before → jobs_new ≡ jobs_old ++ finishes way before
+    (way : Way) (before : List LinkedRecord) → IsFrontAfter way front before → jobs_new ≡ jobs_old ++ finishes way before
 
 -- whatever records the front stands for, these are their counts
 abbrev pub TellsCounts : FrontState → RecordCounts → Type 0
-TellsCounts front told = (way : Way) (before : List LinkedRecord) → StandsFor way front before → told ≡ counts way before
+TellsCounts front told = (way : Way) (before : List LinkedRecord) → IsFrontAfter way front before → told ≡ counts way before

@@ -9,7 +9,7 @@ use Rattle.conf_types.specs.declared.config.StreamConfig.{StreamConfig}
 use Rattle.conf_types.specs.declared.config.StreamEngine.{StreamEngine}
 use Rattle.conf_types.specs.Defaults.{default_stream_engine}
 use Rattle.flow_lanes.specs.Flows.{Detection}
-use Rattle.flow_lanes.specs.Standing.{LanesStand, LanesState}
+use Rattle.flow_lanes.specs.LanesAfter.{AreAfter, LanesState}
 use Rattle.record_jobs.specs.Jobs.{jobs}
 use Rattle.record_jobs.specs.Way.{LinkedRecord, Way}
 
@@ -32,4 +32,4 @@ pub record KeepStreams (way : Way) (d : Detection) (records : List LinkedRecord)
   pub stream : d.making.stream ≡ way.stream
   pub tcp : 0 < way.stream.max_tcp
   pub udp : 0 < way.stream.max_udp
-  pub stand : LanesStand d lanes (trail (jobs way) records)
+  pub hold : AreAfter d lanes (trail (jobs way) records)

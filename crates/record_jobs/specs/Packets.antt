@@ -75,8 +75,8 @@ abbrev pub fragments : Way → FragConfig → List LinkedRecord → List Fragmen
 fragments way config records = filter_map (fragment_in way config) records
 
 -- the fragments that wait for their datagrams after these records; none are kept where no line gives an engine
-unfoldable pub frag3_behind : Way → List LinkedRecord → Option Frag3State
-frag3_behind way records =
+unfoldable pub frag3_after : Way → List LinkedRecord → Option Frag3State
+frag3_after way records =
     option_map (λ (config : FragConfig). state_after config.max_frags (fragments way config records)) way.frag
 
 -- the datagram, where a fragment completed one
@@ -96,7 +96,7 @@ abbrev pub datagram_from : Way → Option Frag3State → Moment → Result Field
 datagram_from way waiting moment said = option_and_then (datagram_of_fragment way waiting moment) (fragment_fields said)
 
 unfoldable pub datagram_in : Way → List LinkedRecord → LinkedRecord → Option Datagram
-datagram_in way before r = datagram_from way (frag3_behind way before) r.captured.moment (said_by way r)
+datagram_in way before r = datagram_from way (frag3_after way before) r.captured.moment (said_by way r)
 
 -- what the datagram says, or why it is skipped
 abbrev pub datagram_said : Checks → Datagram → Result Fields Skip

@@ -10,7 +10,7 @@ use Rattle.flow_lanes.specs.declared.job.Work.{Work}
 use Rattle.flow_lanes.specs.declared.job.Work.TheVariants as work
 use Rattle.flow_lanes.specs.Flows.{same_flow}
 use Rattle.flow_lanes.specs.Sound.{IsSoundFor, facts_after}
-use Rattle.flow_lanes.specs.Standing.{AreNext, AreSoundFor, LanesState, known_in}
+use Rattle.flow_lanes.specs.LanesAfter.{AreNext, AreSoundFor, LanesState, known_in}
 use Rattle.record_jobs.specs.Jobs.{finishes, jobs}
 use Rattle.record_jobs.specs.Way.{LinkedRecord, Way}
 

@@ -2,7 +2,7 @@
 ghost use Rattle.std.specs.Prelude.{◌≡◌, ◌+◌, ◌^◌, ◌<◌, ◌≤◌, [], length, option_map, take, IfOk, IfSome, OnOk, OnErr};
 ghost use Rattle.conf_types.specs.Sound.{IsFragConfig, IsSound};
 ghost use Rattle.ipv6_decode.specs.Versions.{IsReadAsFour};
-ghost use Rattle.record_jobs.specs.Fronts.{GivesFinishes, StandsFor, TakesRecord, TellsCounts};
+ghost use Rattle.record_jobs.specs.Fronts.{GivesFinishes, IsFrontAfter, TakesRecord, TellsCounts};
 ghost use Rattle.record_jobs.specs.Steps.{Steps};
 ghost use Rattle.record_jobs.specs.Way.{linked, way_of};
 
@@ -24,7 +24,7 @@ use stream5_sessions::Flows;
 
 /// What makes a capture's records into jobs.
 ///
-/// Contracts see what it keeps, and which records it stands for (`StandsFor`).
+/// Contracts see what it keeps, and which records it stands for (`IsFrontAfter`).
 #[derive(Drop)]
 pub struct Front {
     /// Where fragments are put together.
@@ -55,7 +55,7 @@ impl Front {
     /// No record yet.
     pub fn new(alloc: Global, by: &FrontConfig<'_>) -> Result<Front, NoMemory>
         requires { IsSound by.now.config.now }
-        ensures stands { IfOk result (λ front. StandsFor (way_of by.now) front []) }
+        ensures holds { IfOk result (λ front. IsFrontAfter (way_of by.now) front []) }
         ensures none { IfOk result (λ front. front.counts.records ≡ 0) }
     {
         let stream = &by.config.stream;

@@ -9,11 +9,11 @@ ghost use Rattle.flow_lanes.specs.Fits.{FitsJob};
 ghost use Rattle.flow_lanes.specs.Flows.{Detection};
 ghost use Rattle.flow_lanes.specs.Holding.{held_bytes, held_segments};
 ghost use Rattle.flow_lanes.specs.Open.{is_open};
-ghost use Rattle.flow_lanes.specs.Standing.{AreNew, LanesState, LearnsBatch};
+ghost use Rattle.flow_lanes.specs.LanesAfter.{AreNew, LanesState, LearnsBatch};
 ghost use Rattle.record_jobs.specs.Addresses.{KeepEnds};
 ghost use Rattle.record_jobs.specs.Counts.{counts, none_counted};
 ghost use Rattle.record_jobs.specs.Fitting.{HoldsBytes};
-ghost use Rattle.record_jobs.specs.Fronts.{FrontState, StandsFor};
+ghost use Rattle.record_jobs.specs.Fronts.{FrontState, IsFrontAfter};
 ghost use Rattle.record_jobs.specs.Holding.{KeepStreams, most_held};
 ghost use Rattle.record_jobs.specs.Jobs.{finishes, jobs};
 ghost use Rattle.record_jobs.specs.Ready.{AreInOrder, AreNumbered, AreReady, AreSound, HaveLearnt};
@@ -34,7 +34,7 @@ pub fn no_records_no_jobs()
 
 /// A front counts the records that it stands for.
 pub fn records_are_counted()
-    ensures { (way : Way) (front : FrontState) (before : List LinkedRecord) → StandsFor way front before
+    ensures { (way : Way) (front : FrontState) (before : List LinkedRecord) → IsFrontAfter way front before
         → front.counts.records ≡ length before }
 {}
 

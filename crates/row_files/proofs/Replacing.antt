@@ -15,8 +15,8 @@ front_stays to s zero lacks = refl
 front_stays to [] (suc a) lacks = refl
 front_stays to (b ∷ s) (suc a) lacks =
     let other : b ≢ 35 = λ is. lacks 0 (omega arith) s (ap (λ x. x ∷ s) is) in
-    let behind = front_stays to s a (λ i below rest. lacks (suc i) (omega (arith, below)) rest) in
-    grind (arith, nat_tests, other, behind)
+    let after = front_stays to s a (λ i below rest. lacks (suc i) (omega (arith, below)) rest) in
+    grind (arith, nat_tests, other, after)
 
 module _ {P : Type 0} (text : P → List ℕ) (to : List ℕ) where
   -- the pattern is `#`
@@ -37,9 +37,9 @@ module _ {P : Type 0} (text : P → List ℕ) (to : List ℕ) where
       let ends : b ≡ a + 1 = found.1.ends ∙ ap (λ t. a + length t) is in
       let split : drop a s ≡ 35 ∷ drop b s = found.1.split ∙ ap (λ t. t ++ drop b s) is in
       let here : flat_map (byte_with to) (drop a s) ≡ to ++ flat_map (byte_with to) (drop b s) = ap (flat_map (byte_with to)) split in
-      let behind : rest ≡ flat_map (byte_with to) (drop b s) =
+      let after : rest ≡ flat_map (byte_with to) (drop b s) =
       ⊎_elim (λ further. replaces_each n q (drop b s) rest (kept ∙ is) further.1) (λ same. absurd (omega (arith, ends, same.0))) on in
-      made ∙ ap (λ t. take a s ++ (to ++ t)) behind ∙ ap (λ t. take a s ++ t) (sym here) ∙ sym front
+      made ∙ ap (λ t. take a s ++ (to ++ t)) after ∙ ap (λ t. take a s ++ t) (sym here) ∙ sym front
 
   -- each `#` is replaced in what could be made
   pub makes_each : {T E : Type 0} (bytes_of : T → List ℕ) (p : P) (s : List ℕ) (made : Result T E) → text p ≡ 35 ∷ []

@@ -16,7 +16,7 @@ use Rattle.rule_types.specs.declared.rule.Proto.{Proto}
 use Rattle.rule_types.specs.declared.rule.Proto.TheVariants as proto
 use Rattle.rule_types.specs.declared.rule.Rule.{Rule}
 use Rattle.header_eval.specs.Fields.{HeaderHolds, IsWay, PortHolds, destination_port, is_of, source_port}
-use Rattle.option_eval.specs.Numbers.{Standing}
+use Rattle.option_eval.specs.Numbers.{Point}
 use Rattle.option_eval.specs.Places.{IsWay as IsWayThrough, Leads, Means, sought, start}
 use Rattle.fast_pattern.specs.Candidates.{fits, header_fits, is_candidate, occurs_if_any, ports_fit}
 use Rattle.fast_pattern.specs.FastPattern.{pattern_of}
@@ -59,14 +59,14 @@ fits-from rule head h =
     (⊎_elim (λ way. inl (way.0.1, way.1.1)) (λ back. inr (back.0, (back.1.0.1, back.1.1.1))) h.1)
 
 -- a content that isn't negated occurs in the payload, where a way leads through the options
-content_occurs : (means : Means) (payload : List ℕ) (content : Content) (before after : Standing) → content.negated ≡ false → Leads means payload (opt.Content content) before after
+content_occurs : (means : Means) (payload : List ℕ) (content : Content) (before after : Point) → content.negated ≡ false → Leads means payload (opt.Content content) before after
     → (nocase : Bool) × (start : ℕ) × OccursAt (folded nocase payload) (folded nocase content.bytes) start
 unfolding Leads
 content_occurs means payload content before after kept led =
     let found = MatchBool-at_false _ _ kept led in
     ((sought content before).nocase, found.0, found.1.occurs)
 
-each_occurs : (means : Means) (payload : List ℕ) (options : List Opt) (before : Standing) (way : List Standing) → IsWayThrough means payload options before way
+each_occurs : (means : Means) (payload : List ℕ) (options : List Opt) (before : Point) (way : List Point) → IsWayThrough means payload options before way
     → (place : ℕ) (content : Content) → slice_get options place ≡ Some (opt.Content content) → content.negated ≡ false
     → (nocase : Bool) × (start : ℕ) × OccursAt (folded nocase payload) (folded nocase content.bytes) start
 each_occurs means payload [] before way h place content is kept = absurd (cc)

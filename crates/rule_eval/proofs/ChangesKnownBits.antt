@@ -8,7 +8,7 @@ use Rattle.std.proofs.lemmas.List.Elements.{All-cons, All-nil, All-weaker}
 use Rattle.rule_types.specs.declared.option.Opt.{Opt}
 use Rattle.rule_types.specs.declared.option.Opt.TheVariants as opt
 use Rattle.rule_types.specs.declared.rule.Rule.{Rule}
-use Rattle.rule_types.specs.Sound.{AreOptions, IsOption, IsTriable, names_behind}
+use Rattle.rule_types.specs.Sound.{AreOptions, IsOption, IsTriable, names_after_one}
 use Rattle.rule_eval.specs.Picking.{ChangesKnownBits, IsKnownChange}
 
 known_change : (names : List ℕ) (option : Opt) → IsOption names option → IsKnownChange option
@@ -17,7 +17,7 @@ known_change names _ h = tt
 
 known_changes : (names : List ℕ) (options : List Opt) → AreOptions names options → All IsKnownChange options
 known_changes names [] h = All-nil IsKnownChange
-known_changes names (option ∷ options) h = All-cons IsKnownChange option options (known_change names option h.0) (known_changes (names_behind names option) options h.1)
+known_changes names (option ∷ options) h = All-cons IsKnownChange option options (known_change names option h.0) (known_changes (names_after_one names option) options h.1)
 
 all_known : (rules : List Rule) → All IsTriable rules → All ChangesKnownBits rules
 all_known rules h = All-weaker IsTriable ChangesKnownBits (λ rule triable. known_changes [] rule.opts triable.options) rules h

@@ -11,7 +11,7 @@ use Rattle.rule_types.specs.declared.rule.Rule.{Rule}
 use Rattle.option_eval.specs.Places.{Means}
 use Rattle.fast_pattern.specs.Candidates.{candidates, is_candidate, places_from as candidates_from}
 use Rattle.rule_eval.specs.Hits.{AreHits, Bits, Item, Tells, Test, bits_after, bits_seen, places_from}
-use Rattle.rule_eval.specs.Picking.{Picks, PicksAll, bits_after_all, bits_behind_at, come_to, matches_at, picked}
+use Rattle.rule_eval.specs.Picking.{Picks, PicksAll, bits_after_all, bits_after_at, come_to, matches_at, picked}
 use Rattle.rule_eval.proofs.AreHits.{places_from-are}
 use Rattle.rule_eval.proofs.Candidates.{matching-candidate}
 
@@ -84,17 +84,17 @@ picked-more : (test : Test) (rules : List Rule) (item : Item) (bits : Option Bit
 unfolding picked
 picked-more test rules item bits [] place = refl
 picked-more test rules item bits (x ∷ xs) place =
-    by_case (matches_at test rules item bits x) (picked-more test rules item (bits_behind_at rules bits x) xs place) (picked-more test rules item bits xs place)
+    by_case (matches_at test rules item bits x) (picked-more test rules item (bits_after_at rules bits x) xs place) (picked-more test rules item bits xs place)
   where
-    behind : Option Bits
-    behind = bits_behind_at rules bits x
+    after : Option Bits
+    after = bits_after_at rules bits x
 
     by_case : (m : Bool)
-        → picked test rules item behind (xs ++ place ∷ []) ≡ picked test rules item behind xs ++ cond (matches_at test rules item (bits_after_all rules behind (picked test rules item behind xs)) place) (place ∷ []) []
+        → picked test rules item after (xs ++ place ∷ []) ≡ picked test rules item after xs ++ cond (matches_at test rules item (bits_after_all rules after (picked test rules item after xs)) place) (place ∷ []) []
         → picked test rules item bits (xs ++ place ∷ []) ≡ picked test rules item bits xs ++ cond (matches_at test rules item (bits_after_all rules bits (picked test rules item bits xs)) place) (place ∷ []) []
-        → cond m (x ∷ picked test rules item behind (xs ++ place ∷ [])) (picked test rules item bits (xs ++ place ∷ []))
-        ≡ cond m (x ∷ picked test rules item behind xs) (picked test rules item bits xs)
-        ++ cond (matches_at test rules item (bits_after_all rules bits (cond m (x ∷ picked test rules item behind xs) (picked test rules item bits xs))) place) (place ∷ []) []
+        → cond m (x ∷ picked test rules item after (xs ++ place ∷ [])) (picked test rules item bits (xs ++ place ∷ []))
+        ≡ cond m (x ∷ picked test rules item after xs) (picked test rules item bits xs)
+        ++ cond (matches_at test rules item (bits_after_all rules bits (cond m (x ∷ picked test rules item after xs) (picked test rules item bits xs))) place) (place ∷ []) []
     by_case true matched missed = ap (λ places. x ∷ places) matched
     by_case false matched missed = missed
 
@@ -104,19 +104,19 @@ found_if true found place = refl
 found_if false found place = sym (append-nil found)
 
 bits_if : (rules : List Rule) (m : Bool) (old mid : Option Bits) (found : List ℕ) (place : ℕ) → mid ≡ bits_after_all rules old found
-    → cond m (bits_behind_at rules mid place) mid ≡ bits_after_all rules old (cond m (found ++ place ∷ []) found)
+    → cond m (bits_after_at rules mid place) mid ≡ bits_after_all rules old (cond m (found ++ place ∷ []) found)
 bits_if rules true old mid found place is =
-    ap (λ b. bits_behind_at rules b place) is ∙ sym (fold-append (bits_behind_at rules) old found (place ∷ []))
+    ap (λ b. bits_after_at rules b place) is ∙ sym (fold-append (bits_after_at rules) old found (place ∷ []))
 bits_if rules false old mid found place is = is
 
 pub picks_all-none : (test : Test) (rules : List Rule) (item : Item) (bits : Option Bits) → PicksAll test rules item [] bits bits []
 unfolding picked
 picks_all-none test rules item bits = record { found = refl; bits = refl }
 
-pub picks_all-more : (test : Test) (rules : List Rule) (item : Item) (xs : List ℕ) (place : ℕ) (old mid new : Option Bits) (found behind : List ℕ)
-    → PicksAll test rules item xs old mid found → Picks test rules item place (come_to mid found) (come_to new behind)
-    → PicksAll test rules item (xs ++ place ∷ []) old new behind
-picks_all-more test rules item xs place old mid new found behind all one = record {
+pub picks_all-more : (test : Test) (rules : List Rule) (item : Item) (xs : List ℕ) (place : ℕ) (old mid new : Option Bits) (found after : List ℕ)
+    → PicksAll test rules item xs old mid found → Picks test rules item place (come_to mid found) (come_to new after)
+    → PicksAll test rules item (xs ++ place ∷ []) old new after
+picks_all-more test rules item xs place old mid new found after all one = record {
   found =
       one.found ∙ found_if (matches_at test rules item mid place) found place
       ∙ ap (λ m. found ++ cond (matches_at test rules item m place) (place ∷ []) []) all.bits

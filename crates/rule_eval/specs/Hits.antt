@@ -41,13 +41,13 @@ pub record RuleMatches (means : Means) (rule : Rule) (item : Item) (bits : Bits)
   pub payload : PayloadMatches means rule item.payload
 
 -- the bits after an option of a rule that matches
-abbrev pub bits_behind : Bits → Opt → Bits
-bits_behind bits (opt.BitDo change bit) = changed change bit bits
-bits_behind bits option = bits
+abbrev pub bits_after_option : Bits → Opt → Bits
+bits_after_option bits (opt.BitDo change bit) = changed change bit bits
+bits_after_option bits option = bits
 
 -- the bits after a rule that matches; without a session there are none to change
 abbrev pub bits_after : Option Bits → Rule → Option Bits
-bits_after bits rule = option_map (λ b. fold bits_behind b rule.opts) bits
+bits_after bits rule = option_map (λ b. fold bits_after_option b rule.opts) bits
 
 -- All rules that match, as a relation.
 

@@ -15,19 +15,19 @@ matches_at test rules item bits place =
     option_map_or (λ (rule : Rule). test rule item (bits_seen bits)) (slice_get rules place) false
 
 -- the bits after the rule at a place, which matches
-abbrev pub bits_behind_at : List Rule → Option Bits → ℕ → Option Bits
-bits_behind_at rules bits place = option_map_or (λ (rule : Rule). bits_after bits rule) (slice_get rules place) bits
+abbrev pub bits_after_at : List Rule → Option Bits → ℕ → Option Bits
+bits_after_at rules bits place = option_map_or (λ (rule : Rule). bits_after bits rule) (slice_get rules place) bits
 
 -- the bits after the rules at these places, which match
 abbrev pub bits_after_all : List Rule → Option Bits → List ℕ → Option Bits
-bits_after_all rules bits places = fold (bits_behind_at rules) bits places
+bits_after_all rules bits places = fold (bits_after_at rules) bits places
 
 -- of these places those at which the rule matches
 unfoldable pub picked : Test → List Rule → Item → Option Bits → List ℕ → List ℕ
 picked test rules item bits [] = []
 picked test rules item bits (place ∷ places) =
     if matches_at test rules item bits place
-    then place ∷ picked test rules item (bits_behind_at rules bits place) places
+    then place ∷ picked test rules item (bits_after_at rules bits place) places
     else picked test rules item bits places
 
 -- the bit that an option changes, if it changes one, is among the 1024 that a session has
@@ -49,7 +49,7 @@ come_to bits found = record { bits = bits; found = found }
 -- one more place is tried: it is picked and its changes are made where its rule matches
 pub record Picks (test : Test) (rules : List Rule) (item : Item) (place : ℕ) (old new : Progress) : Type 0 where
   pub found : new.found ≡ (if matches_at test rules item old.bits place then old.found ++ place ∷ [] else old.found)
-  pub bits : new.bits ≡ (if matches_at test rules item old.bits place then bits_behind_at rules old.bits place else old.bits)
+  pub bits : new.bits ≡ (if matches_at test rules item old.bits place then bits_after_at rules old.bits place else old.bits)
 
 -- places are tried one after another: those of them are picked at which the rule matches
 pub record PicksAll (test : Test) (rules : List Rule) (item : Item) (places : List ℕ) (old new : Option Bits)

@@ -5,7 +5,7 @@ ghost use Rattle.std.specs.FinSet.{empty};
 ghost use Rattle.fast_pattern.specs.Candidates.{candidates};
 ghost use Rattle.option_eval.specs.Places.{Means};
 ghost use Rattle.option_eval.specs.RuleSet.{FindWhatIsMeant};
-ghost use Rattle.rule_eval.specs.Hits.{AreHits, Tells, Test, bits_after, bits_behind, bits_seen};
+ghost use Rattle.rule_eval.specs.Hits.{AreHits, Tells, Test, bits_after, bits_after_option, bits_seen};
 ghost use Rattle.rule_eval.specs.Picking.{ChangesKnownBits, IsKnownChange, Picks, PicksAll, bits_after_all, come_to};
 ghost use Rattle.rule_eval.specs.Work.{visits_among, visits_at};
 
@@ -21,7 +21,7 @@ use std::sync::ledger::Ledger;
 /// The change that an option makes of a session's bits, if it makes one.
 fn change_bit(alloc: Global, bits: &mut Bits, opt: &Opt) -> Result<(), NoMemory>
     requires { IsKnownChange opt.now }
-    ensures { OnOk result (bits.new ≡ bits_behind bits.old opt.now) }
+    ensures { OnOk result (bits.new ≡ bits_after_option bits.old opt.now) }
 {
     match opt {
         Opt::BitDo { change, bit } => bits.apply(alloc, *change, *bit),
@@ -32,7 +32,7 @@ fn change_bit(alloc: Global, bits: &mut Bits, opt: &Opt) -> Result<(), NoMemory>
 /// The changes of all options, in their order.
 fn change_bits(alloc: Global, bits: &mut Bits, opts: &[Opt]) -> Result<(), NoMemory>
     requires { All IsKnownChange opts.now }
-    ensures { OnOk result (bits.new ≡ fold bits_behind bits.old opts.now) }
+    ensures { OnOk result (bits.new ≡ fold bits_after_option bits.old opts.now) }
 {
     for opt in opts {
         change_bit(alloc, bits, opt)?;

@@ -12,13 +12,13 @@ use Rattle.rule_parser.specs.Quotes.{closing_len, step_at, bytes_of, end_bytes, 
 
 -- bytes with these in front, if there are any
 abbrev pub in_front : List ℕ → Option (List ℕ) → Option (List ℕ)
-in_front front behind = option_map (λ rest. front ++ rest) behind
+in_front front after = option_map (λ rest. front ++ rest) after
 
-in_front-in_front : (xs ys : List ℕ) (behind : Option (List ℕ)) → in_front xs (in_front ys behind) ≡ in_front (xs ++ ys) behind
+in_front-in_front : (xs ys : List ℕ) (after : Option (List ℕ)) → in_front xs (in_front ys after) ≡ in_front (xs ++ ys) after
 in_front-in_front xs ys None = refl
 in_front-in_front xs ys (Some zs) = ap (λ (t : List ℕ). Some t) (sym (append_assoc xs ys zs))
 
-pub in_front-none : (behind : Option (List ℕ)) → in_front [] behind ≡ behind
+pub in_front-none : (after : Option (List ℕ)) → in_front [] after ≡ after
 in_front-none None = refl
 in_front-none (Some rest) = refl
 

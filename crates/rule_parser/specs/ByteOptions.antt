@@ -11,8 +11,8 @@ use Rattle.std.specs.Prelude.{ℕ, ◌+◌, ◌-◌, ◌==◌, ◌&&◌, ◌||�
 use Rattle.std.specs.List.{prefix_len}
 use Rattle.edge_io.specs.Bytes.{is_blank, trimmed}
 use Rattle.edge_io.specs.OnResult.{◌>>=◌}
-use Rattle.net_lists.specs.Cutting.{comma_parts, first_word, behind_word}
-use Rattle.net_lists.specs.Folds.{draft_behind}
+use Rattle.net_lists.specs.Cutting.{comma_parts, first_word, after_word}
+use Rattle.net_lists.specs.Folds.{draft_after}
 use Rattle.net_lists.specs.Numbers.{number_in, signed_in}
 use Rattle.net_lists.specs.Stops.{or_kind}
 use Rattle.rule_parser.specs.declared.byte_options.LentComparison.{LentComparison}
@@ -42,12 +42,12 @@ use Rattle.rule_parser.specs.Names.{place_among, signed_or_named, number_or_name
 pub record Part : Type 0 where
   pub text : List ℕ
   pub left : ℕ
-  pub behind : Option (List ℕ)
-  pub left_behind : ℕ
+  pub after : Option (List ℕ)
+  pub left_after : ℕ
 
 -- what is seen of a part that the code lends
 abbrev pub seen : LentPart → Part
-seen part = record { text = part.text.now; left = part.left; behind = option_copied part.behind; left_behind = part.left_behind }
+seen part = record { text = part.text.now; left = part.left; after = option_copied part.after; left_after = part.left_after }
 
 -- the place of the first comma
 abbrev pub comma : List ℕ → Option ℕ
@@ -55,12 +55,12 @@ comma text = position (λ b. b == 44) text
 
 -- the first part of a text
 abbrev pub part_to : ℕ → List ℕ → Option ℕ → Part
-part_to left text None = record { text = trimmed text; left = left - prefix_len is_blank text; behind = None; left_behind = 0 }
+part_to left text None = record { text = trimmed text; left = left - prefix_len is_blank text; after = None; left_after = 0 }
 part_to left text (Some place) = record {
   text = trimmed (take place text);
   left = left - prefix_len is_blank text;
-  behind = Some (drop (place + 1) text);
-  left_behind = left - (place + 1);
+  after = Some (drop (place + 1) text);
+  left_after = left - (place + 1);
 }
 
 unfoldable pub first_part : ℕ → List ℕ → Part
@@ -69,8 +69,8 @@ first_part left text = part_to left text (comma text)
 -- the part after one, where there is one
 unfoldable pub next_part : Part → Result Part Fault
 next_part part = do
-  text ← or_kind OptionValue part.behind
-  Ok (first_part part.left_behind text)
+  text ← or_kind OptionValue part.after
+  Ok (first_part part.left_after text)
 
 -- no words
 abbrev pub no_words : Words
@@ -88,7 +88,7 @@ no_words = record {
 
 -- a word that may be given once
 abbrev pub once_only : Bool → Words → Result Words Fault
-once_only stands next = if stands then Err OptionValue else Ok next
+once_only is_given next = if is_given then Err OptionValue else Ok next
 
 -- the numbers after the words `multiplier`, `post_offset` and `align`
 unfoldable pub with_times : Words → List ℕ → Result Words Fault
@@ -123,16 +123,16 @@ shared_word words part =
 -- the words of byte_jump and byte_extract, with their number or without one
 unfoldable pub jump_word : Words → List ℕ → Result Words Fault
 jump_word words part =
-    if bytes_eq (first_word part) (codes "multiplier") then with_times words (behind_word part)
-    else if bytes_eq (first_word part) (codes "post_offset") then with_post words (behind_word part)
+    if bytes_eq (first_word part) (codes "multiplier") then with_times words (after_word part)
+    else if bytes_eq (first_word part) (codes "post_offset") then with_post words (after_word part)
     else if bytes_eq part (codes "align") then once_only (is_some words.align) (record words { align = Some 4 })
     else if bytes_eq part (codes "from_beginning") then once_only words.beginning (record words { beginning = true })
     else shared_word words part
 
 unfoldable pub extract_word : Words → List ℕ → Result Words Fault
 extract_word words part =
-    if bytes_eq (first_word part) (codes "multiplier") then with_times words (behind_word part)
-    else if bytes_eq (first_word part) (codes "align") then with_multiple words (behind_word part)
+    if bytes_eq (first_word part) (codes "multiplier") then with_times words (after_word part)
+    else if bytes_eq (first_word part) (codes "align") then with_multiple words (after_word part)
     else shared_word words part
 
 -- a word of an option
@@ -144,7 +144,7 @@ word_of Extract = extract_word
 -- all words after the parts that have their places
 unfoldable pub words_of : Which → Option (List ℕ) → Result Words Fault
 words_of which None = Ok no_words
-words_of which (Some text) = draft_behind (word_of which) no_words (comma_parts text)
+words_of which (Some text) = draft_after (word_of which) no_words (comma_parts text)
 
 -- how the bytes are read
 abbrev pub base_of : Words → Base
@@ -218,7 +218,7 @@ byte_test names left value = do
   comparison ← comparison_of names count
   place ← next_part comparison.part
   offset ← offset_of names place
-  words ← words_of Test place.behind
+  words ← words_of Test place.after
   fetch ← fetch_of bytes offset words
   Ok (opt.ByteTest fetch comparison.negated comparison.cmp comparison.value)
 
@@ -232,7 +232,7 @@ byte_jump names left value = do
   bytes ← or_kind OptionValue (number_in 1 10 count.text)
   place ← next_part count
   offset ← offset_of names place
-  words ← words_of Jump place.behind
+  words ← words_of Jump place.after
   fetch ← fetch_of bytes offset words
   Ok (jump_of fetch words)
 
@@ -262,7 +262,7 @@ byte_extract names left value = do
   place ← next_part count
   offset ← offset_of names place
   name ← next_part place
-  words ← if is_name name.text then words_of Extract name.behind else Err OptionValue
+  words ← if is_name name.text then words_of Extract name.after else Err OptionValue
   fetch ← fetch_of bytes offset words
   Ok (record { fetch = fetch; words = words; name = name.text })
 
@@ -289,9 +289,9 @@ data_words (first ∷ second ∷ []) =
 data_words (first ∷ second ∷ third ∷ more) = Err OptionValue
 
 -- the parts of a text that may lack
-abbrev pub parts_behind : Option (List ℕ) → List (List ℕ)
-parts_behind None = []
-parts_behind (Some text) = comma_parts text
+abbrev pub parts_after : Option (List ℕ) → List (List ℕ)
+parts_after None = []
+parts_after (Some text) = comma_parts text
 
 -- what the value of `isdataat:[!]n[,relative][,rawbytes]` says, after these names
 unfoldable pub isdataat : List (List ℕ) → ℕ → List ℕ → Result Opt Fault
@@ -299,7 +299,7 @@ isdataat names left value = do
   let place = first_part left value
   let sign = negation place.text
   at ← number_or_named 0 65535 names (place.left - (if sign.0 then 1 else 0)) sign.1
-  relative ← data_words (parts_behind place.behind)
+  relative ← data_words (parts_after place.after)
   Ok (opt.IsDataAt at relative sign.0)
 
 unfoldable pub isdataat_option : Draft → ℕ → List ℕ → Result Draft Fault

@@ -101,9 +101,9 @@ ttl_to text None = signed_compare field.Ttl text
 ttl_to text (Some place) = ttl_range (take place text) (drop (place + 1) text)
 
 -- what comes after a `>` in front, if there is one
-abbrev pub behind_above : List ℕ → Option (List ℕ)
-behind_above [] = None
-behind_above (first ∷ rest) = if first == 62 then Some rest else None
+abbrev pub after_above : List ℕ → Option (List ℕ)
+after_above [] = None
+after_above (first ∷ rest) = if first == 62 then Some rest else None
 
 -- what a `dsize` says, by what comes after a `<>`
 abbrev pub dsize_to : List ℕ → List ℕ → Option (List ℕ) → Result Opt Fault
@@ -112,7 +112,7 @@ dsize_to text low (Some high) = dsize_range low high
 
 abbrev pub dsize_at : List ℕ → Option ℕ → Result Opt Fault
 dsize_at text None = signed_compare field.Dsize text
-dsize_at text (Some place) = dsize_to text (take place text) (behind_above (drop (place + 1) text))
+dsize_at text (Some place) = dsize_to text (take place text) (after_above (drop (place + 1) text))
 
 -- the protocols that have names
 abbrev pub protocol_of : List ℕ → Option ℕ

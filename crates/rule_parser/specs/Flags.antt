@@ -10,7 +10,7 @@
 use Rattle.std.specs.Prelude.{ℕ, ◌==◌, ◌||◌, Bool, true, false, Option, Some, None, Result, Ok, Err, List, [], ◌∷◌, length, bytes_eq, codes, bit_or, is_some, unwrap_or, if◌then◌else◌}
 use Rattle.edge_io.specs.OnResult.{◌>>=◌}
 use Rattle.net_lists.specs.Cutting.{comma_parts}
-use Rattle.net_lists.specs.Folds.{draft_behind}
+use Rattle.net_lists.specs.Folds.{draft_after}
 use Rattle.net_lists.specs.Stops.{or_kind}
 use Rattle.rule_parser.specs.declared.draft.Draft.{Draft}
 use Rattle.rule_parser.specs.declared.fault.Fault.{Fault}
@@ -29,7 +29,7 @@ no_flow = record { established = None; stateless = false; from_client = None; st
 
 -- a word whose group has none yet
 abbrev pub first_of_group : Bool → FlowOpt → Result FlowOpt Fault
-first_of_group stands next = if stands then Err OptionValue else Ok next
+first_of_group is_given next = if is_given then Err OptionValue else Ok next
 
 -- a word on the session: the first group
 unfoldable pub session_word : FlowOpt → List ℕ → Result FlowOpt Fault
@@ -63,7 +63,7 @@ flow_word flow word =
 -- `flow:w,..`, which is given at most once
 unfoldable pub flow_option : Draft → List ℕ → Result Draft Fault
 flow_option draft value = do
-  flow ← draft_behind flow_word no_flow (comma_parts value)
+  flow ← draft_after flow_word no_flow (comma_parts value)
   if draft.flow then Err OptionValue else kept (record draft { flow = true }) (opt.Flow flow)
 
 -- the letters before the first one

@@ -67,7 +67,7 @@ with_names names result = result >>= λ draft. Ok (draft, names)
 unfoldable pub last_name : Part → Result (List ℕ) Fault
 last_name part = do
   name ← bit_name part.text
-  if is_some part.behind then Err OutsideProfile else Ok name
+  if is_some part.after then Err OutsideProfile else Ok name
 
 -- a word, the first part, and a name
 unfoldable pub bit_parts : List (List ℕ) → Draft → Part → BitWord → Result (Draft × List (List ℕ)) Fault
@@ -79,7 +79,7 @@ bit_parts names draft first bit = do
 
 -- `noalert`, after which nothing comes
 abbrev pub noalert : Draft → Part → Result Draft Fault
-noalert draft first = if is_some first.behind then Err OptionValue else Ok (record draft { noalert = true })
+noalert draft first = if is_some first.after then Err OptionValue else Ok (record draft { noalert = true })
 
 -- what a `flowbits` makes of a draft, by the first part of its value
 unfoldable pub flowbits_parts : List (List ℕ) → Draft → Part → Result (Draft × List (List ℕ)) Fault

@@ -3,9 +3,9 @@
 -- To try it on: of `alert udp any any -> any 53 (sid:1;)` the text of the ports of the destination begins with
 -- `53`, and the text of the options with `(`.
 use Rattle.std.specs.Prelude.{◌≡◌, ℕ, ⊤, ◌==◌, ◌&&◌, false, List, [], ◌∷◌, ◌++◌, map}
-use Rattle.net_lists.specs.Cutting.{is_blank, depth_behind, first_word}
+use Rattle.net_lists.specs.Cutting.{is_blank, depth_after, first_word}
 use Rattle.rule_parser.specs.declared.header.HeaderTexts.{HeaderTexts}
-use Rattle.rule_parser.specs.Headers.{from_word, behind_header}
+use Rattle.rule_parser.specs.Headers.{from_word, after_header}
 
 -- these are the texts of a line
 pub record AreTexts (texts : HeaderTexts) (line : List ℕ) : Type 0 where
@@ -16,12 +16,12 @@ pub record AreTexts (texts : HeaderTexts) (line : List ℕ) : Type 0 where
   pub direction : texts.direction.now ≡ from_word 4 line
   pub dst : texts.dst.now ≡ from_word 5 line
   pub dports : texts.dports.now ≡ from_word 6 line
-  pub options : texts.options.now ≡ behind_header line
+  pub options : texts.options.now ≡ after_header line
 
 -- there is no blank in this text outside brackets, and it closes each bracket that it opens
 abbrev pub IsUncut : ℕ → List ℕ → Type 0
 IsUncut depth [] = depth ≡ 0
-IsUncut depth (byte ∷ rest) = ((depth == 0 && is_blank byte) ≡ false) × IsUncut (depth_behind depth byte) rest
+IsUncut depth (byte ∷ rest) = ((depth == 0 && is_blank byte) ≡ false) × IsUncut (depth_after depth byte) rest
 
 -- a text that begins with a byte that is no blank
 abbrev pub BeginsFilled : List ℕ → Type 0
@@ -46,4 +46,4 @@ word_texts texts = texts.action.now ∷ texts.proto.now ∷ texts.src.now ∷ te
 -- a line that is written of seven words and what comes after them is cut into these
 pub record AreCutInto (texts : HeaderTexts) (words : List (List ℕ)) (rest : List ℕ) : Type 0 where
   pub cut : map first_word (word_texts texts) ≡ words
-  pub behind : texts.options.now ≡ rest
+  pub after : texts.options.now ≡ rest

@@ -12,7 +12,7 @@ use Rattle.net_lists.specs.declared.part.AddrBounds.{AddrBounds}
 use Rattle.net_lists.specs.declared.part.Bounds.{Bounds}
 use Rattle.net_lists.specs.declared.part.Part.{Part}
 use Rattle.net_lists.specs.Addresses.{address_bounds}
-use Rattle.net_lists.specs.Cutting.{first_word, behind_word}
+use Rattle.net_lists.specs.Cutting.{first_word, after_word}
 use Rattle.net_lists.specs.Expansion.{expansion}
 use Rattle.net_lists.specs.Lists.{IsList, IsTooLong}
 use Rattle.net_lists.specs.Parts.{port_bounds}
@@ -89,7 +89,7 @@ IsWord reads text answer = answer ≡ reads (first_word text)
 -- the line from its word of this place on; words are counted from 0
 unfoldable pub from_word : ℕ → List ℕ → List ℕ
 from_word zero line = line
-from_word (suc place) line = behind_word (from_word place line)
+from_word (suc place) line = after_word (from_word place line)
 
 -- the header of a line, or the fault of the first word that is wrong
 unfoldable pub IsHeader : Variables → List ℕ → Result Header Fault → Type 0
@@ -112,8 +112,8 @@ IsHeader variables line =
     }))))))))
 
 -- what comes after the header
-abbrev pub behind_header : List ℕ → List ℕ
-behind_header line = from_word 7 line
+abbrev pub after_header : List ℕ → List ℕ
+after_header line = from_word 7 line
 
 -- an answer that a meaning has; want of memory is for any
 abbrev pub IsGiven : {X : Type 0} → Result X (Stop Fault) → (Result X Fault → Type 0) → Type 0

@@ -4,7 +4,7 @@
 -- To try it on: `track by_src, count 2, seconds 60` is read; with a fourth part, or `count` first, it is not.
 use Rattle.std.specs.Prelude.{ℕ, Bool, true, false, Some, Result, Ok, Err, List, [], ◌∷◌, bytes_eq, codes, is_some, if◌then◌else◌}
 use Rattle.edge_io.specs.OnResult.{◌>>=◌}
-use Rattle.net_lists.specs.Cutting.{comma_parts, first_word, behind_word}
+use Rattle.net_lists.specs.Cutting.{comma_parts, first_word, after_word}
 use Rattle.net_lists.specs.Numbers.{number_in}
 use Rattle.net_lists.specs.Stops.{or_kind}
 use Rattle.rule_parser.specs.declared.draft.Draft.{Draft}
@@ -13,8 +13,8 @@ use Rattle.rule_parser.specs.declared.fault.Fault.TheVariants.{OptionValue}
 use Rattle.rule_types.specs.declared.rule.Period.{Period}
 
 -- what comes after this word in a part
-unfoldable pub behind_key : List ℕ → List ℕ → Result (List ℕ) Fault
-behind_key key part = if bytes_eq (first_word part) key then Ok (behind_word part) else Err OptionValue
+unfoldable pub after_key : List ℕ → List ℕ → Result (List ℕ) Fault
+after_key key part = if bytes_eq (first_word part) key then Ok (after_word part) else Err OptionValue
 
 -- the address by which matches are counted: the source?
 unfoldable pub tracked : List ℕ → Result Bool Fault
@@ -24,13 +24,13 @@ tracked side =
 -- a number after its word, at least 1
 unfoldable pub counted : List ℕ → List ℕ → Result ℕ Fault
 counted key part = do
-  number ← behind_key key part
+  number ← after_key key part
   or_kind OptionValue (number_in 1 4294967295 number)
 
 -- the three parts
 unfoldable pub period_parts : List (List ℕ) → Result Period Fault
 period_parts (first ∷ second ∷ third ∷ []) = do
-  side ← behind_key (codes "track") first
+  side ← after_key (codes "track") first
   by_src ← tracked side
   count ← counted (codes "count") second
   seconds ← counted (codes "seconds") third

@@ -118,5 +118,5 @@ unfoldable pub meaning : Style → Place → List ℕ → Option (List ℕ)
 meaning style place [] = end_bytes style place
 meaning style place (byte ∷ rest) = elim (step_at style place byte) [
   | None ↦ None
-  | Some step ↦ option_map (λ behind. bytes_of step.slash step.byte ++ behind) (meaning style step.place rest)
+  | Some step ↦ option_map (λ after. bytes_of step.slash step.byte ++ after) (meaning style step.place rest)
 ]

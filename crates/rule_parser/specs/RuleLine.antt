@@ -25,7 +25,7 @@ use Rattle.rule_parser.specs.declared.header.Header.{Header}
 use Rattle.rule_types.specs.declared.rule.Rule.{Rule}
 use Rattle.rule_parser.specs.Drafts.{empty_draft, settled}
 use Rattle.rule_parser.specs.Faults.{plain, rule_fault}
-use Rattle.rule_parser.specs.Headers.{After, IsHeader, behind_header}
+use Rattle.rule_parser.specs.Headers.{After, IsHeader, after_header}
 use Rattle.rule_parser.specs.RuleOption.{rule_option}
 use Rattle.rule_parser.specs.Written.{outside, option_texts}
 
@@ -41,8 +41,8 @@ unfoldable pub rule_options : List Class → List (List ℕ) → Draft → ℕ �
 rule_options classes names draft left [] = Ok (draft, names)
 rule_options classes names draft left (text ∷ []) = if list_all is_blank text then Ok (draft, names) else Err OptionSyntax
 rule_options classes names draft left (text ∷ next ∷ more) =
-    rule_option classes names draft left text >>= λ behind.
-    rule_options classes behind.1 behind.0 (left - (length text + 1)) (next ∷ more)
+    rule_option classes names draft left text >>= λ after.
+    rule_options classes after.1 after.0 (left - (length text + 1)) (next ∷ more)
 
 -- the draft and the names after these texts of options, which are those of what is between the parentheses
 abbrev pub options_of : List Class → List (List ℕ) → List ℕ → List (List ℕ) → Result (Draft × List (List ℕ)) Fault
@@ -100,14 +100,14 @@ finished classes header draft = do
 unfoldable pub rule_body : List Class → List (List ℕ) → Header → List ℕ → Result (Rule × List (List ℕ)) Fault
 rule_body classes names header text = do
   inside ← or_kind OptionSyntax (in_parentheses text)
-  behind ← options_of classes names inside (option_texts outside inside)
-  rule ← finished classes header behind.0
-  Ok (rule, behind.1)
+  after ← options_of classes names inside (option_texts outside inside)
+  rule ← finished classes header after.0
+  Ok (rule, after.1)
 
 -- The meaning of a line, with the flowbit names before it: the rule and the names after it, or a fault.
 unfoldable pub IsRuleLine : Variables → List Class → List (List ℕ) → List ℕ → Result (Rule × List (List ℕ)) Fault → Type 0
 IsRuleLine variables classes names line =
-    After (IsHeader variables line) (λ header answer. answer ≡ rule_body classes names header (behind_header line))
+    After (IsHeader variables line) (λ header answer. answer ≡ rule_body classes names header (after_header line))
 
 -- What a reader of a line answers, in a line of `len` bytes: the rule, with the names that there are then, or the
 -- fault; or want of memory, for any line.

@@ -57,10 +57,10 @@ quoted_whole value = do
 
 -- the message of `msg:"text"`, which may be given once
 unfoldable pub message : Bool → List ℕ → Result (List ℕ) Fault
-message stands value = do
+message is_given value = do
   inside ← quoted_whole value
   msg ← or_kind OptionValue (meaning Message Plain inside)
-  if stands then Err OptionValue else if nat_le (length msg) 1024 then Ok msg else Err Limit
+  if is_given then Err OptionValue else if nat_le (length msg) 1024 then Ok msg else Err Limit
 
 unfoldable pub msg_option : Draft → List ℕ → Result Draft Fault
 msg_option draft value = message (is_some draft.msg) value >>= λ msg. Ok (record draft { msg = Some msg })

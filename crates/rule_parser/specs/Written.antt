@@ -16,8 +16,8 @@ abbrev pub outside : Quoting
 outside = record { quoted = false; escaped = false }
 
 -- how a byte is quoted after another: a backslash (92) takes the next one along, and another `"` (34) opens or closes
-unfoldable pub behind_byte : Quoting → ℕ → Quoting
-behind_byte at byte =
+unfoldable pub after_byte : Quoting → ℕ → Quoting
+after_byte at byte =
     if at.escaped then record { quoted = at.quoted; escaped = false }
     else if byte == 92 then record { quoted = at.quoted; escaped = true }
     else if byte == 34 then record { quoted = not at.quoted; escaped = false }
@@ -31,23 +31,23 @@ ends_option at byte = (not at.quoted && not at.escaped) && byte == 59
 unfoldable pub option_len : Quoting → List ℕ → Option ℕ
 option_len at [] = None
 option_len at (byte ∷ rest) =
-    if ends_option at byte then Some 0 else option_map (λ len. len + 1) (option_len (behind_byte at byte) rest)
+    if ends_option at byte then Some 0 else option_map (λ len. len + 1) (option_len (after_byte at byte) rest)
 
 -- the texts of the options, and after them what comes after the last `;`
 unfoldable pub option_texts : Quoting → List ℕ → List (List ℕ)
 option_texts at [] = [] ∷ []
 option_texts at (byte ∷ rest) =
-    if ends_option at byte then [] ∷ option_texts outside rest else onto_first byte (option_texts (behind_byte at byte) rest)
+    if ends_option at byte then [] ∷ option_texts outside rest else onto_first byte (option_texts (after_byte at byte) rest)
 
 -- these bytes are the first option of a text, and what comes after its `;`
-pub record IsFirstOption (text option behind : List ℕ) : Type 0 where
-  pub texts : option_texts outside text ≡ option ∷ option_texts outside behind
-  pub lengths : length option + 1 + length behind ≡ length text
+pub record IsFirstOption (text option after : List ℕ) : Type 0 where
+  pub texts : option_texts outside text ≡ option ∷ option_texts outside after
+  pub lengths : length option + 1 + length after ≡ length text
 
 -- no option ends in this text, and it closes each quote that it opens
 abbrev pub IsClosed : Quoting → List ℕ → Type 0
 IsClosed at [] = at ≡ outside
-IsClosed at (byte ∷ rest) = (ends_option at byte ≡ false) × IsClosed (behind_byte at byte) rest
+IsClosed at (byte ∷ rest) = (ends_option at byte ≡ false) × IsClosed (after_byte at byte) rest
 
 -- the text of one option
 abbrev pub IsOptionText : List ℕ → Type 0

@@ -5,7 +5,7 @@ ghost use Rattle.edge_io.specs.Bytes.{is_blank};
 ghost use Rattle.net_lists.specs.Stops.{Gives};
 ghost use Rattle.net_lists.specs.Variables.{is_name};
 ghost use Rattle.rule_parser.specs.Names.{place_among, signed_or_named};
-ghost use Rattle.rule_parser.specs.ByteOptions.{seen, first_part, next_part, words_of, operator_of, seen_comparison, comparison_of, byte_test, byte_test_option, byte_jump, byte_jump_option, seen_extraction, byte_extract, with_extraction, byte_extract_option, with_name, data_word, data_words, parts_behind, isdataat, isdataat_option};
+ghost use Rattle.rule_parser.specs.ByteOptions.{seen, first_part, next_part, words_of, operator_of, seen_comparison, comparison_of, byte_test, byte_test_option, byte_jump, byte_jump_option, seen_extraction, byte_extract, with_extraction, byte_extract_option, with_name, data_word, data_words, parts_after, isdataat, isdataat_option};
 ghost use Rattle.rule_parser.specs.Drafts.{with_new};
 ghost use Rattle.rule_parser.specs.Bits.{GivesNumber};
 
@@ -29,9 +29,9 @@ pub(crate) struct LentPart<'a> {
     /// How many bytes of the line are left where it begins.
     pub left: usize,
     /// What comes after its comma, if there is a comma.
-    pub behind: Option<&'a [u8]>,
+    pub after: Option<&'a [u8]>,
     /// How many bytes of the line are left where that begins.
-    pub left_behind: usize,
+    pub left_after: usize,
 }
 
 /// Space or tab.
@@ -61,14 +61,14 @@ pub(crate) fn first_part(left: usize, text: &[u8]) -> LentPart<'_>
         None => LentPart {
             text: trimmed(text),
             left: start,
-            behind: None,
-            left_behind: 0,
+            after: None,
+            left_after: 0,
         },
         Some(place) => LentPart {
             text: trimmed(&text[..place]),
             left: start,
-            behind: Some(&text[place + 1..]),
-            left_behind: left.saturating_sub(place + 1),
+            after: Some(&text[place + 1..]),
+            left_after: left.saturating_sub(place + 1),
         },
     }
 }
@@ -79,35 +79,35 @@ pub(crate) fn next_part<'a>(part: &LentPart<'a>) -> Result<LentPart<'a>, Fault>
     ensures { MatchResult result (λ next. next_part (seen part.now) ≡ Ok (seen next)) (λ why. next_part (seen part.now)
         ≡ Err why) }
 {
-    let Some(text) = part.behind else {
+    let Some(text) = part.after else {
         return Err(Fault::OptionValue);
     };
-    Ok(first_part(part.left_behind, text))
+    Ok(first_part(part.left_after, text))
 }
 
 /// All words after the parts that have their places.
 #[tactic(auto, unfolding(crate::specs::ByteOptions::words_of))]
-fn words_of(which: Which, behind: Option<&[u8]>) -> Result<Words, Fault>
-    ensures { result ≡ words_of which (option_copied behind.entry) }
+fn words_of(which: Which, after: Option<&[u8]>) -> Result<Words, Fault>
+    ensures { result ≡ words_of which (option_copied after.entry) }
 {
-    match behind {
+    match after {
         None => Ok(Words::none()),
         Some(text) => Parts::commas(text).fold_by(&which, Words::none()),
     }
 }
 
 /// The words of a byte_test.
-fn test_words(behind: Option<&[u8]>) -> Result<Words, Fault>
-    ensures { result ≡ words_of Which.Test (option_copied behind.entry) }
+fn test_words(after: Option<&[u8]>) -> Result<Words, Fault>
+    ensures { result ≡ words_of Which.Test (option_copied after.entry) }
 {
-    words_of(Which::Test, behind)
+    words_of(Which::Test, after)
 }
 
 /// The words of a byte_jump.
-fn jump_words(behind: Option<&[u8]>) -> Result<Words, Fault>
-    ensures { result ≡ words_of Which.Jump (option_copied behind.entry) }
+fn jump_words(after: Option<&[u8]>) -> Result<Words, Fault>
+    ensures { result ≡ words_of Which.Jump (option_copied after.entry) }
 {
-    words_of(Which::Jump, behind)
+    words_of(Which::Jump, after)
 }
 
 /// An operator of byte_test after its `!`, if there is one.
@@ -154,7 +154,7 @@ fn byte_jump(names: &Extracted, left: usize, value: &[u8]) -> Result<Opt, Fault>
     };
     let place = next_part(&count)?;
     let offset = offset_of(names, &place)?;
-    let words = jump_words(place.behind)?;
+    let words = jump_words(place.after)?;
     let fetch = words.fetch(bytes as u8, offset)?;
     Ok(words.jump_option(fetch))
 }
@@ -212,7 +212,7 @@ fn byte_test(names: &Extracted, left: usize, value: &[u8]) -> Result<Opt, Fault>
     let against = comparison_of(names, &count)?;
     let place = next_part(&against.part)?;
     let offset = offset_of(names, &place)?;
-    let words = test_words(place.behind)?;
+    let words = test_words(place.after)?;
     let fetch = words.fetch(bytes as u8, offset)?;
     Ok(Opt::ByteTest {
         fetch,
@@ -249,10 +249,10 @@ fn data_word(word: &[u8]) -> Result<bool, Fault>
 
 /// Whether `relative` is among what may follow the number of isdataat.
 #[tactic(auto, unfolding(crate::specs::ByteOptions::data_words))]
-fn data_words(behind: Option<&[u8]>) -> Result<bool, Fault>
-    ensures { result ≡ data_words (parts_behind (option_copied behind.entry)) }
+fn data_words(after: Option<&[u8]>) -> Result<bool, Fault>
+    ensures { result ≡ data_words (parts_after (option_copied after.entry)) }
 {
-    let Some(text) = behind else {
+    let Some(text) = after else {
         return Ok(false);
     };
     let mut parts = Parts::commas(text);
@@ -280,7 +280,7 @@ fn isdataat(names: &Extracted, left: usize, value: &[u8]) -> Result<Opt, Fault>
     let (negated, number) = negation(place.text);
     let start = place.left.saturating_sub(usize::from(negated));
     let at = number_or_named(0, 65535, names.as_slice(), start, number)?;
-    let relative = data_words(place.behind)?;
+    let relative = data_words(place.after)?;
     Ok(Opt::IsDataAt {
         at,
         relative,
@@ -314,13 +314,13 @@ fn placed(alloc: Global, names: &mut Extracted, name: &[u8]) -> Result<u8, Stop<
 }
 
 /// The words of a byte_extract, where its name has the form of one.
-fn extract_words(name: &[u8], behind: Option<&[u8]>) -> Result<Words, Fault>
-    ensures { result ≡ (if is_name name.now then words_of Which.Extract (option_copied behind.entry) else Err Fault.OptionValue) }
+fn extract_words(name: &[u8], after: Option<&[u8]>) -> Result<Words, Fault>
+    ensures { result ≡ (if is_name name.now then words_of Which.Extract (option_copied after.entry) else Err Fault.OptionValue) }
 {
     if !is_name(name) {
         return Err(Fault::OptionValue);
     }
-    words_of(Which::Extract, behind)
+    words_of(Which::Extract, after)
 }
 
 /// A byte_extract before its name has a place among the others.
@@ -348,7 +348,7 @@ fn byte_extract<'a>(
     let place = next_part(&count)?;
     let offset = offset_of(names, &place)?;
     let name = next_part(&place)?;
-    let words = extract_words(name.text, name.behind)?;
+    let words = extract_words(name.text, name.after)?;
     let fetch = words.fetch(bytes as u8, offset)?;
     Ok(LentExtraction {
         fetch,

@@ -51,10 +51,10 @@ impl Words {
     }
 
     /// These words, where the last one was not given before.
-    fn unless(self, stands: bool) -> Result<Words, Fault>
-        ensures { result ≡ once_only stands self }
+    fn unless(self, is_given: bool) -> Result<Words, Fault>
+        ensures { result ≡ once_only is_given self }
     {
-        if stands {
+        if is_given {
             Err(Fault::OptionValue)
         } else {
             Ok(self)

@@ -341,10 +341,10 @@ fn fast_on(negated: bool, mode: FastMode) -> FastMode
 }
 
 /// The last content, where there is no `fast_pattern` yet.
-fn held_for_fast(stands: bool, held: Option<Held>) -> Result<Held, Fault>
-    ensures { result ≡ (if stands then Err Fault.Misplaced else or_kind Fault.Misplaced held) }
+fn held_for_fast(is_given: bool, held: Option<Held>) -> Result<Held, Fault>
+    ensures { result ≡ (if is_given then Err Fault.Misplaced else or_kind Fault.Misplaced held) }
 {
-    if stands {
+    if is_given {
         return Err(Fault::Misplaced);
     }
     held.ok_or(Fault::Misplaced)

@@ -1,7 +1,7 @@
 //! Numbers of a packet's headers, and the length of its payload.
 ghost use Rattle.std.specs.Prelude.{◌≡◌, ◌<◌, length, option_copied, IfSome};
 ghost use Rattle.net_lists.specs.Stops.{Gives};
-ghost use Rattle.rule_parser.specs.Fields.{sign_of, cmp_of, allows, against, signed_compare, end_of, ttl_range, dsize_range, place_of, behind_above, protocol_of, compare_of, ttl_to, dsize_at, protocol_to, field_option, dsize_option, sameip_option};
+ghost use Rattle.rule_parser.specs.Fields.{sign_of, cmp_of, allows, against, signed_compare, end_of, ttl_range, dsize_range, place_of, after_above, protocol_of, compare_of, ttl_to, dsize_at, protocol_to, field_option, dsize_option, sameip_option};
 ghost use Rattle.rule_types.specs.Sound.{is_strict, compares, most_of};
 ghost use Rattle.rule_parser.specs.Drafts.{with_new};
 
@@ -187,8 +187,8 @@ fn ttl_of(text: &[u8]) -> Result<Opt, Fault>
     }
 }
 
-fn behind_above(text: &[u8]) -> Option<&[u8]>
-    ensures { option_copied result ≡ behind_above text.now }
+fn after_above(text: &[u8]) -> Option<&[u8]>
+    ensures { option_copied result ≡ after_above text.now }
 {
     match text {
         [b'>', rest @ ..] => Some(rest),
@@ -202,7 +202,7 @@ fn dsize_of(text: &[u8]) -> Result<Opt, Fault>
     let Some(place) = place_of(b'<', text) else {
         return signed_compare(Field::Dsize, text);
     };
-    match behind_above(&text[place + 1..]) {
+    match after_above(&text[place + 1..]) {
         None => signed_compare(Field::Dsize, text),
         Some(high) => dsize_range(&text[..place], high),
     }

@@ -1,7 +1,7 @@
 //! What a rule asks of a session, of TCP flags and of fragment bits.
 ghost use Rattle.std.specs.Prelude.{◌≡◌};
 ghost use Rattle.net_lists.specs.Cutting.{comma_parts};
-ghost use Rattle.net_lists.specs.Folds.{draft_behind};
+ghost use Rattle.net_lists.specs.Folds.{draft_after};
 ghost use Rattle.net_lists.specs.Stops.{Gives};
 ghost use Rattle.rule_parser.specs.Flags.{no_flow, first_of_group, session_word, item_word, flow_word, flow_option, no_letters, mode_of, flag_bit, frag_bit, with_bit, with_mode, if_any, flag_step, frag_step, flag_letters, frag_letters, frag_signed, mask_of, flags_parts, flags_of, flags_option, fragbits_option};
 ghost use Rattle.rule_parser.specs.Drafts.{with_new};
@@ -26,10 +26,10 @@ fn no_flow() -> FlowOpt
 }
 
 /// This `flow`, where the group of its last word has no word yet.
-fn first_of_group(stands: bool, flow: FlowOpt) -> Result<FlowOpt, Fault>
-    ensures { result ≡ first_of_group stands flow }
+fn first_of_group(is_given: bool, flow: FlowOpt) -> Result<FlowOpt, Fault>
+    ensures { result ≡ first_of_group is_given flow }
 {
-    if stands {
+    if is_given {
         Err(Fault::OptionValue)
     } else {
         Ok(flow)
@@ -41,10 +41,10 @@ fn first_of_group(stands: bool, flow: FlowOpt) -> Result<FlowOpt, Fault>
 fn session_word(flow: FlowOpt, word: &[u8]) -> Result<FlowOpt, Fault>
     ensures { result ≡ session_word flow word.now }
 {
-    let stands = flow.established.is_some() || flow.stateless;
+    let is_given = flow.established.is_some() || flow.stateless;
     if is(word, b"established") {
         first_of_group(
-            stands,
+            is_given,
             FlowOpt {
                 established: Some(true),
                 ..flow
@@ -52,7 +52,7 @@ fn session_word(flow: FlowOpt, word: &[u8]) -> Result<FlowOpt, Fault>
         )
     } else if is(word, b"not_established") {
         first_of_group(
-            stands,
+            is_given,
             FlowOpt {
                 established: Some(false),
                 ..flow
@@ -60,7 +60,7 @@ fn session_word(flow: FlowOpt, word: &[u8]) -> Result<FlowOpt, Fault>
         )
     } else if is(word, b"stateless") {
         first_of_group(
-            stands,
+            is_given,
             FlowOpt {
                 stateless: true,
                 ..flow
@@ -152,7 +152,7 @@ impl PartStep<FlowOpt, Fault> for FlowWords {
 
 /// What the words ask.
 fn flow_words(value: &[u8]) -> Result<FlowOpt, Fault>
-    ensures { result ≡ draft_behind flow_word no_flow (comma_parts value.now) }
+    ensures { result ≡ draft_after flow_word no_flow (comma_parts value.now) }
 {
     Parts::commas(value).fold_by(&FlowWords, no_flow())
 }

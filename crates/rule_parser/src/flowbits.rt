@@ -134,7 +134,7 @@ fn last_name<'a>(part: &LentPart<'a>) -> Result<&'a [u8], Fault>
     ensures { MatchResult result (λ name. last_name (seen part.now) ≡ Ok name.now) (λ why. last_name (seen part.now) ≡ Err why) }
 {
     let name = bit_name(part.text)?;
-    if part.behind.is_some() {
+    if part.after.is_some() {
         return Err(Fault::OutsideProfile);
     }
     Ok(name)
@@ -162,7 +162,7 @@ fn bit_parts(
 fn noalert(draft: &mut Draft, first: &LentPart) -> Result<(), Fault>
     ensures { with_new result draft.new ≡ noalert draft.old (seen first.now) }
 {
-    if first.behind.is_some() {
+    if first.after.is_some() {
         return Err(Fault::OptionValue);
     }
     draft.noalert = true;

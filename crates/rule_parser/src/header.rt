@@ -1,7 +1,7 @@
 //! The header of a rule.
 ghost use Rattle.std.specs.Prelude.{◌≡◌, List, ℕ, length};
 ghost use Rattle.net_lists.specs.Addresses.{address_bounds};
-ghost use Rattle.net_lists.specs.Cutting.{first_word, behind_word};
+ghost use Rattle.net_lists.specs.Cutting.{first_word, after_word};
 ghost use Rattle.net_lists.specs.Parts.{port_bounds};
 ghost use Rattle.net_lists.specs.Stops.{Gives};
 ghost use Rattle.rule_parser.specs.Headers.{action_of, proto_of, direction_of, expanded_word, IsGiven, IsReadAs, IsAddressWord, IsPortWord, IsHeader};
@@ -105,8 +105,8 @@ fn word_of(text: &[u8]) -> &[u8]
 }
 
 /// What comes after the first word.
-fn behind_word(text: &[u8]) -> &[u8]
-    ensures { result.now ≡ behind_word text.now }
+fn after_word(text: &[u8]) -> &[u8]
+    ensures { result.now ≡ after_word text.now }
 {
     first_word(text).1
 }
@@ -128,13 +128,13 @@ impl<'a> HeaderTexts<'a> {
     fn from_words(line: &'a [u8]) -> HeaderTexts<'a>
         ensures { AreTexts result line.now }
     {
-        let proto = behind_word(line);
-        let src = behind_word(proto);
-        let sports = behind_word(src);
-        let direction = behind_word(sports);
-        let dst = behind_word(direction);
-        let dports = behind_word(dst);
-        let options = behind_word(dports);
+        let proto = after_word(line);
+        let src = after_word(proto);
+        let sports = after_word(src);
+        let direction = after_word(sports);
+        let dst = after_word(direction);
+        let dports = after_word(dst);
+        let options = after_word(dports);
         HeaderTexts {
             action: line,
             proto,

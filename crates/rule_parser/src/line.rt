@@ -53,9 +53,9 @@ fn read_options(
 {
     let mut draft = Draft::new(alloc);
     let mut rest = inside;
-    while let Some((text, behind)) = first_option(rest) {
+    while let Some((text, after)) = first_option(rest) {
         rule_option(alloc, classes, bits, &mut draft, left_from(rest), text)?;
-        rest = behind;
+        rest = after;
     }
     if !are_blank(rest) {
         return Err(Stop::Wrong(Fault::OptionSyntax));

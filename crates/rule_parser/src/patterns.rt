@@ -53,10 +53,10 @@ impl Flags {
     }
 
     /// These flags, where the letter's was not given before.
-    fn unless(self, stands: bool) -> Result<Flags, Fault>
-        ensures { result ≡ (if stands then Err Fault.OptionValue else Ok self) }
+    fn unless(self, is_given: bool) -> Result<Flags, Fault>
+        ensures { result ≡ (if is_given then Err Fault.OptionValue else Ok self) }
     {
-        if stands {
+        if is_given {
             Err(Fault::OptionValue)
         } else {
             Ok(self)
@@ -176,7 +176,7 @@ fn pcre(alloc: Global, value: &[u8]) -> Result<Opt, Stop<Fault>>
     ensures { Gives result (pcre value.now) }
 {
     let (negated, rest) = negation(value);
-    let Some((inside, behind)) = quoted(rest) else {
+    let Some((inside, after)) = quoted(rest) else {
         return Err(Stop::Wrong(Fault::OptionValue));
     };
     let Some((expression_text, letters)) = slashed(inside) else {
@@ -184,7 +184,7 @@ fn pcre(alloc: Global, value: &[u8]) -> Result<Opt, Stop<Fault>>
     };
     let text = expression(alloc, expression_text)?;
     let flags = Flags::read(letters)?;
-    if !behind.is_empty() {
+    if !after.is_empty() {
         return Err(Stop::Wrong(Fault::OptionValue));
     }
     if text.bytes().len() > MOST_BYTES {

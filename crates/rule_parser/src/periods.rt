@@ -1,7 +1,7 @@
 //! Detection filters.
 ghost use Rattle.std.specs.Prelude.{◌≡◌, MatchResult, Ok, Err};
 ghost use Rattle.net_lists.specs.Cutting.{comma_parts};
-ghost use Rattle.rule_parser.specs.Periods.{behind_key, tracked, counted, period_parts, detection_filter_option};
+ghost use Rattle.rule_parser.specs.Periods.{after_key, tracked, counted, period_parts, detection_filter_option};
 ghost use Rattle.rule_parser.specs.Drafts.{with_new};
 
 use crate::Period;
@@ -11,9 +11,9 @@ use crate::word::is;
 use net_lists::{Parts, first_word, number_in};
 
 /// What comes after this word in a part.
-#[tactic(auto, unfolding(crate::specs::Periods::behind_key))]
-fn behind_key<'a>(key: &[u8], part: &'a [u8]) -> Result<&'a [u8], Fault>
-    ensures { MatchResult result (λ rest. behind_key key.now part.now ≡ Ok rest.now) (λ fault. behind_key key.now part.now
+#[tactic(auto, unfolding(crate::specs::Periods::after_key))]
+fn after_key<'a>(key: &[u8], part: &'a [u8]) -> Result<&'a [u8], Fault>
+    ensures { MatchResult result (λ rest. after_key key.now part.now ≡ Ok rest.now) (λ fault. after_key key.now part.now
         ≡ Err fault) }
 {
     let (word, rest) = first_word(part);
@@ -43,7 +43,7 @@ fn tracked(side: &[u8]) -> Result<bool, Fault>
 fn counted(key: &[u8], part: &[u8]) -> Result<u32, Fault>
     ensures { result ≡ counted key.now part.now }
 {
-    let number = behind_key(key, part)?;
+    let number = after_key(key, part)?;
     number_in(1, u32::MAX, number).ok_or(Fault::OptionValue)
 }
 
@@ -61,7 +61,7 @@ fn period_of(value: &[u8]) -> Result<Period, Fault>
     ) else {
         return Err(Fault::OptionValue);
     };
-    let side = behind_key(b"track", first)?;
+    let side = after_key(b"track", first)?;
     let by_src = tracked(side)?;
     let count = counted(b"count", second)?;
     let seconds = counted(b"seconds", third)?;

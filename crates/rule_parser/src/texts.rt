@@ -72,10 +72,10 @@ pub(crate) fn quoted_whole(value: &[u8]) -> Result<&[u8], Fault>
     ensures { MatchResult result (λ inside. quoted_whole value.now ≡ Ok inside.now) (λ fault. quoted_whole value.now
         ≡ Err fault) }
 {
-    let Some((inside, behind)) = quoted(value) else {
+    let Some((inside, after)) = quoted(value) else {
         return Err(Fault::OptionValue);
     };
-    if !behind.is_empty() {
+    if !after.is_empty() {
         return Err(Fault::OptionValue);
     }
     Ok(inside)
@@ -83,12 +83,12 @@ pub(crate) fn quoted_whole(value: &[u8]) -> Result<&[u8], Fault>
 
 /// The message of a value, which may be given once.
 #[tactic(auto, unfolding(crate::specs::Texts::message))]
-fn message(alloc: Global, stands: bool, value: &[u8]) -> Result<Text, Stop<Fault>>
-    ensures { Gives result (message stands value.now) }
+fn message(alloc: Global, is_given: bool, value: &[u8]) -> Result<Text, Stop<Fault>>
+    ensures { Gives result (message is_given value.now) }
 {
     let inside = quoted_whole(value)?;
     let msg = meaning(alloc, Style::Message, inside)?;
-    if stands {
+    if is_given {
         return Err(Stop::Wrong(Fault::OptionValue));
     }
     if msg.bytes().len() > MOST_MESSAGE {

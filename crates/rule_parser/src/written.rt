@@ -2,7 +2,7 @@
 ghost use Rattle.std.specs.Prelude.{◌≡◌, ◌<◌, [], ◌∷◌, length, IfSome, MatchOption};
 ghost use Rattle.std.specs.List.{list_all};
 ghost use Rattle.edge_io.specs.Bytes.{is_blank};
-ghost use Rattle.rule_parser.specs.Written.{outside, behind_byte, ends_option, option_len, option_texts, IsFirstOption, written, seen_option};
+ghost use Rattle.rule_parser.specs.Written.{outside, after_byte, ends_option, option_len, option_texts, IsFirstOption, written, seen_option};
 
 use crate::byte_options::blanks_len;
 use crate::fields::place_of;
@@ -28,9 +28,9 @@ impl Quoting {
     }
 
     /// How the byte after this one is quoted.
-    #[tactic(auto, unfolding(crate::specs::Written::behind_byte))]
-    fn behind(self, byte: u8) -> Quoting
-        ensures { result ≡ behind_byte self byte }
+    #[tactic(auto, unfolding(crate::specs::Written::after_byte))]
+    fn after(self, byte: u8) -> Quoting
+        ensures { result ≡ after_byte self byte }
     {
         if self.escaped {
             Quoting {
@@ -73,7 +73,7 @@ fn option_len(text: &[u8]) -> Option<usize>
         if at.ends_option(*byte) {
             return Some(len);
         }
-        at = at.behind(*byte);
+        at = at.after(*byte);
         len += 1;
     }
     None

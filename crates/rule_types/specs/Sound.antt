@@ -139,14 +139,14 @@ IsOption names (opt.StreamSize side cmp value) = IsTrue (is_order cmp) × (value
 IsOption names (opt.Reassemble on side) = IsTrue (is_named_side side)
 
 -- the names that are extracted after an option
-abbrev pub names_behind : List ℕ → Opt → List ℕ
-names_behind names (opt.ByteExtract fetch name times align) = name ∷ names
-names_behind names _ = names
+abbrev pub names_after_one : List ℕ → Opt → List ℕ
+names_after_one names (opt.ByteExtract fetch name times align) = name ∷ names
+names_after_one names _ = names
 
 -- options in their order
 abbrev pub AreOptions : List ℕ → List Opt → Type 0
 AreOptions names [] = ⊤
-AreOptions names (option ∷ rest) = IsOption names option × AreOptions (names_behind names option) rest
+AreOptions names (option ∷ rest) = IsOption names option × AreOptions (names_after_one names option) rest
 
 -- a content that is the rule's fast pattern
 abbrev pub is_chosen : FastMode → Bool

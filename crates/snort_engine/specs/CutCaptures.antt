@@ -16,7 +16,7 @@ abbrev pub Holds : List ℕ → ℕ → Type 0
 Holds bytes count = count ≤ length (records_in None bytes).records
 
 -- the shortest beginning of a capture's bytes that holds this many records
-pub record IsCutBehind (count : ℕ) (bytes front : List ℕ) : Type 0 where
+pub record IsCutAfter (count : ℕ) (bytes front : List ℕ) : Type 0 where
   pub begins : IsPrefix front bytes
   pub holds : Holds front count
   pub shortest : (other : List ℕ) → IsPrefix other bytes → Holds other count → length front ≤ length other
@@ -40,4 +40,4 @@ pub record IsLimited (plan : Plan) (bytes front : List ℕ) : Type 0 where
   pub is : plan.limit ≡ Some limit
   pub some : 0 < limit
   pub holds : Holds bytes limit
-  pub cut : IsCutBehind limit bytes front
+  pub cut : IsCutAfter limit bytes front

@@ -6,7 +6,7 @@ use Rattle.std.specs.Prelude.{◌≡◌, ℕ, List, [], ◌++◌, Option, Some, 
 use Rattle.std.specs.FinMap.{get}
 use Rattle.std.specs.List.{concat}
 use mathlib.Core.List.{IsPrefix}
-use Rattle.edge_io.specs.Told.{behind, Rose}
+use Rattle.edge_io.specs.Told.{grown, Rose}
 use Rattle.edge_io.specs.Files.{Files}
 use Rattle.snort_engine.specs.declared.status.Status.{Status}
 use Rattle.snort_engine.specs.declared.status.Status.TheVariants as status
@@ -56,7 +56,7 @@ pub record IsCutShort (files : Files) (course : Course) (before after : Work) (m
   pub goes : course.way ≡ Goes plan
   pub taken : List ℕ
   pub of : IsTakenOf (get files plan.source) taken after.left
-  pub wrote : after.alerts ≡ behind before.alerts (lines_within plan taken)
+  pub wrote : after.alerts ≡ grown before.alerts (lines_within plan taken)
   pub says : message ≡ concat course.warnings ++ cannot_read_text plan.source
 
 -- the message of want of memory: the first warnings, each whole, and that memory is lacking
@@ -68,7 +68,7 @@ IsNoMemoryMessage course message =
 pub record Ends (files : Files) (course : Course) (before after : Work) (ended : Status) (message : List ℕ) : Type 0 where
   -- however it ends, it has written a beginning of the answer's alert bytes, and no other byte
   pub alerts : List ℕ
-  pub wrote : after.alerts ≡ behind before.alerts alerts
+  pub wrote : after.alerts ≡ grown before.alerts alerts
   pub leaves_a_prefix : IsPrefix alerts (answer_of files course).alerts
   pub ended_as_stated : IsStated ended (Rose before.host_faults after.host_faults)
       → IsAnswered (answer_of files course) ended alerts message

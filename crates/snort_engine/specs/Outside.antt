@@ -4,7 +4,7 @@
 -- To try it on: a run that is refused for its words leaves the host and the alert sink as they were,
 -- and `ERROR: command line` after the error bytes.
 use Rattle.std.specs.Prelude.{◌≡◌, ℕ, ◌≤◌, ◌⊎◌, List, Option}
-use Rattle.edge_io.specs.Told.{behind, Rose}
+use Rattle.edge_io.specs.Told.{grown, Rose}
 use Rattle.edge_io.specs.Files.{Files, left_by}
 use Rattle.edge_io.specs.declared.host.Host.{Ghosts as HostOf}
 use Rattle.edge_io.specs.declared.pattern.Refusal.{Refusal}
@@ -61,7 +61,7 @@ work_of seen = record { left = seen.left; opens = seen.opens; host_faults = seen
 -- the message was written, or a part of it where that sink's count rose
 pub record TellsMessage (message : List ℕ) (old new : Option (List ℕ)) (rose : Type 0) : Type 0 where
   pub part : WritesPart old message new
-  pub whole : (new ≡ behind old message) ⊎ rose
+  pub whole : (new ≡ grown old message) ⊎ rose
 
 -- no count of faults rose, and the maker refused nothing
 pub record NoFault (before after : Outside) : Type 0 where

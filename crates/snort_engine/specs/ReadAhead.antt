@@ -15,7 +15,7 @@
 -- Of 300, where the write of the 200th fails, 256 were taken, and not the 44 that were left.
 use Rattle.std.specs.Prelude.{◌≡◌, ℕ, ◌-◌, ◌*◌, ◌/◌, List, [], ◌++◌, length, take, Option, Some, None, ◌⊎◌}
 use Rattle.std.specs.FinMap.{get}
-use Rattle.edge_io.specs.Told.{behind, Rose}
+use Rattle.edge_io.specs.Told.{grown, Rose}
 use Rattle.edge_io.specs.Files.{Files}
 use Rattle.snort_engine.specs.declared.status.Status.{Status}
 use Rattle.snort_engine.specs.declared.status.Status.TheVariants as status
@@ -71,7 +71,7 @@ pub record IsReadAhead (plan : Plan) (held : Option (List ℕ)) (before after : 
   pub of : held ≡ Some (taken ++ rest)
   pub still : after.left ≡ Some rest
   pub more : List ℕ
-  pub wrote : after.alerts ≡ behind before.alerts (lines_due plan taken ++ more)
+  pub wrote : after.alerts ≡ grown before.alerts (lines_due plan taken ++ more)
   -- under a limit no record beyond it was read, the records being counted without it
   pub within : AreWithin plan.limit (records_in None taken).records
   -- nothing was read after a write fault

@@ -6,7 +6,7 @@ ghost use Rattle.snort_engine.specs.Steps.Batch.{HasReason, IsFilled, ReadsOn, l
 ghost use Rattle.edge_io.specs.Frames.{OnlyRead};
 ghost use Rattle.snort_engine.specs.Outside.{by};
 ghost use Rattle.snort_engine.specs.Steps.Seen.{OfSeen};
-ghost use Rattle.snort_engine.specs.Steps.Showing.{most_at, room_behind};
+ghost use Rattle.snort_engine.specs.Steps.Showing.{most_at, room_after};
 
 use crate::fault::ReadFault;
 use crate::reader::RecordReader;
@@ -73,9 +73,9 @@ pub(crate) fn most_at(room: Option<u32>) -> usize
 }
 
 /// How many records may still be read after a batch of `count`.
-pub(crate) fn room_behind(room: Option<u32>, count: usize) -> Option<u32>
+pub(crate) fn room_after(room: Option<u32>, count: usize) -> Option<u32>
     requires { count ≤ most_at room }
-    ensures { result ≡ room_behind room count }
+    ensures { result ≡ room_after room count }
 {
     match room {
         Some(left) => Some(left - count as u32),

@@ -1,7 +1,7 @@
 //! Records with what comes before them: their jobs, what these find, and the lines of it.
 ghost use Rattle.std.specs.Prelude.{◌≡◌, ◌+◌, ◌≤◌, ◌^◌, [], length, OnOk, IfOk};
 ghost use Rattle.conf_types.specs.Sound as conf;
-ghost use Rattle.fast_pattern.specs.Grouping.{StandFor};
+ghost use Rattle.fast_pattern.specs.Grouping.{AreFor};
 ghost use Rattle.rule_eval.specs.Hits.{Test};
 ghost use Rattle.record_jobs.specs.Way as ways;
 ghost use Rattle.record_jobs.specs.Ready.{AreReady};
@@ -12,7 +12,7 @@ ghost use Rattle.alert_lines.specs.Gathering.{EmitsAny, sending};
 ghost use Rattle.alert_lines.specs.Showing.{waiting_in};
 ghost use Rattle.snort_engine.specs.Steps.Showing.{plan_of, OfTest};
 ghost use Rattle.snort_engine.specs.Steps.Detecting.{IsSoundPlan, IsNewInspection, counted, MakesJobs, HasRun, jobs_stage};
-ghost use Rattle.snort_engine.specs.Steps.Detecting.{Advances, Closes, DetectorStands, Knows, records_stage};
+ghost use Rattle.snort_engine.specs.Steps.Detecting.{Advances, Closes, IsDetectorAfter, Knows, records_stage};
 
 use crate::context::Context;
 use crate::counts::Counts;
@@ -81,7 +81,7 @@ impl Detector {
     /// No record was given yet.
     pub fn new<P>(alloc: Global, plan: &Plan<'_, P>) -> Result<Detector, NoMemory>
         requires { IsSoundPlan plan.now }
-        ensures stands { (matches : Test) → IfOk result (DetectorStands (plan_of matches plan.now) []) }
+        ensures holds { (matches : Test) → IfOk result (IsDetectorAfter (plan_of matches plan.now) []) }
         ensures known { IfOk result (Knows plan.now) }
         ensures none { IfOk result (λ detector. detector.front.counts.records ≡ 0) }
     {
@@ -129,7 +129,7 @@ fn run_jobs<P: Pattern, G: Gate, A: Sink, R: Threads + Sync>(
 ) -> Result<(), WriteFault>
     requires plan { IsSoundPlan context.now.plan.now }
     requires ready { AreReady (length context.now.plan.now.setup.config.stream.engines) inspection.old.lanes jobs.now }
-    requires groups { StandFor inspection.old.groups context.now.plan.now.setup.set.rules }
+    requires groups { AreFor inspection.old.groups context.now.plan.now.setup.set.rules }
     requires none { waiting_in inspection.old.writer ≡ [] }
     ensures shown { OfTest P.finds context.now.plan.now (λ plan. Advances (jobs_stage plan)
         (by_place (source_in records.now inspection.old.last places.now) 0 jobs.now)

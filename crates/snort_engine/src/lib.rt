@@ -38,7 +38,7 @@ mod stop;
 
 pub use course_laws::words_have_a_course;
 pub use detector::run;
-pub use laws::first_lines_stand;
+pub use laws::first_lines_stay;
 pub use run_laws::{limits_cut_captures, written_records_read_back};
 pub use split_laws::parts_show_their_own;
 pub use status::Status;

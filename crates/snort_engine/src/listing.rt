@@ -1,7 +1,7 @@
 //! A Unified2 file, told as lines.
 ghost use Rattle.std.specs.Prelude.{◌≡◌, ◌≤◌, OnOk, OnErr, IfOk, IfErr, IsErrOf};
 ghost use Rattle.edge_io.specs.Files.{Files};
-ghost use Rattle.edge_io.specs.Told.{Rose, behind};
+ghost use Rattle.edge_io.specs.Told.{Rose, grown};
 ghost use Rattle.edge_io.specs.Frames.{OnlyLoaded};
 ghost use Rattle.alert_lines.specs.Written.{WritesPart};
 ghost use Rattle.snort_engine.specs.Messages.{too_large_text};
@@ -83,7 +83,7 @@ pub(crate) fn list_records<H: Host>(alloc: Global, name: &str, host: &mut H) -> 
 
 /// Writes lines, whole. Takes no memory.
 pub(crate) fn write_lines<A: Sink>(lines: &Text, alerts: &mut A) -> Result<(), Stop>
-    ensures whole { OnOk result (A.written alerts.new ≡ behind (A.written alerts.old) lines.now) }
+    ensures whole { OnOk result (A.written alerts.new ≡ grown (A.written alerts.old) lines.now) }
     ensures part { OnErr result (WritesPart (A.written alerts.old) lines.now (A.written alerts.new)) }
     ensures kind { IfErr result IsWriteStop }
     ensures write_fault { IsErrOf result Stop.CannotWrite → Rose (A.faults alerts.old) (A.faults alerts.new) }

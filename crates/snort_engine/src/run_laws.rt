@@ -10,7 +10,7 @@ ghost use Rattle.unified2_out.specs.Records.{AllFit};
 ghost use Rattle.command_words.specs.declared.asked.Form.TheVariants.{Unified2};
 ghost use Rattle.snort_engine.specs.Answer.{capture_answer};
 ghost use Rattle.snort_engine.specs.Course.{IsFileWay, Lists, Plan, Way, most_file_bytes};
-ghost use Rattle.snort_engine.specs.CutCaptures.{Holds, IsCutBehind, IsLimited, end_of, unlimited};
+ghost use Rattle.snort_engine.specs.CutCaptures.{Holds, IsCutAfter, IsLimited, end_of, unlimited};
 ghost use Rattle.snort_engine.specs.Lines.{lines};
 ghost use Rattle.snort_engine.specs.ReadBack.{FitsRecord, FitsRule, entries};
 ghost use Rattle.alert_lines.specs.RecordLines.{entry_lines};
@@ -30,8 +30,8 @@ pub fn limits_cut_captures()
     ensures answer { (plan : Plan) (bytes front warnings : List ℕ) → IsLimited plan bytes front
         → capture_answer plan warnings (Some bytes) ≡ capture_answer (unlimited plan) warnings (Some front) }
     ensures cut { (count : ℕ) (bytes : List ℕ) → 0 < count → Holds bytes count
-        → (front : List ℕ) × IsCutBehind count bytes front }
-    ensures place { (count : ℕ) (bytes front : List ℕ) → 0 < count → Holds bytes count → IsCutBehind count bytes front
+        → (front : List ℕ) × IsCutAfter count bytes front }
+    ensures place { (count : ℕ) (bytes front : List ℕ) → 0 < count → Holds bytes count → IsCutAfter count bytes front
         → is_of_blocks bytes ≡ false → length front ≡ end_of (take count (records_in None bytes).records) }
     ensures fewer { (plan : Plan) (limit : ℕ) (bytes warnings : List ℕ) → plan.limit ≡ Some limit
         → length (records_in None bytes).records < limit

@@ -12,11 +12,11 @@ ghost use Rattle.snort_engine.specs.Steps.Stop.{outcome_status};
 ghost use Rattle.snort_engine.specs.Steps.Reporting.{outcome_said};
 ghost use Rattle.alert_lines.specs.Gathering.{sending};
 ghost use Rattle.snort_engine.specs.Counts.{no_counts};
-ghost use Rattle.snort_engine.specs.Steps.Detecting.{IsSoundPlan, Knows, DetectorStands, ShowsRecordsPart};
-ghost use Rattle.snort_engine.specs.Steps.Showing.{standing, OfStreams, OfTest, ShowsCapture, ComesOver, IsCloseBehind};
+ghost use Rattle.snort_engine.specs.Steps.Detecting.{IsSoundPlan, Knows, IsDetectorAfter, ShowsRecordsPart};
+ghost use Rattle.snort_engine.specs.Steps.Showing.{point, OfStreams, OfTest, ShowsCapture, ComesOver, IsCloseAfter};
 ghost use Rattle.snort_engine.specs.Steps.Showing.{ShowsOn, MayGoFurther, MayGoOn, MayClose, ClosesShown};
 
-use crate::batch::{give_back, lacks_memory, more, most_at, read_batch, room_behind};
+use crate::batch::{give_back, lacks_memory, more, most_at, read_batch, room_after};
 use crate::context::Context;
 use crate::counts::Counts;
 use crate::detect::{Detector, close, show_records};
@@ -62,7 +62,7 @@ fn show_next_batch<H: Host, P: Pattern, G: Gate, A: Sink, R: Threads + Sync>(
     requires no_records { records.old.items ≡ [] }
     ensures goes_on { OfTest P.finds context.now.plan.now (λ plan.
         OfStreams H.Host A.Sink host.old host.new alerts.old alerts.new (λ before after. ShowsOn plan
-        (standing reader.old room.old detector.old before) (standing reader.new room.new detector.new after)
+        (point reader.old room.old detector.old before) (point reader.new room.new detector.new after)
         (HostRose H.Host host.old host.new) result)) }
     ensures further { result ≡ Ok true → MayGoFurther context.now.plan.now reader.old reader.new detector.new }
     ensures shown { OnOk result (records.new.items ≡ []) }
@@ -76,7 +76,7 @@ fn show_next_batch<H: Host, P: Pattern, G: Gate, A: Sink, R: Threads + Sync>(
         return Ok(false);
     }
     let reached = read_batch(context.alloc, host, reader, most, records);
-    *room = room_behind(*room, records.len());
+    *room = room_after(*room, records.len());
     if lacks_memory(reached) {
         show_some(context, records, detector, alerts);
         return Err(Stop::NoMemory);
@@ -99,7 +99,7 @@ fn show_batches<H: Host, P: Pattern, G: Gate, A: Sink, R: Threads + Sync>(
     requires plan { IsSoundPlan context.now.plan.now }
     requires ready { MayGoOn context.now.plan.now reader.old detector.old }
     ensures comes { OfTest P.finds context.now.plan.now (λ plan.
-        DetectorStands plan [] detector.old
+        IsDetectorAfter plan [] detector.old
         → OfStreams H.Host A.Sink host.old host.new alerts.old alerts.new (λ before after.
         ComesOver plan reader.old before after (HostRose H.Host host.old host.new) detector.new result)) }
     ensures closable { MayClose context.now.plan.now detector.new result }
@@ -161,7 +161,7 @@ pub(crate) fn show_opened<H: Host, P: Pattern, G: Gate, A: Sink, R: Threads + Sy
         ShowsCapture plan reader.old before after counts.new result)) }
     ensures close { OfTest P.finds context.now.plan.now (λ plan.
         OfStreams H.Host A.Sink host.old host.new alerts.old alerts.new (λ before after.
-        IsCloseBehind plan reader.old before after (HostRose H.Host host.old host.new) result)) }
+        IsCloseAfter plan reader.old before after (HostRose H.Host host.old host.new) result)) }
     ensures causes { HasCauses (HostRose H.Host host.old host.new) (faults_of H.Host A.Sink host.old alerts.old)
         (faults_of H.Host A.Sink host.new alerts.new) (outcome_status result) }
     ensures host { OnlyRead H.Host host.old host.new }

@@ -1,6 +1,6 @@
 //! The jobs of a batch and their records.
 ghost use Rattle.std.specs.Prelude.{◌≡◌};
-ghost use Rattle.snort_engine.specs.Steps.Sourcing.{last_behind};
+ghost use Rattle.snort_engine.specs.Steps.Sourcing.{last_after};
 
 use alert_lines::LinkedRecord;
 use flow_lanes::Job;
@@ -16,7 +16,7 @@ pub(crate) struct Made<'a> {
 /// Keeps the last of these records, if there is one, in place of the one that was kept, which takes its
 /// place: nothing is copied.
 pub(crate) fn keep_last(records: &mut Vec<LinkedRecord>, last: &mut LinkedRecord)
-    ensures { last.new ≡ last_behind last.old records.old.items }
+    ensures { last.new ≡ last_after last.old records.old.items }
 {
     if let Some(newest) = records.last_mut() {
         swap(newest, last);

@@ -3,7 +3,7 @@ use Rattle.std.proofs.Common.{◌≡◌, ℕ, inl, inr, List, [], ◌∷◌, Opt
 use Rattle.std.specs.Prelude.{◌⊎◌, IfErr, IsErrOf, Result, Ok, Err}
 use Rattle.std.specs.Borrow.{Bor}
 use Rattle.edge_io.specs.Files.{Files, Lacks}
-use Rattle.edge_io.proofs.Told.{behind-nil}
+use Rattle.edge_io.proofs.Told.{grown-nil}
 use Rattle.conf_parser.specs.Reading.{Ended, Whole, Refused as RefusedAt, Asks, told}
 use Rattle.snort_setup.specs.declared.stop.SetupStop.{SetupStop}
 use Rattle.snort_setup.specs.declared.stop.SetupStop.TheVariants as stop
@@ -115,9 +115,9 @@ run-ready kept words wanted agrees now_agrees old new ended given earlier writes
 
 pub run-halted : (stop : SetupStop) (words : Words) (wanted : Wanted) (agrees : Files → Type 0) (old : Option (List ℕ))
     → ((files : Files) → agrees files → GivenTexts words files (Err stop)) → LinesRun (Some words) wanted agrees old old (halted stop)
-run-halted (stop.Refused message) words wanted agrees old given = record { wrote = []; told = sym (behind-nil old); holds = λ files a. inl (refl, given files a) }
-run-halted (stop.CannotRead name) words wanted agrees old given = record { wrote = []; told = sym (behind-nil old); holds = λ files a. inl (refl, given files a) }
-run-halted stop.NoMemory words wanted agrees old given = record { wrote = []; told = sym (behind-nil old); holds = λ files a. inl (refl, tt) }
+run-halted (stop.Refused message) words wanted agrees old given = record { wrote = []; told = sym (grown-nil old); holds = λ files a. inl (refl, given files a) }
+run-halted (stop.CannotRead name) words wanted agrees old given = record { wrote = []; told = sym (grown-nil old); holds = λ files a. inl (refl, given files a) }
+run-halted stop.NoMemory words wanted agrees old given = record { wrote = []; told = sym (grown-nil old); holds = λ files a. inl (refl, tt) }
 
 -- after a capture, and where that doesn't tell its first record
 pub run-after : (name : List ℕ) (moment : Moment) (wanted : Wanted) (agrees now_agrees : Files → Type 0) (old new : Option (List ℕ)) (ended : Outcome)
@@ -131,9 +131,9 @@ run-after name moment wanted agrees now_agrees old new ended given earlier write
 
 pub run-undated : (name : Bor (List ℕ)) (stop : CaptureStop) (wanted : Wanted) (agrees : Files → Type 0) (old : Option (List ℕ))
     → ((files : Files) → agrees files → GivesFirst files name.now (Err stop)) → InputRun (Some (of_capture name.now)) wanted agrees old old (undated name stop)
-run-undated name (capture_stop.Without why) wanted agrees old given = record { wrote = []; told = sym (behind-nil old); holds = λ files a. inl (refl, given files a) }
-run-undated name capture_stop.Unread wanted agrees old given = record { wrote = []; told = sym (behind-nil old); holds = λ files a. inl (refl, refl) }
-run-undated name capture_stop.NoMemory wanted agrees old given = record { wrote = []; told = sym (behind-nil old); holds = λ files a. inl (refl, tt) }
+run-undated name (capture_stop.Without why) wanted agrees old given = record { wrote = []; told = sym (grown-nil old); holds = λ files a. inl (refl, given files a) }
+run-undated name capture_stop.Unread wanted agrees old given = record { wrote = []; told = sym (grown-nil old); holds = λ files a. inl (refl, refl) }
+run-undated name capture_stop.NoMemory wanted agrees old given = record { wrote = []; told = sym (grown-nil old); holds = λ files a. inl (refl, tt) }
 
 -- ---- causes
 

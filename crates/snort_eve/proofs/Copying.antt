@@ -3,8 +3,8 @@ use Rattle.std.proofs.Common.{◌≡◌, ℕ, ◌+◌, ◌≤◌, inl, inr, take
 use Rattle.std.specs.Prelude.{Result, Ok, Err, IfOk, OnErr, unwrap_or}
 use Rattle.std.proofs.lemmas.List.{take-append-drop, length-take}
 use Rattle.edge_io.specs.Files.{Files}
-use Rattle.edge_io.specs.Told.{before, behind, NothingLeft}
-use Rattle.edge_io.proofs.Told.{before-nil, behind-nil, before-before, behind-behind}
+use Rattle.edge_io.specs.Told.{before, grown, NothingLeft}
+use Rattle.edge_io.proofs.Told.{before-nil, grown-nil, before-before, grown-grown}
 use Rattle.snort_eve.specs.declared.copy.Stop.{Stop}
 use Rattle.snort_eve.specs.declared.form.Ending.{Ending}
 use Rattle.snort_eve.specs.Forms.{Adds, BeginsWith, Closes, Gives, IsLast, Meaning}
@@ -23,7 +23,7 @@ come-start means came agrees from begun nothing none = record {
   wrote = [];
   come = nothing;
   parts = λ more. none more;
-  told = sym (behind-nil begun);
+  told = sym (grown-nil begun);
   read_is = refl;
 }
 
@@ -43,7 +43,7 @@ come-step means here next from begun piece comes earlier took passes counted = r
   wrote = comes.wrote ++ passes.wrote;
   come = passes.holds.goes comes.taken comes.wrote comes.come;
   parts = passes.holds.parts comes.taken comes.wrote passes.wrote comes.come (record { rest = []; is = sym (append-nil passes.wrote) });
-  told = passes.told ∙ ap (λ (o : Option (List ℕ)). behind o passes.wrote) comes.told ∙ behind-behind begun comes.wrote passes.wrote;
+  told = passes.told ∙ ap (λ (o : Option (List ℕ)). grown o passes.wrote) comes.told ∙ grown-grown begun comes.wrote passes.wrote;
   read_is = omega (arith, counted, comes.read_is, length-append comes.taken piece);
 }
 
@@ -91,7 +91,7 @@ pub stop-part : (means : Meaning) (here : Point) (now_agrees : Files → Type 0)
     → Stops means now_agrees from begun new
 stop-part means here now_agrees from to begun new piece comes earlier took breaks = record {
   wrote = comes.wrote ++ breaks.wrote;
-  told = breaks.told ∙ ap (λ (o : Option (List ℕ)). behind o breaks.wrote) comes.told ∙ behind-behind begun comes.wrote breaks.wrote;
+  told = breaks.told ∙ ap (λ (o : Option (List ℕ)). grown o breaks.wrote) comes.told ∙ grown-grown begun comes.wrote breaks.wrote;
   are = λ files a bytes is.
       let all = splits bytes (comes.taken ++ piece) (from files) (to files) is (took-more here.agrees now_agrees from here.left to comes.taken piece comes.took earlier took files a) in
       subst (λ (b : List ℕ). means.begins b (comes.wrote ++ breaks.wrote)) (sym all.is) (breaks.holds comes.taken comes.wrote comes.come comes.parts all.more);
@@ -108,7 +108,7 @@ copy-end : (means : Meaning) (here : Point) (foreign : Type 0) (from : Files →
     → IsOver foreign here.agrees here.left → Tells here.written new (Closes here.came foreign means here.read ending) → Copies means here.agrees from begun new ending
 copy-end means here foreign from begun new ending comes over last = record {
   wrote = comes.wrote ++ last.wrote;
-  told = last.told ∙ ap (λ (o : Option (List ℕ)). behind o last.wrote) comes.told ∙ behind-behind begun comes.wrote last.wrote;
+  told = last.told ∙ ap (λ (o : Option (List ℕ)). grown o last.wrote) comes.told ∙ grown-grown begun comes.wrote last.wrote;
   are = λ files a bytes is.
       let all = splits bytes comes.taken (from files) (here.left files) is (comes.took files a) in
       subst (λ (b : List ℕ). means.ends b (comes.wrote ++ last.wrote) ending) (sym all.is)
@@ -120,7 +120,7 @@ pub stop-last : (means : Meaning) (here : Point) (foreign : Type 0) (from : File
     → IsOver foreign here.agrees here.left → Tells here.written new (BreaksLast here.came foreign means) → Stops means here.agrees from begun new
 stop-last means here foreign from begun new comes over breaks = record {
   wrote = comes.wrote ++ breaks.wrote;
-  told = breaks.told ∙ ap (λ (o : Option (List ℕ)). behind o breaks.wrote) comes.told ∙ behind-behind begun comes.wrote breaks.wrote;
+  told = breaks.told ∙ ap (λ (o : Option (List ℕ)). grown o breaks.wrote) comes.told ∙ grown-grown begun comes.wrote breaks.wrote;
   are = λ files a bytes is.
       let all = splits bytes comes.taken (from files) (here.left files) is (comes.took files a) in
       subst (λ (b : List ℕ). means.begins b (comes.wrote ++ breaks.wrote)) (sym all.is)
@@ -130,7 +130,7 @@ stop-last means here foreign from begun new comes over breaks = record {
 -- nothing was begun
 pub stop-start : (means : Meaning) (agrees : Files → Type 0) (from : Files → Option (List ℕ)) (begun : Option (List ℕ)) → ((bytes : List ℕ) → means.begins bytes [])
     → Stops means agrees from begun begun
-stop-start means agrees from begun none = record { wrote = []; told = sym (behind-nil begun); are = λ files a bytes is. none bytes }
+stop-start means agrees from begun none = record { wrote = []; told = sym (grown-nil begun); are = λ files a bytes is. none bytes }
 
 -- whatever an error is
 pub on_err : {T E P : Type 0} (r : Result T E) → P → OnErr r P
@@ -146,17 +146,17 @@ part-begins lines bytes count same =
     subst (λ (b : List ℕ). BeginsWith lines (take count b)) (sym same) (record { rest = drop count lines; is = sym (take-append-drop count lines) })
 
 -- lines that were added to none were written
-pub all-written : (Holds : List ℕ → Type 0) (none lines bytes : List ℕ) (old new : Option (List ℕ)) → none ≡ [] → Adds none lines Holds → bytes ≡ lines → new ≡ behind old bytes
+pub all-written : (Holds : List ℕ → Type 0) (none lines bytes : List ℕ) (old new : Option (List ℕ)) → none ≡ [] → Adds none lines Holds → bytes ≡ lines → new ≡ grown old bytes
     → Tells old new Holds
 all-written Holds none lines bytes old new empty given is told = record {
   wrote = given.lines;
   holds = given.holds;
-  told = told ∙ ap (behind old) (is ∙ all-added none lines given.lines empty given.added);
+  told = told ∙ ap (grown old) (is ∙ all-added none lines given.lines empty given.added);
 }
 
 -- a write of a piece's lines failed, or wasn't begun
 pub piece-broken : (was now : List ℕ → List ℕ → Type 0) (means : Meaning) (piece none lines bytes : List ℕ) (count : ℕ) (old new : Option (List ℕ)) → none ≡ []
-    → Adds none lines (Gives was now means piece) → bytes ≡ lines → new ≡ behind old (take count bytes) → Tells old new (BreaksIn was means piece)
+    → Adds none lines (Gives was now means piece) → bytes ≡ lines → new ≡ grown old (take count bytes) → Tells old new (BreaksIn was means piece)
 piece-broken was now means piece none lines bytes count old new empty given is told = record {
   wrote = take count bytes;
   holds = λ seen earlier came begun.
@@ -170,12 +170,12 @@ piece-unbegun was means piece old = record {
   holds = λ seen earlier came begun more.
       subst (λ (w : List ℕ). means.begins ((seen ++ piece) ++ more) w) (sym (append-nil earlier))
       (subst (λ (b : List ℕ). means.begins b earlier) (sym (append_assoc seen piece more)) (begun (piece ++ more)));
-  told = sym (behind-nil old);
+  told = sym (grown-nil old);
 }
 
 -- a write of the last lines failed, or wasn't begun
 pub last-broken : (came : List ℕ → List ℕ → Type 0) (foreign : Type 0) (means : Meaning) (read : ℕ) (ending : Ending) (none lines bytes : List ℕ) (count : ℕ) (old new : Option (List ℕ)) → none ≡ []
-    → Adds none lines (Closes came foreign means read ending) → bytes ≡ lines → new ≡ behind old (take count bytes) → Tells old new (BreaksLast came foreign means)
+    → Adds none lines (Closes came foreign means read ending) → bytes ≡ lines → new ≡ grown old (take count bytes) → Tells old new (BreaksLast came foreign means)
 last-broken came foreign means read ending none lines bytes count old new empty given is told = record {
   wrote = take count bytes;
   holds = λ seen earlier more come begun last.
@@ -188,7 +188,7 @@ pub last-unbegun : (came : List ℕ → List ℕ → Type 0) (foreign : Type 0) 
 last-unbegun came foreign means old = record {
   wrote = [];
   holds = λ seen earlier more come begun last. subst (λ (w : List ℕ). means.begins (seen ++ more) w) (sym (append-nil earlier)) (begun more);
-  told = sym (behind-nil old);
+  told = sym (grown-nil old);
 }
 
 -- what a read took has as many bytes as it says

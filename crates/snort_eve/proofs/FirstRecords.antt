@@ -5,7 +5,7 @@ use Rattle.std.specs.FinMap.{get}
 use Rattle.edge_io.specs.Files.{Files}
 use Rattle.edge_io.specs.declared.moment.Moment.{Moment}
 use Rattle.pcap_input.specs.Cut.{Cut, Clean, Refused, first_records, no_more, with_first}
-use Rattle.pcap_input.specs.Savefile.{Next, Ends, Stands, head_of, next_of, records_left, place_behind}
+use Rattle.pcap_input.specs.Savefile.{Next, Ends, Follows, head_of, next_of, records_left, place_after}
 use Rattle.pcap_input.specs.Reader.{Reading, Gives, Opens, TakesHead, new_reader}
 use Rattle.pcap_input.specs.declared.capture.CaptureHead.{CaptureHead}
 use Rattle.pcap_input.specs.declared.capture.CaptureFault.{CaptureFault}
@@ -13,7 +13,7 @@ use Rattle.pcap_input.specs.declared.capture.CaptureFault.TheVariants as savefil
 use Rattle.pcap_input.specs.declared.capture.Record.{Record}
 use Rattle.pcap_input.proofs.Cuts.{first_records-below, first_records-enough}
 use Rattle.pcap_input.proofs.Endings.{savefile-ok, savefile-err}
-use Rattle.pcap_input.proofs.Records.{records_left-ends, records_left-stands}
+use Rattle.pcap_input.proofs.Records.{records_left-ends, records_left-follows}
 use Rattle.pcapng_input.specs.Blocks.{ng_records}
 use Rattle.pcapng_input.specs.Whole.{IsHeld}
 use Rattle.pcapng_input.specs.declared.capture.NgRecord.{NgRecord}
@@ -42,9 +42,9 @@ first_left : (head : CaptureHead) (rest : List ℕ) (next : Next) → next_of he
 first_left head rest (Ends ending) is =
     ap (λ (c : Cut Record CaptureFault). first_of_savefile (first_records (Some 1) c)) (records_left-ends head 0 24 rest ending is)
     ∙ ap first_of_savefile (first_records-below 1 (no_more ending) (omega arith))
-first_left head rest (Stands first more) is =
-    let later : Cut Record CaptureFault = records_left head 1 (place_behind 24 first) more in
-    ap (λ (c : Cut Record CaptureFault). first_of_savefile (first_records (Some 1) c)) (records_left-stands head 0 24 rest first more is)
+first_left head rest (Follows first more) is =
+    let later : Cut Record CaptureFault = records_left head 1 (place_after 24 first) more in
+    ap (λ (c : Cut Record CaptureFault). first_of_savefile (first_records (Some 1) c)) (records_left-follows head 0 24 rest first more is)
     ∙ ap first_of_savefile (first_records-enough 1 (with_first first later) (omega arith))
 
 pub first-savefile : (bytes : List ℕ) (head : CaptureHead) → head_of bytes ≡ Ok head

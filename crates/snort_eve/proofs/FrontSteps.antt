@@ -44,8 +44,8 @@ waits-none bytes few size entry front =
     omega (arith, sized.told, sized.within, lacking)
 
 -- the header stands, whatever follows
-pub length-stands : (bytes more : List ℕ) → 8 ≤ length bytes → body_length (bytes ++ more) ≡ body_length bytes
-length-stands bytes more long =
+pub length-holds : (bytes more : List ℕ) → 8 ≤ length bytes → body_length (bytes ++ more) ≡ body_length bytes
+length-holds bytes more long =
     ap (big_number 4) (drop-append-le 4 bytes more (omega arith))
     ∙ big_from-append 4 (drop 4 bytes) more (omega (arith, length-drop 4 bytes))
 
@@ -56,7 +56,7 @@ large-none bytes long large =
       long = long;
       none = λ more size entry front.
           let sized = front-sized (bytes ++ more) size entry front in
-          omega (arith, sized.short, length-stands bytes more long, large);
+          omega (arith, sized.short, length-holds bytes more long, large);
     }
 
 -- no bytes are no records
@@ -97,7 +97,7 @@ whole-foreign bytes size place long told within bad = record { long = long; none
   none : (more : List ℕ) → HasNoRecord (bytes ++ more)
   none more other entry front =
       let sized = front-sized (bytes ++ more) other entry front in
-      let same : other ≡ size = omega (arith, sized.told, told, length-stands bytes more long) in
+      let same : other ≡ size = omega (arith, sized.told, told, length-holds bytes more long) in
       let text = unified2_text entry in
       let is : text ≡ take size bytes =
       sym (take_at text front.rest size (front.size_is ∙ same)) ∙ ap (take size) (sym front.begins) ∙ take-append-le size bytes more within in

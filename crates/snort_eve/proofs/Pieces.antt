@@ -29,14 +29,14 @@ come-more line bytes waited piece rest held now written lines come fed =
     let first = come.entries in
     let more = fed.entries in
     let joined : joined_text (first ++ more) ≡ joined_text first ++ joined_text more = flat_map-append unified2_text first more in
-    let behind = ap (λ (b : List ℕ). joined_text first ++ b) fed.taken.split in
+    let after = ap (λ (b : List ℕ). joined_text first ++ b) fed.taken.split in
     record {
       entries = first ++ more;
       split = record {
         each = All-append IsRecord first more come.split.each fed.taken.each;
         split = ap (λ (b : List ℕ). b ++ piece) come.split.split
             ∙ append_assoc (joined_text first) waited piece
-            ∙ behind
+            ∙ after
             ∙ sym (append_assoc (joined_text first) (joined_text more) rest)
             ∙ ap (λ (b : List ℕ). b ++ rest) (sym joined);
         none = fed.taken.none;

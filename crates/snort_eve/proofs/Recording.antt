@@ -62,9 +62,9 @@ begins-part text whole part first second =
 
 -- so what was written of bytes that came is a beginning of what all of the file has
 come-begins : (line : Joined → List ℕ) (taken more rest wrote : List ℕ) (held : Option U2Event) → HasCome line taken rest held wrote → IsBeginning line (taken ++ more) wrote
-come-begins line taken more rest wrote held come seconds behind_them split =
+come-begins line taken more rest wrote held come seconds after_them split =
     let moved = sym (append_assoc (joined_text come.entries) rest more) ∙ ap (λ (b : List ℕ). b ++ more) (sym come.split.split) ∙ split.split in
-    let goes = goes-on come.entries seconds (rest ++ more) behind_them come.split.each split.each split.none moved in
+    let goes = goes-on come.entries seconds (rest ++ more) after_them come.split.each split.each split.none moved in
     subst (λ (x : List ℕ). BeginsWith (lines_of line (joined seconds)) x) (sym come.lines) (lines-front line come.entries seconds goes)
 
 -- nothing was written: the line of the event that waits begins with it
@@ -86,8 +86,8 @@ piece-gives line waited piece rest held now old new fed =
       lines = fed.lines;
       holds = record {
         goes = goes;
-        parts = λ bytes wrote part come begins more entries behind_them split.
-            begins-part _ _ _ (come-begins line (bytes ++ piece) more rest (wrote ++ fed.lines) now (goes bytes wrote come) entries behind_them split) (longer wrote fed.lines part begins);
+        parts = λ bytes wrote part come begins more entries after_them split.
+            begins-part _ _ _ (come-begins line (bytes ++ piece) more rest (wrote ++ fed.lines) now (goes bytes wrote come) entries after_them split) (longer wrote fed.lines part begins);
       };
       added = fed.added;
     }

@@ -3,8 +3,8 @@ use Rattle.std.proofs.Common.{◌≡◌, ℕ, ◌+◌, ◌<◌, ◌≤◌, inl, 
 use Rattle.std.specs.Prelude.{Result, Ok, Err, IfOk, OnErr, IsSome, IsErrOf}
 use Rattle.std.specs.Borrow.{Bor}
 use Rattle.edge_io.specs.Files.{Files, IsOpened}
-use Rattle.edge_io.specs.Told.{behind}
-use Rattle.edge_io.proofs.Told.{behind-nil, behind-behind}
+use Rattle.edge_io.specs.Told.{grown}
+use Rattle.edge_io.proofs.Told.{grown-nil, grown-grown}
 use Rattle.snort_eve.specs.declared.form.Ending.{Ending}
 use Rattle.snort_eve.specs.declared.form.Ending.TheVariants.{Done, Bad, NoLine}
 use Rattle.snort_eve.specs.declared.copy.Stop.{Stop}
@@ -147,7 +147,7 @@ other-end ended done unwritten =
 pub file-unopened : (means : Meaning) (agrees : Files → Type 0) (name : Bor (List ℕ)) (old : Option (List ℕ))
     → ((bytes : List ℕ) → means.begins bytes []) → FileRuns means agrees name old old (outcome.Unread name)
 file-unopened means agrees name old none =
-    record { wrote = []; told = sym (behind-nil old); holds = λ files a. (refl, λ bytes has. none bytes) }
+    record { wrote = []; told = sym (grown-nil old); holds = λ files a. (refl, λ bytes has. none bytes) }
 
 -- ---- files
 
@@ -163,7 +163,7 @@ abbrev pub FilesRun : Meaning → (Files → Type 0) → List (Bor (List ℕ)) �
 FilesRun means agrees names old new ended = Writes agrees old new (λ files wrote. AreRun means files (lent names) wrote ended)
 
 pub done-none : (means : Meaning) (agrees : Files → Type 0) (old : Option (List ℕ)) → DoneBy means agrees [] old old
-done-none means agrees old = record { wrote = []; told = sym (behind-nil old); holds = λ files a. refl }
+done-none means agrees old = record { wrote = []; told = sym (grown-nil old); holds = λ files a. refl }
 
 done-one : (means : Meaning) (files : Files) (names : List (List ℕ)) (name before now : List ℕ) → AreDone means files names before
     → IsFileRun means files name now outcome.Done → AreDone means files (names ++ name ∷ []) (before ++ now)
@@ -186,8 +186,8 @@ lent-split : (names : List (Bor (List ℕ))) (i : ℕ) → lent names ≡ lent (
 lent-split names i =
     ap lent (sym (take-append-drop i names)) ∙ map-append (λ (n : Bor (List ℕ)). n.now) (take i names) (drop i names)
 
-both-told : (old mid new : Option (List ℕ)) (first second : List ℕ) → mid ≡ behind old first → new ≡ behind mid second → new ≡ behind old (first ++ second)
-both-told old mid new first second is then = then ∙ ap (λ (o : Option (List ℕ)). behind o second) is ∙ behind-behind old first second
+both-told : (old mid new : Option (List ℕ)) (first second : List ℕ) → mid ≡ grown old first → new ≡ grown mid second → new ≡ grown old (first ++ second)
+both-told old mid new first second is then = then ∙ ap (λ (o : Option (List ℕ)). grown o second) is ∙ grown-grown old first second
 
 -- a file more is done
 pub done-more : (means : Meaning) (agrees now_agrees : Files → Type 0) (names : List (Bor (List ℕ))) (i : ℕ) (d : Bor (List ℕ)) (name : List ℕ) (old mid new : Option (List ℕ)) (ended : Outcome)
@@ -289,13 +289,13 @@ input-unbegun (Some (of_capture name)) wanted files = inl (refl, tt)
 
 -- memory is lacking before the first file
 pub run-unbegun : (asked : Option Asked) (agrees : Files → Type 0) (old : Option (List ℕ)) → Runs asked agrees old old outcome.NoMemory
-run-unbegun None agrees old = record { wrote = []; told = sym (behind-nil old); holds = λ files a. (refl, tt) }
-run-unbegun (Some help) agrees old = record { wrote = []; told = sym (behind-nil old); holds = λ files a. (refl, tt) }
-run-unbegun (Some (lines wanted)) agrees old = record { wrote = []; told = sym (behind-nil old); holds = λ files a. input-unbegun wanted.since wanted files }
+run-unbegun None agrees old = record { wrote = []; told = sym (grown-nil old); holds = λ files a. (refl, tt) }
+run-unbegun (Some help) agrees old = record { wrote = []; told = sym (grown-nil old); holds = λ files a. (refl, tt) }
+run-unbegun (Some (lines wanted)) agrees old = record { wrote = []; told = sym (grown-nil old); holds = λ files a. input-unbegun wanted.since wanted files }
 
 -- nothing is copied, by how the run ended
 pub run-refused : (agrees : Files → Type 0) (old : Option (List ℕ)) → Runs None agrees old old outcome.CommandLine
-run-refused agrees old = record { wrote = []; told = sym (behind-nil old); holds = λ files a. (refl, tt) }
+run-refused agrees old = record { wrote = []; told = sym (grown-nil old); holds = λ files a. (refl, tt) }
 
 pub run-help : (agrees : Files → Type 0) (old : Option (List ℕ)) → Runs (Some help) agrees old old outcome.Help
-run-help agrees old = record { wrote = []; told = sym (behind-nil old); holds = λ files a. (refl, tt) }
+run-help agrees old = record { wrote = []; told = sym (grown-nil old); holds = λ files a. (refl, tt) }

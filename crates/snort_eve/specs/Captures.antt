@@ -15,7 +15,7 @@ use Rattle.alert_json.specs.declared.line_year.YearFrom.{YearFrom}
 use Rattle.alert_json.specs.declared.line_year.YearFrom.TheVariants.{After}
 use Rattle.pcap_input.specs.Cut.{Cut, Ending, Clean, Refused, cut_by, ending_by}
 use Rattle.pcap_input.specs.declared.capture.Record.{Record}
-use Rattle.pcap_input.specs.Savefile.{Capture, Next, Ends, Stands, savefile}
+use Rattle.pcap_input.specs.Savefile.{Capture, Next, Ends, Follows, savefile}
 use Rattle.pcap_input.specs.declared.capture.CaptureFault.{CaptureFault}
 use Rattle.pcap_input.specs.declared.capture.CaptureFault.TheVariants as savefile_fault
 use Rattle.pcapng_input.specs.Blocks.{ng_records}
@@ -117,7 +117,7 @@ Meets answer meant = meant ≡ answer
 -- the moment of the record that stands next in a savefile, or why there is none
 abbrev pub first_next : Next → Result Moment CaptureStop
 first_next (Ends ending) = first_ended [] (ending_by stop_of_savefile ending)
-first_next (Stands given rest) = Ok given.moment
+first_next (Follows given rest) = Ok given.moment
 
 -- what is found of blocks, read so
 abbrev pub found_ending : Option NgFault → Ending CaptureStop

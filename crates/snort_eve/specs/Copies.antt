@@ -4,7 +4,7 @@
 -- agree with what a host answered, the bytes that came are the front of the file.
 -- To try it on: of a file of records that a fault cuts in its last piece, the lines are a beginning of those of the whole.
 use Rattle.std.specs.Prelude.{◌≡◌, ℕ, ◌^◌, ◌≤◌, ◌⊎◌, List, ◌++◌, length, Option, Some, Result, IsErrOf}
-use Rattle.edge_io.specs.Told.{before, behind, NothingLeft, Rose}
+use Rattle.edge_io.specs.Told.{before, grown, NothingLeft, Rose}
 use Rattle.edge_io.specs.declared.host.Host.{Ghosts as HostOf}
 use Rattle.edge_io.specs.Files.{Files}
 use Rattle.snort_eve.specs.Forms.{HasBegun, IsLast, Meaning}
@@ -18,7 +18,7 @@ use Rattle.snort_eve.specs.declared.copy.Stop.TheVariants.{Unread, Unwritten}
 pub record Tells (old new : Option (List ℕ)) (Holds : List ℕ → Type 0) : Type 0 where
   pub wrote : List ℕ
   pub holds : Holds wrote
-  pub told : new ≡ behind old wrote
+  pub told : new ≡ grown old wrote
 
 -- nothing or a beginning of the lines of a piece
 abbrev pub BreaksIn : (List ℕ → List ℕ → Type 0) → Meaning → List ℕ → List ℕ → Type 0
@@ -77,21 +77,21 @@ pub record Comes (means : Meaning) (from : Files → Option (List ℕ)) (begun :
   pub wrote : List ℕ
   pub come : here.came taken wrote
   pub parts : HasBegun means taken wrote
-  pub told : here.written ≡ behind begun wrote
+  pub told : here.written ≡ grown begun wrote
   pub read_is : here.read ≡ length taken
 
 -- a beginning of the lines of the open file was written, by all files that agree
 pub record Stops (means : Meaning) (agrees : Files → Type 0) (from : Files → Option (List ℕ)) (old new : Option (List ℕ)) :
     Type 0 where
   pub wrote : List ℕ
-  pub told : new ≡ behind old wrote
+  pub told : new ≡ grown old wrote
   pub are : (files : Files) → agrees files → (bytes : List ℕ) → from files ≡ Some bytes → means.begins bytes wrote
 
 -- or it was copied to its end
 pub record Copies (means : Meaning) (agrees : Files → Type 0) (from : Files → Option (List ℕ)) (old new : Option (List ℕ))
     (ending : Ending) : Type 0 where
   pub wrote : List ℕ
-  pub told : new ≡ behind old wrote
+  pub told : new ≡ grown old wrote
   pub are : (files : Files) → agrees files → (bytes : List ℕ) → from files ≡ Some bytes → means.ends bytes wrote ending
 
 -- wherever the copying began: it goes on from one point to another; it stops behind a point; it can't count further
@@ -99,13 +99,13 @@ abbrev pub GoesOn : Meaning → Point → Point → Type 0
 GoesOn means here next =
     (from : Files → Option (List ℕ)) (begun : Option (List ℕ)) → Comes means from begun here → Comes means from begun next
 
-abbrev pub StopsBehind : Meaning → Point → (Files → Type 0) → Option (List ℕ) → Type 0
-StopsBehind means here agrees new =
+abbrev pub StopsAfter : Meaning → Point → (Files → Type 0) → Option (List ℕ) → Type 0
+StopsAfter means here agrees new =
     (from : Files → Option (List ℕ)) (begun : Option (List ℕ)) → Comes means from begun here
     → Stops means agrees from begun new
 
-abbrev pub IsLongBehind : Meaning → Point → (Files → Type 0) → Type 0
-IsLongBehind means here agrees =
+abbrev pub IsLongAfter : Meaning → Point → (Files → Type 0) → Type 0
+IsLongAfter means here agrees =
     (from : Files → Option (List ℕ)) (begun : Option (List ℕ)) → Comes means from begun here → IsLong agrees from
 
 -- ---- faults

@@ -28,13 +28,13 @@ belongs event packet =
     (event.sensor == packet.sensor) && ((event.id == packet.id) && (event.second == packet.event_second))
 
 -- the event that waits for its packet behind a packet, and behind any record
-unfoldable pub behind_packet : Option U2Event → U2Packet → Option U2Event
-behind_packet None packet = None
-behind_packet (Some event) packet = if belongs event packet then None else Some event
+unfoldable pub after_packet : Option U2Event → U2Packet → Option U2Event
+after_packet None packet = None
+after_packet (Some event) packet = if belongs event packet then None else Some event
 
 unfoldable pub waiting : Option U2Event → U2 → Option U2Event
 waiting held (Event event) = Some event
-waiting held (Packet packet) = behind_packet held packet
+waiting held (Packet packet) = after_packet held packet
 waiting held (Other kind bytes) = held
 
 -- an event that waits for no packet

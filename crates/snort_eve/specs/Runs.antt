@@ -12,7 +12,7 @@ use Rattle.std.specs.Prelude.{◌≡◌, ◌⊎◌, ⊤, ℕ, ◌^◌, ◌≤◌
 use Rattle.std.specs.Borrow.{Bor}
 use Rattle.std.specs.FinMap.{get}
 use Rattle.edge_io.specs.Files.{Files}
-use Rattle.edge_io.specs.Told.{behind}
+use Rattle.edge_io.specs.Told.{grown}
 use Rattle.conf_types.specs.declared.classes.Class.{Class}
 use Rattle.rule_types.specs.declared.rule.Rule.{Rule}
 use Rattle.snort_setup.specs.Words.{Words}
@@ -184,7 +184,7 @@ IsRun (Some (lines wanted)) files wrote ended = IsInputRun wanted.since wanted f
 -- what was written between two states of a sink, by all files that agree
 pub record Writes (agrees : Files → Type 0) (old new : Option (List ℕ)) (Holds : Files → List ℕ → Type 0) : Type 0 where
   pub wrote : List ℕ
-  pub told : new ≡ behind old wrote
+  pub told : new ≡ grown old wrote
   pub holds : (files : Files) → agrees files → Holds files wrote
 
 -- a run, by all files that agree with what the host answered

@@ -2,7 +2,7 @@
 ghost use Rattle.std.specs.Prelude.{◌≡◌, ◌+◌, ◌^◌, ◌<◌, ◌≤◌, List, [], ℕ, Option, Ok, true, false, IfOk, OnOk, OnErr, IsErrOf, length};
 ghost use Rattle.edge_io.specs.Told.{Rose};
 ghost use Rattle.edge_io.specs.Files.{Files};
-ghost use Rattle.snort_eve.specs.Copies.{BreaksIn, BreaksLast, Comes, Copies, Counts, GoesOn, IsLong, IsLongBehind, IsOver, Stays, Stops, StopsBehind, Tells, point};
+ghost use Rattle.snort_eve.specs.Copies.{BreaksIn, BreaksLast, Comes, Copies, Counts, GoesOn, IsLong, IsLongAfter, IsOver, Stays, Stops, StopsAfter, Tells, point};
 ghost use Rattle.snort_eve.specs.Forms.{Closes, Gives};
 
 use crate::form::{Ending, Form};
@@ -120,11 +120,11 @@ fn next_piece<H: Host, F: Form, A: Sink>(
     ensures comes { OnOk result (GoesOn (F.means form.now)
         (point (F.came form.now state.old) (H.agrees host.old) (H.left_of host.old) read.old (A.written alerts.old))
         (point (F.came form.now state.new) (H.agrees host.new) (H.left_of host.new) read.new (A.written alerts.new))) }
-    ensures stops { OnErr result (StopsBehind (F.means form.now)
+    ensures stops { OnErr result (StopsAfter (F.means form.now)
         (point (F.came form.now state.old) (H.agrees host.old) (H.left_of host.old) read.old (A.written alerts.old))
         (H.agrees host.new) (A.written alerts.new)) }
     ensures over { result ≡ Ok false → IsOver (F.foreign form.now state.new) (H.agrees host.new) (H.left_of host.new) }
-    ensures long { IsErrOf result Stop.TooLong → IsLongBehind (F.means form.now)
+    ensures long { IsErrOf result Stop.TooLong → IsLongAfter (F.means form.now)
         (point (F.came form.now state.old) (H.agrees host.old) (H.left_of host.old) read.old (A.written alerts.old))
         (H.agrees host.new) }
     ensures further { result ≡ Ok true → (read.old < read.new) × (read.new < 2 ^ 64) }

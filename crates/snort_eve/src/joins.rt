@@ -1,6 +1,6 @@
 //! Events of Unified2 joined with their packets, and their lines.
 ghost use Rattle.std.specs.Prelude.{◌≡◌, ◌++◌, ℕ, List, Some, OnOk, IfOk, option_map};
-ghost use Rattle.snort_eve.specs.Joins.{Joined, belongs, behind_packet, waiting, flushed, by_packet, completed, held_after, completed_by, joined_of, lines_of};
+ghost use Rattle.snort_eve.specs.Joins.{Joined, belongs, after_packet, waiting, flushed, by_packet, completed, held_after, completed_by, joined_of, lines_of};
 
 use edge_io::NoMemory;
 use std::alloc::Global;
@@ -36,14 +36,14 @@ fn waiting(held: Option<U2Event>, entry: &U2) -> Option<U2Event>
 {
     match entry {
         U2::Event(event) => Some(*event),
-        U2::Packet(packet) => behind_packet(held, packet),
+        U2::Packet(packet) => after_packet(held, packet),
         U2::Other { .. } => held,
     }
 }
 
-#[tactic(auto, unfolding(crate::specs::Joins::behind_packet))]
-fn behind_packet(held: Option<U2Event>, packet: &U2Packet) -> Option<U2Event>
-    ensures { result ≡ behind_packet held packet.now }
+#[tactic(auto, unfolding(crate::specs::Joins::after_packet))]
+fn after_packet(held: Option<U2Event>, packet: &U2Packet) -> Option<U2Event>
+    ensures { result ≡ after_packet held packet.now }
 {
     match held {
         None => None,

@@ -1,6 +1,6 @@
 //! How a run ends, its status and its message.
 ghost use Rattle.std.specs.Prelude.{◌≡◌, ◌++◌, true, false, IfOk, OnOk};
-ghost use Rattle.edge_io.specs.Told.{behind};
+ghost use Rattle.edge_io.specs.Told.{grown};
 ghost use Rattle.snort_eve.specs.Runs.{bad_front, bad_text, message_text, no_line_text, no_record_text, numbered_text, outcome_of, place_text, undated};
 
 use crate::capture::{CaptureStop, NoRecord};
@@ -234,7 +234,7 @@ fn message(alloc: Global, outcome: &Outcome<'_>) -> Result<Vec<u8>, NoMemory>
 
 /// Tells how a run ended. A fault of the stream of errors changes nothing, nor does want of memory for the message.
 pub(crate) fn tell<E: Sink>(alloc: Global, outcome: &Outcome<'_>, errors: &mut E) -> bool
-    ensures { result ≡ true → E.written errors.new ≡ behind (E.written errors.old) (message_text outcome.now) }
+    ensures { result ≡ true → E.written errors.new ≡ grown (E.written errors.old) (message_text outcome.now) }
 {
     match message(alloc, outcome) {
         Ok(text) => write_all(errors, &text).is_ok(),

@@ -37,8 +37,8 @@ fn frame_of(bytes: &[u8]) -> Frame
     if len > MAX_BODY {
         return Frame::Foreign;
     }
-    let behind = &bytes[HEADER..];
-    if behind.len() < len {
+    let after = &bytes[HEADER..];
+    if after.len() < len {
         return Frame::Waits;
     }
     Frame::Whole { size: HEADER + len }

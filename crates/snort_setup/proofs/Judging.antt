@@ -59,13 +59,13 @@ meant-before finds a b set same = subst (λ (means : Means). FindWhatIsMeant fin
 
 -- ---- the rule
 
-pub added-pushed : (rules behind : List Rule) (rule : Rule) (old new : List Refusal) → new ≡ old → behind ≡ rules ++ rule ∷ [] → IsAdded rules rule (refused_one old new) behind None
-added-pushed rules behind rule old new same pushed = subst (λ b. IsAdded rules rule b behind None) (sym (refused-none old new same)) (pushed, refl)
+pub added-pushed : (rules after : List Rule) (rule : Rule) (old new : List Refusal) → new ≡ old → after ≡ rules ++ rule ∷ [] → IsAdded rules rule (refused_one old new) after None
+added-pushed rules after rule old new same pushed = subst (λ b. IsAdded rules rule b after None) (sym (refused-none old new same)) (pushed, refl)
 
-pub added-refused : (rules behind : List Rule) (rule : Rule) (options : List Opt) (old new : List Refusal) → RefusesOneOf options old new → behind ≡ rules
-    → IsAdded rules rule (refused_one old new) behind (Some (plain kind.PatternRefused))
-added-refused rules behind rule options old new one same =
-    subst (λ b. IsAdded rules rule b behind (Some (plain kind.PatternRefused))) (sym (refused-one options old new one)) (same, refl)
+pub added-refused : (rules after : List Rule) (rule : Rule) (options : List Opt) (old new : List Refusal) → RefusesOneOf options old new → after ≡ rules
+    → IsAdded rules rule (refused_one old new) after (Some (plain kind.PatternRefused))
+added-refused rules after rule options old new one same =
+    subst (λ b. IsAdded rules rule b after (Some (plain kind.PatternRefused))) (sym (refused-one options old new one)) (same, refl)
 
 pub judged-taken : (rules : List Rule) (is_refused : Bool) (rule : Rule) → is_taken rules rule ≡ true → IsJudged rules (judged rules is_refused rule) rules (Some (plain kind.DuplicateSid))
 unfolding judged
@@ -75,8 +75,8 @@ pub judged-full : (rules : List Rule) (is_refused : Bool) (rule : Rule) → is_t
 unfolding judged
 judged-full rules is_refused rule free full = rw (free, full) (refl, refl)
 
-pub judged-added : (rules behind : List Rule) (is_refused : Bool) (rule : Rule) (fault : Option RuleFault) → is_taken rules rule ≡ false → nat_le most_rules (length rules) ≡ false
-    → IsAdded rules rule is_refused behind fault → IsJudged rules (judged rules is_refused rule) behind fault
+pub judged-added : (rules after : List Rule) (is_refused : Bool) (rule : Rule) (fault : Option RuleFault) → is_taken rules rule ≡ false → nat_le most_rules (length rules) ≡ false
+    → IsAdded rules rule is_refused after fault → IsJudged rules (judged rules is_refused rule) after fault
 unfolding judged
-judged-added rules behind false rule fault free room added = rw (free, room) added
-judged-added rules behind true rule fault free room added = rw (free, room) added
+judged-added rules after false rule fault free room added = rw (free, room) added
+judged-added rules after true rule fault free room added = rw (free, room) added

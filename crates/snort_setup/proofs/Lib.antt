@@ -3,7 +3,7 @@ pub mod Told
 pub mod Numbered
 pub mod Judging
 pub mod Stepping
-pub mod Standing
+pub mod LinesRead
 pub mod One
 pub mod Wholes
 pub mod Seeing

@@ -8,7 +8,7 @@ use Rattle.rule_parser.specs.declared.fault.RuleFault.{RuleFault}
 use Rattle.rule_types.specs.declared.rule.Rule.{Rule}
 use Rattle.rule_parser.proofs.Lines.Meaning.{answers-as}
 use Rattle.snort_setup.specs.Words.{Words}
-use Rattle.snort_setup.specs.Rules.{Frame, Standing, Verdict, RulesEnd, end_at, is_among, IsRule, IsFaulty, LineGives, RulesGive, behind_line}
+use Rattle.snort_setup.specs.Rules.{Frame, RulesState, Verdict, RulesEnd, end_at, is_among, IsRule, IsFaulty, LineGives, RulesGive, after_line}
 use Rattle.snort_setup.specs.Setup.{Ruled, Warned, ruled_by, conf_read, IsRuledBy, with_table}
 use Rattle.snort_setup.specs.Answers.{HasOneSetup}
 
@@ -44,14 +44,14 @@ module _ (frame : Frame) (names : List (List ℕ)) (text : List ℕ) where
       ⊎_elim (λ memory. absurd (not_a memory)) (λ (other, same, as_well). cc) (answers-as frame.variables frame.classes names text (Err a) names x (Err why) is)
 
 -- a line gives one verdict
-pub verdict-one : (frame : Frame) (standing : Standing) (is_refused : Bool) (text : List ℕ) (a b : Verdict) → LineGives frame standing is_refused text a → LineGives frame standing is_refused text b → a ≡ b
+pub verdict-one : (frame : Frame) (state : RulesState) (is_refused : Bool) (text : List ℕ) (a b : Verdict) → LineGives frame state is_refused text a → LineGives frame state is_refused text b → a ≡ b
 unfolding LineGives
-verdict-one frame standing is_refused text a b (inl (rule, later, x, same)) (inl (other, behind, y, as_well)) =
-    let (rules, names) = rule-one frame standing.names text rule other later behind x y in cc
-verdict-one frame standing is_refused text a b (inl (rule, later, x, same)) (inr (fault, y, as_well)) = absurd (rule-or_fault frame standing.names text rule later fault x y)
-verdict-one frame standing is_refused text a b (inr (fault, x, same)) (inl (rule, later, y, as_well)) = absurd (rule-or_fault frame standing.names text rule later fault y x)
-verdict-one frame standing is_refused text a b (inr (fault, x, same)) (inr (other, y, as_well)) =
-    let faults = fault-one frame standing.names text fault other x y in cc
+verdict-one frame state is_refused text a b (inl (rule, later, x, same)) (inl (other, after, y, as_well)) =
+    let (rules, names) = rule-one frame state.names text rule other later after x y in cc
+verdict-one frame state is_refused text a b (inl (rule, later, x, same)) (inr (fault, y, as_well)) = absurd (rule-or_fault frame state.names text rule later fault x y)
+verdict-one frame state is_refused text a b (inr (fault, x, same)) (inl (rule, later, y, as_well)) = absurd (rule-or_fault frame state.names text rule later fault y x)
+verdict-one frame state is_refused text a b (inr (fault, x, same)) (inr (other, y, as_well)) =
+    let faults = fault-one frame state.names text fault other x y in cc
 
 -- one of two ways on, twice
 both : {A B C : Type 0} (r : Result A B) (P Q : A → Type 0) (S T : B → Type 0) → ((x : A) → P x → Q x → C) → ((y : B) → S y → T y → C) → MatchResult r P S → MatchResult r Q T → C
@@ -59,14 +59,14 @@ both (Ok x) P Q S T ok err p q = ok x p q
 both (Err y) P Q S T ok err p q = err y p q
 
 -- rule lines end in one way
-end-one : (frame : Frame) (refused : List ℕ) (place : ℕ) (standing : Standing) (lines : List Line) (a b : RulesEnd) → RulesGive frame refused place standing lines a → RulesGive frame refused place standing lines b → a ≡ b
+end-one : (frame : Frame) (refused : List ℕ) (place : ℕ) (state : RulesState) (lines : List Line) (a b : RulesEnd) → RulesGive frame refused place state lines a → RulesGive frame refused place state lines b → a ≡ b
 unfolding RulesGive
-end-one frame refused place standing [] a b x y = x ∙ sym y
-end-one frame refused place standing (line ∷ rest) a b (verdict, gives, x) (other, gives_too, y) =
-    let same : other ≡ verdict = verdict-one frame standing (is_among refused place) line.text other verdict gives_too gives in
-    let z = subst (λ (v : Verdict). MatchResult (behind_line frame line standing v) (λ behind. RulesGive frame refused (place + 1) behind rest b) (λ message. b ≡ end_at standing (Some message))) same y in
-    both (behind_line frame line standing verdict) (λ behind. RulesGive frame refused (place + 1) behind rest a) (λ behind. RulesGive frame refused (place + 1) behind rest b) (λ message. a ≡ end_at standing (Some message)) (λ message. b ≡ end_at standing (Some message))
-    (λ behind p q. end-one frame refused (place + 1) behind rest a b p q) (λ message p q. p ∙ sym q) x z
+end-one frame refused place state [] a b x y = x ∙ sym y
+end-one frame refused place state (line ∷ rest) a b (verdict, gives, x) (other, gives_too, y) =
+    let same : other ≡ verdict = verdict-one frame state (is_among refused place) line.text other verdict gives_too gives in
+    let z = subst (λ (v : Verdict). MatchResult (after_line frame line state v) (λ after. RulesGive frame refused (place + 1) after rest b) (λ message. b ≡ end_at state (Some message))) same y in
+    both (after_line frame line state verdict) (λ after. RulesGive frame refused (place + 1) after rest a) (λ after. RulesGive frame refused (place + 1) after rest b) (λ message. a ≡ end_at state (Some message)) (λ message. b ≡ end_at state (Some message))
+    (λ after p q. end-one frame refused (place + 1) after rest a b p q) (λ message p q. p ∙ sym q) x z
 
 -- a configuration gives one thing
 ruled-one : (words : Words) (refused : List ℕ) (ended : Ended) (a b : Warned Ruled) → IsRuledBy words refused ended a → IsRuledBy words refused ended b → a ≡ b

@@ -14,7 +14,7 @@ use Rattle.snort_setup.specs.Texts.{conf_error}
 use Rattle.edge_io.specs.OnResult.{◌>>=◌}
 use Rattle.conf_parser.specs.declared.loaded.Loaded.{Loaded}
 use Rattle.host_table.specs.declared.host_line.HostLine.{HostLine}
-use Rattle.snort_setup.specs.Rules.{Frame, RulesEnd, RulesGive, nothing_stands}
+use Rattle.snort_setup.specs.Rules.{Frame, RulesEnd, RulesGive, nothing_read}
 use Rattle.snort_setup.specs.Setup.{Halt, Refused, Lacks as LacksName, Ruled, Ready, warned, ruled, ruled_by, ready, frame_of, conf_read, conf_warnings, IsRuledBy, IsRuled, IsSetup, AsksFor, table_of, with_table}
 use Rattle.snort_setup.specs.Answers.{IsRefusedLine, AreRefused, AreRefusedBy, Gives, SetsUp, HasCause}
 use Rattle.snort_setup.specs.Lines.{RulesAnswer}
@@ -34,13 +34,13 @@ none-refused_by words (Asks name output) grown = refl
 -- ---- rule lines after a configuration
 
 lines-ruled : (words : Words) (configured : Configured) (before : List (List ℕ)) (refused : List ℕ) (end : RulesEnd) (ended : Ended) → IsConfigured configured before ended
-    → RulesGive (frame_of words.skips configured.vars configured.loaded) refused 0 (nothing_stands before) configured.loaded.rules end → IsRuledBy words refused ended (ruled_by configured.loaded end)
+    → RulesGive (frame_of words.skips configured.vars configured.loaded) refused 0 (nothing_read before) configured.loaded.rules end → IsRuledBy words refused ended (ruled_by configured.loaded end)
 unfolding IsRuledBy
 lines-ruled words configured before refused end (Whole read) (vars, loaded, told_are) given =
     let told_all : before ≡ conf_warnings (loaded_of read).files (loaded_of read).warnings = told_are ∙ ap (λ (l : Loaded). conf_warnings l.files l.warnings) loaded in
-    let one = subst (λ vs. RulesGive (frame_of words.skips vs configured.loaded) refused 0 (nothing_stands before) configured.loaded.rules end) vars given in
-    let two = subst (λ (l : Loaded). RulesGive (frame_of words.skips read.settings.vars l) refused 0 (nothing_stands before) l.rules end) loaded one in
-    let three = subst (λ ws. RulesGive (frame_of words.skips read.settings.vars (loaded_of read)) refused 0 (nothing_stands ws) (loaded_of read).rules end) told_all two in
+    let one = subst (λ vs. RulesGive (frame_of words.skips vs configured.loaded) refused 0 (nothing_read before) configured.loaded.rules end) vars given in
+    let two = subst (λ (l : Loaded). RulesGive (frame_of words.skips read.settings.vars l) refused 0 (nothing_read before) l.rules end) loaded one in
+    let three = subst (λ ws. RulesGive (frame_of words.skips read.settings.vars (loaded_of read)) refused 0 (nothing_read ws) (loaded_of read).rules end) told_all two in
     (end, three, ap (λ (l : Loaded). ruled_by l end) loaded)
 lines-ruled words configured before refused end (RefusedAt fault output) never given = absurd never
 lines-ruled words configured before refused end (Asks name output) never given = absurd never

@@ -9,7 +9,7 @@ use Rattle.rule_types.specs.declared.rule.Rule.{Rule}
 use Rattle.snort_setup.specs.declared.rules.LinesIn as lines
 use Rattle.snort_setup.specs.declared.rules.Progress as progress
 use Rattle.snort_setup.specs.declared.rules.RulesEnd as ends
-use Rattle.snort_setup.specs.Rules.{Frame, Standing, Verdict, RulesEnd, end_at, nothing_stands, IsRule, LineGives, RulesGive, behind_line, behind_fault}
+use Rattle.snort_setup.specs.Rules.{Frame, RulesState, Verdict, RulesEnd, end_at, nothing_read, IsRule, LineGives, RulesGive, after_line, after_fault}
 use Rattle.snort_setup.specs.Answers.{AreRefused}
 use Rattle.snort_setup.specs.Steps.{refused_one, IsJudged}
 
@@ -23,11 +23,11 @@ lines_frame lines = record {
   skips = lines.skips;
 }
 
-abbrev pub standing_of : {P : Type 0} → progress.Progress P → Standing
-standing_of progress = record { names = progress.names; rules = progress.accepted.rules; warnings = progress.warnings }
+abbrev pub state_of : {P : Type 0} → progress.Progress P → RulesState
+state_of progress = record { names = progress.names; rules = progress.accepted.rules; warnings = progress.warnings }
 
 abbrev pub end_of : {P : Type 0} → ends.RulesEnd P → RulesEnd
-end_of end = end_at (standing_of end.progress) end.refusal
+end_of end = end_at (state_of end.progress) end.refusal
 
 -- what there is before the first line
 abbrev pub first_progress : {P : Type 0} → List (List ℕ) → progress.Progress P
@@ -36,14 +36,14 @@ first_progress warnings = record { accepted = record { rules = []; patterns = []
 -- ---- one line
 
 -- a verdict, with the warnings that were there before it
-abbrev pub IsBehind : Standing → Verdict → Standing → Option RuleFault → Type 0
-IsBehind before verdict behind fault =
-    (behind.names ≡ verdict.names) × (behind.warnings ≡ before.warnings) × IsJudged before.rules verdict.rule behind.rules fault
+abbrev pub IsAfter : RulesState → Verdict → RulesState → Option RuleFault → Type 0
+IsAfter before verdict after fault =
+    (after.names ≡ verdict.names) × (after.warnings ≡ before.warnings) × IsJudged before.rules verdict.rule after.rules fault
 
 -- a line was read, where its pattern is refused or is not
-abbrev pub IsRead : Frame → Standing → List ℕ → Bool → Standing → Option RuleFault → Type 0
-IsRead frame before text is_refused behind fault =
-    (verdict : Verdict) × LineGives frame before is_refused text verdict × IsBehind before verdict behind fault
+abbrev pub IsRead : Frame → RulesState → List ℕ → Bool → RulesState → Option RuleFault → Type 0
+IsRead frame before text is_refused after fault =
+    (verdict : Verdict) × LineGives frame before is_refused text verdict × IsAfter before verdict after fault
 
 -- where the maker refused something, it is a pattern of the rule that the line is
 abbrev pub AsksOf : Frame → List (List ℕ) → List ℕ → List Refusal → List Refusal → Type 0
@@ -52,20 +52,20 @@ AsksOf frame names text old new =
     × RefusesOneOf rule.opts old new)
 
 -- a step as stated: it goes on with what there is then, or ends with this error where what counts is as before
-abbrev pub IsStep : Standing → Result Standing (List ℕ) → Standing → Option (List ℕ) → Type 0
-IsStep before (Ok behind) standing refusal = (standing ≡ behind) × (refusal ≡ None)
-IsStep before (Err message) standing refusal =
-    (standing.rules ≡ before.rules) × (standing.warnings ≡ before.warnings) × (refusal ≡ Some message)
+abbrev pub IsStep : RulesState → Result RulesState (List ℕ) → RulesState → Option (List ℕ) → Type 0
+IsStep before (Ok after) state refusal = (state ≡ after) × (refusal ≡ None)
+IsStep before (Err message) state refusal =
+    (state.rules ≡ before.rules) × (state.warnings ≡ before.warnings) × (refusal ≡ Some message)
 
 -- what there is after a line that is none for this fault, and the error, if it ends there
-abbrev pub Skips : Frame → Line → Standing → RuleFault → Standing → Option (List ℕ) → Type 0
-Skips frame line before fault behind refusal = IsStep before (behind_fault frame line before fault) behind refusal
+abbrev pub Skips : Frame → Line → RulesState → RuleFault → RulesState → Option (List ℕ) → Type 0
+Skips frame line before fault after refusal = IsStep before (after_fault frame line before fault) after refusal
 
 -- what there is after a line, and the error, if it ends there
-abbrev pub StepGives : Frame → Line → Standing → Bool → Standing → Option (List ℕ) → Type 0
-StepGives frame line before is_refused behind refusal =
+abbrev pub StepGives : Frame → Line → RulesState → Bool → RulesState → Option (List ℕ) → Type 0
+StepGives frame line before is_refused after refusal =
     (verdict : Verdict) × LineGives frame before is_refused line.text verdict
-    × IsStep before (behind_line frame line before verdict) behind refusal
+    × IsStep before (after_line frame line before verdict) after refusal
 
 -- ---- all lines
 
@@ -74,4 +74,4 @@ pub record RulesAnswer (frame : Frame) (lines : List Line) (warnings : List (Lis
     (end : RulesEnd) : Type 0 where
   pub refused : List ℕ
   pub are_refused : AreRefused frame lines refused grown
-  pub gives : RulesGive frame refused 0 (nothing_stands warnings) lines end
+  pub gives : RulesGive frame refused 0 (nothing_read warnings) lines end

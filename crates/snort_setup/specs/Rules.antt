@@ -31,14 +31,14 @@ pub record Frame : Type 0 where
   pub skips : Bool
 
 -- what there is after some rule lines: the names of flowbits, the accepted rules, and all warnings
-pub record Standing : Type 0 where
+pub record RulesState : Type 0 where
   pub names : List (List ℕ)
   pub rules : List Rule
   pub warnings : List (List ℕ)
 
 -- before the first rule line, after these warnings
-abbrev pub nothing_stands : List (List ℕ) → Standing
-nothing_stands warnings = record { names = []; rules = []; warnings = warnings }
+abbrev pub nothing_read : List (List ℕ) → RulesState
+nothing_read warnings = record { names = []; rules = []; warnings = warnings }
 
 -- what a line gives: its rule, or why it has none, and the names of flowbits after it
 pub record Verdict : Type 0 where
@@ -79,12 +79,12 @@ IsFaulty frame names text fault =
     × (fault ≢ plain kind.NoMemory)
 
 -- what a line gives, where its pattern is refused or is not
-unfoldable pub LineGives : Frame → Standing → Bool → List ℕ → Verdict → Type 0
-LineGives frame standing is_refused text verdict =
-    ((rule : Rule) × (later : List (List ℕ)) × IsRule frame standing.names text rule later
-    × (verdict ≡ record { rule = judged standing.rules is_refused rule; names = later }))
-    ⊎ ((fault : RuleFault) × IsFaulty frame standing.names text fault
-    × (verdict ≡ record { rule = Err fault; names = standing.names }))
+unfoldable pub LineGives : Frame → RulesState → Bool → List ℕ → Verdict → Type 0
+LineGives frame state is_refused text verdict =
+    ((rule : Rule) × (later : List (List ℕ)) × IsRule frame state.names text rule later
+    × (verdict ≡ record { rule = judged state.rules is_refused rule; names = later }))
+    ⊎ ((fault : RuleFault) × IsFaulty frame state.names text fault
+    × (verdict ≡ record { rule = Err fault; names = state.names }))
 
 -- ---- and what there is then
 
@@ -106,19 +106,19 @@ abbrev pub rule_error : Frame → Line → RuleFault → List ℕ
 rule_error frame line fault = error_line (file_at frame.files line.file) line.line (fault_text line fault)
 
 -- one warning more
-abbrev pub with_warning : Standing → List ℕ → Standing
-with_warning standing warning = record standing { warnings = standing.warnings ++ warning ∷ [] }
+abbrev pub with_warning : RulesState → List ℕ → RulesState
+with_warning state warning = record state { warnings = state.warnings ++ warning ∷ [] }
 
 -- what there is after a line that is none for this fault, or the error that ends the setup
-unfoldable pub behind_fault : Frame → Line → Standing → RuleFault → Result Standing (List ℕ)
-behind_fault frame line standing fault = if frame.skips && is_skippable fault.kind
-    then Ok (with_warning standing (rule_warning frame line fault)) else Err (rule_error frame line fault)
+unfoldable pub after_fault : Frame → Line → RulesState → RuleFault → Result RulesState (List ℕ)
+after_fault frame line state fault = if frame.skips && is_skippable fault.kind
+    then Ok (with_warning state (rule_warning frame line fault)) else Err (rule_error frame line fault)
 
 -- what there is after a line that gives this, or the error
-unfoldable pub behind_line : Frame → Line → Standing → Verdict → Result Standing (List ℕ)
-behind_line frame line standing verdict = elim verdict.rule [
-  | Ok rule ↦ Ok (record { names = verdict.names; rules = standing.rules ++ rule ∷ []; warnings = standing.warnings })
-  | Err fault ↦ behind_fault frame line (record standing { names = verdict.names }) fault
+unfoldable pub after_line : Frame → Line → RulesState → Verdict → Result RulesState (List ℕ)
+after_line frame line state verdict = elim verdict.rule [
+  | Ok rule ↦ Ok (record { names = verdict.names; rules = state.rules ++ rule ∷ []; warnings = state.warnings })
+  | Err fault ↦ after_fault frame line (record state { names = verdict.names }) fault
 ]
 
 -- ---- all lines
@@ -134,14 +134,14 @@ pub record RulesEnd : Type 0 where
   pub warnings : List (List ℕ)
   pub refusal : Option (List ℕ)
 
-abbrev pub end_at : Standing → Option (List ℕ) → RulesEnd
-end_at standing refusal = record { rules = standing.rules; warnings = standing.warnings; refusal = refusal }
+abbrev pub end_at : RulesState → Option (List ℕ) → RulesEnd
+end_at state refusal = record { rules = state.rules; warnings = state.warnings; refusal = refusal }
 
 -- How these rule lines end, of which the first has this place among all, after what there is; the patterns of the
 -- lines at the refused places are refused, and no others.
-unfoldable pub RulesGive : Frame → List ℕ → ℕ → Standing → List Line → RulesEnd → Type 0
-RulesGive frame refused place standing [] end = end ≡ end_at standing None
-RulesGive frame refused place standing (line ∷ rest) end =
-    (verdict : Verdict) × LineGives frame standing (is_among refused place) line.text verdict
-    × MatchResult (behind_line frame line standing verdict) (λ behind. RulesGive frame refused (place + 1) behind rest end)
-    (λ message. end ≡ end_at standing (Some message))
+unfoldable pub RulesGive : Frame → List ℕ → ℕ → RulesState → List Line → RulesEnd → Type 0
+RulesGive frame refused place state [] end = end ≡ end_at state None
+RulesGive frame refused place state (line ∷ rest) end =
+    (verdict : Verdict) × LineGives frame state (is_among refused place) line.text verdict
+    × MatchResult (after_line frame line state verdict) (λ after. RulesGive frame refused (place + 1) after rest end)
+    (λ message. end ≡ end_at state (Some message))

@@ -25,7 +25,7 @@ use Rattle.host_table.specs.declared.host_line.HostLine.{HostLine}
 use Rattle.host_table.specs.Hosts.{hosts_of}
 use Rattle.snort_setup.specs.Words.{Words, first_variables}
 use Rattle.snort_setup.specs.Texts.{conf_warning, conf_error, host_error, error_line}
-use Rattle.snort_setup.specs.Rules.{Frame, RulesEnd, RulesGive, nothing_stands}
+use Rattle.snort_setup.specs.Rules.{Frame, RulesEnd, RulesGive, nothing_read}
 
 -- why no detector is ready: a line is refused, or a file whose line it would be, with this error; or the
 -- contents lack this name
@@ -87,7 +87,7 @@ ruled_by loaded end = warned end.warnings (ruled loaded.config end)
 unfoldable pub IsRuledBy : Words → List ℕ → Ended → Warned Ruled → Type 0
 IsRuledBy words refused (Whole read) given =
     (end : RulesEnd) × RulesGive (frame_of words.skips read.settings.vars (loaded_of read)) refused 0
-    (nothing_stands (conf_warnings (loaded_of read).files (loaded_of read).warnings)) (loaded_of read).rules end
+    (nothing_read (conf_warnings (loaded_of read).files (loaded_of read).warnings)) (loaded_of read).rules end
     × (given ≡ ruled_by (loaded_of read) end)
 IsRuledBy words refused (RefusedAt fault output) given =
     given ≡ warned (conf_warnings output.files output.warnings) (Err (Refused (conf_error output.files fault)))

@@ -9,21 +9,21 @@ use Rattle.std.specs.Prelude.{◌≡◌, ◌<◌, ℕ, ◌+◌, Bool, false, tru
 use Rattle.conf_parser.specs.declared.line.Line.{Line}
 use Rattle.rule_parser.specs.declared.fault.RuleFault.{RuleFault}
 use Rattle.rule_types.specs.declared.rule.Rule.{Rule}
-use Rattle.snort_setup.specs.Rules.{Frame, IsRule, LineGives, RulesEnd, RulesGive, Standing, is_among, is_skippable, is_taken, most_rules, rule_warning}
+use Rattle.snort_setup.specs.Rules.{Frame, IsRule, LineGives, RulesEnd, RulesGive, RulesState, is_among, is_skippable, is_taken, most_rules, rule_warning}
 
 -- after what there is, a line gives a fault that is skipped, and no new name of a flowbit
-pub record IsSkipped (frame : Frame) (standing : Standing) (is_refused : Bool) (line : Line) (fault : RuleFault) : Type 0 where
+pub record IsSkipped (frame : Frame) (state : RulesState) (is_refused : Bool) (line : Line) (fault : RuleFault) : Type 0 where
   pub skips : frame.skips ≡ true
   pub skippable : is_skippable fault.kind ≡ true
-  pub gives : LineGives frame standing is_refused line.text (record { rule = Err fault; names = standing.names })
+  pub gives : LineGives frame state is_refused line.text (record { rule = Err fault; names = state.names })
 
 -- a rule whose pattern is refused: its names of flowbits were there before, its number is free, and there is room for it
-pub record IsRefusedRule (frame : Frame) (standing : Standing) (line : Line) : Type 0 where
+pub record IsRefusedRule (frame : Frame) (state : RulesState) (line : Line) : Type 0 where
   pub skips : frame.skips ≡ true
   pub rule : Rule
-  pub is : IsRule frame standing.names line.text rule standing.names
-  pub free : is_taken standing.rules rule ≡ false
-  pub room : length standing.rules < most_rules
+  pub is : IsRule frame state.names line.text rule state.names
+  pub free : is_taken state.rules rule ≡ false
+  pub room : length state.rules < most_rules
 
 -- the refused places from this one on, where the line at it is no longer counted
 abbrev pub AreMoved : ℕ → List ℕ → List ℕ → Type 0
@@ -39,10 +39,10 @@ pub record HasOneMore (before : List (List ℕ)) (warning : List ℕ) (all less 
 
 -- a line, where it is skipped for a fault, only warns: whatever lines follow, they end as they do without it, with the same
 -- rules and the same refusal, but for its warning
-abbrev pub OnlyWarns : Frame → Standing → Line → RuleFault → Type 0
-OnlyWarns frame standing line fault =
+abbrev pub OnlyWarns : Frame → RulesState → Line → RuleFault → Type 0
+OnlyWarns frame state line fault =
     (refused moved : List ℕ) (place : ℕ) (rest : List Line) (all : RulesEnd)
-    → IsSkipped frame standing (is_among refused place) line fault → AreMoved place refused moved
-    → RulesGive frame refused place standing (line ∷ rest) all
-    → (less : RulesEnd) × RulesGive frame moved place standing rest less
-    × HasOneMore standing.warnings (rule_warning frame line fault) all less
+    → IsSkipped frame state (is_among refused place) line fault → AreMoved place refused moved
+    → RulesGive frame refused place state (line ∷ rest) all
+    → (less : RulesEnd) × RulesGive frame moved place state rest less
+    × HasOneMore state.warnings (rule_warning frame line fault) all less

@@ -39,10 +39,10 @@ is_memory _ = false
 
 -- the rules and the fault after a rule that the set takes, unless its pattern is refused
 abbrev pub IsAdded : List Rule → Rule → Bool → List Rule → Option RuleFault → Type 0
-IsAdded rules rule false behind fault = (behind ≡ rules ++ rule ∷ []) × (fault ≡ None)
-IsAdded rules rule true behind fault = (behind ≡ rules) × (fault ≡ Some (plain kind.PatternRefused))
+IsAdded rules rule false after fault = (after ≡ rules ++ rule ∷ []) × (fault ≡ None)
+IsAdded rules rule true after fault = (after ≡ rules) × (fault ≡ Some (plain kind.PatternRefused))
 
 -- the rules and the fault after a rule that is judged so
 abbrev pub IsJudged : List Rule → Result Rule RuleFault → List Rule → Option RuleFault → Type 0
-IsJudged rules (Ok rule) behind fault = (behind ≡ rules ++ rule ∷ []) × (fault ≡ None)
-IsJudged rules (Err why) behind fault = (behind ≡ rules) × (fault ≡ Some why)
+IsJudged rules (Ok rule) after fault = (after ≡ rules ++ rule ∷ []) × (fault ≡ None)
+IsJudged rules (Err why) after fault = (after ≡ rules) × (fault ≡ Some why)

@@ -86,12 +86,12 @@ impl<P: Pattern> Accepted<P> {
         maker: &mut M,
     ) -> Result<(Accepted<P>, Option<RuleFault>), NoMemory>
         requires { IsTriable rule }
-        ensures added { IfOk result (λ behind. IsAdded self.rules rule
-            (refused_one (M.refusals maker.old) (M.refusals maker.new)) behind.0.rules behind.1) }
+        ensures added { IfOk result (λ after. IsAdded self.rules rule
+            (refused_one (M.refusals maker.old) (M.refusals maker.new)) after.0.rules after.1) }
         ensures refuses { IfOk result (λ _. Refuses rule.opts (M.refusals maker.old) (M.refusals maker.new)) }
         ensures grows { Grows (M.refusals maker.old) (M.refusals maker.new) }
         ensures meant { FindWhatIsMeant P.finds (M.means maker.old) self
-            → IfOk result (λ behind. FindWhatIsMeant P.finds (M.means maker.old) behind.0) }
+            → IfOk result (λ after. FindWhatIsMeant P.finds (M.means maker.old) after.0) }
         ensures same_meaning { SameMeaning (M.means maker.old) (M.means maker.new) }
     {
         let Accepted {
@@ -121,12 +121,12 @@ impl<P: Pattern> Accepted<P> {
         maker: &mut M,
     ) -> Result<(Accepted<P>, Option<RuleFault>), NoMemory>
         requires { IsTriable rule }
-        ensures judged { IfOk result (λ behind. IsJudged self.rules
-            (judged self.rules (refused_one (M.refusals maker.old) (M.refusals maker.new)) rule) behind.0.rules behind.1) }
+        ensures judged { IfOk result (λ after. IsJudged self.rules
+            (judged self.rules (refused_one (M.refusals maker.old) (M.refusals maker.new)) rule) after.0.rules after.1) }
         ensures refuses { IfOk result (λ _. Refuses rule.opts (M.refusals maker.old) (M.refusals maker.new)) }
         ensures grows { Grows (M.refusals maker.old) (M.refusals maker.new) }
         ensures meant { FindWhatIsMeant P.finds (M.means maker.old) self
-            → IfOk result (λ behind. FindWhatIsMeant P.finds (M.means maker.old) behind.0) }
+            → IfOk result (λ after. FindWhatIsMeant P.finds (M.means maker.old) after.0) }
         ensures same_meaning { SameMeaning (M.means maker.old) (M.means maker.new) }
     {
         if self.is_taken(&rule) {

@@ -6,7 +6,7 @@ ghost use Rattle.snort_setup.specs.Setup.{frame_of};
 ghost use Rattle.snort_setup.specs.Pieces.{reason_text};
 ghost use Rattle.snort_setup.specs.Texts.{shown_by};
 ghost use Rattle.snort_setup.specs.Rules.{fault_text, is_skippable};
-ghost use Rattle.snort_setup.specs.Lines.{standing_of, end_of, lines_frame, IsRead, AsksOf, Skips, StepGives, RulesAnswer, first_progress};
+ghost use Rattle.snort_setup.specs.Lines.{state_of, end_of, lines_frame, IsRead, AsksOf, Skips, StepGives, RulesAnswer, first_progress};
 ghost use Rattle.snort_setup.specs.Steps.{is_memory, refused_one, grown_by, Grows};
 
 use crate::accepted::Accepted;
@@ -45,14 +45,14 @@ pub(crate) struct LinesIn<'a> {
 fn shown_by(line: &[u8], fault: RuleFault) -> &[u8]
     ensures { result.now ≡ shown_by line.now fault }
 {
-    let behind = match line.get(fault.from..) {
-        Some(behind) => behind,
+    let after = match line.get(fault.from..) {
+        Some(after) => after,
         None => b"",
     };
     let len = fault.to.saturating_sub(fault.from);
-    match behind.get(..len) {
+    match after.get(..len) {
         Some(shown) => shown,
-        None => behind,
+        None => after,
     }
 }
 
@@ -90,15 +90,15 @@ fn read_line<M: PatternMaker>(
     maker: &mut M,
     text: &[u8],
 ) -> Result<(Progress<M::Made>, Option<RuleFault>), NoMemory>
-    ensures read { IfOk result (λ behind. IsRead (lines_frame lines.now) (standing_of progress) text.now
-        (refused_one (M.refusals maker.old) (M.refusals maker.new)) (standing_of behind.0) behind.1) }
+    ensures read { IfOk result (λ after. IsRead (lines_frame lines.now) (state_of progress) text.now
+        (refused_one (M.refusals maker.old) (M.refusals maker.new)) (state_of after.0) after.1) }
     ensures asks { IfOk result (λ _. AsksOf (lines_frame lines.now) progress.names text.now (M.refusals maker.old)
         (M.refusals maker.new)) }
     ensures grows { Grows (M.refusals maker.old) (M.refusals maker.new) }
     ensures sound { All (IsSound lines.now.classes.now) progress.accepted.rules
-        → IfOk result (λ behind. All (IsSound lines.now.classes.now) behind.0.accepted.rules) }
+        → IfOk result (λ after. All (IsSound lines.now.classes.now) after.0.accepted.rules) }
     ensures meant { FindWhatIsMeant M.Made.finds (M.means maker.old) progress.accepted
-        → IfOk result (λ behind. FindWhatIsMeant M.Made.finds (M.means maker.old) behind.0.accepted) }
+        → IfOk result (λ after. FindWhatIsMeant M.Made.finds (M.means maker.old) after.0.accepted) }
     ensures same_meaning { SameMeaning (M.means maker.old) (M.means maker.new) }
 {
     let Progress {
@@ -147,8 +147,8 @@ fn refused_line<P: Pattern>(
     line: &Line,
     fault: RuleFault,
 ) -> Result<RulesEnd<P>, NoMemory>
-    ensures gives { IfOk result (λ end. Skips (lines_frame lines.now) line.now (standing_of progress) fault
-        (standing_of end.progress) end.refusal) }
+    ensures gives { IfOk result (λ end. Skips (lines_frame lines.now) line.now (state_of progress) fault
+        (state_of end.progress) end.refusal) }
     ensures same_rules { IfOk result (λ end. end.progress.accepted ≡ progress.accepted) }
 {
     let file = file_at(lines.files, line.file);
@@ -177,7 +177,7 @@ fn refused_line<P: Pattern>(
 }
 
 /// What there is after one line, and the error, if it ends there.
-#[tactic(auto, unfolding(crate::specs::Rules::behind_line))]
+#[tactic(auto, unfolding(crate::specs::Rules::after_line))]
 fn line_end<M: PatternMaker>(
     alloc: Global,
     lines: &LinesIn<'_>,
@@ -185,8 +185,8 @@ fn line_end<M: PatternMaker>(
     maker: &mut M,
     line: &Line,
 ) -> Result<RulesEnd<M::Made>, NoMemory>
-    ensures gives { IfOk result (λ end. StepGives (lines_frame lines.now) line.now (standing_of progress)
-        (refused_one (M.refusals maker.old) (M.refusals maker.new)) (standing_of end.progress) end.refusal) }
+    ensures gives { IfOk result (λ end. StepGives (lines_frame lines.now) line.now (state_of progress)
+        (refused_one (M.refusals maker.old) (M.refusals maker.new)) (state_of end.progress) end.refusal) }
     ensures asks { IfOk result (λ _. AsksOf (lines_frame lines.now) progress.names line.now.text (M.refusals maker.old)
         (M.refusals maker.new)) }
     ensures grows { Grows (M.refusals maker.old) (M.refusals maker.new) }
@@ -234,13 +234,13 @@ fn read_lines<M: PatternMaker>(
 {
     let mut progress = first_progress(alloc, warnings);
     let mut rest = rules;
-    'lines: while let Some((line, behind)) = rest.split_first() {
+    'lines: while let Some((line, after)) = rest.split_first() {
         let end = line_end(alloc, lines, progress, maker, line)?;
         if end.refusal.is_some() {
             return Ok(end);
         }
         progress = end.progress;
-        rest = behind;
+        rest = after;
     }
     Ok(RulesEnd {
         progress,

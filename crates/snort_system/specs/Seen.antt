@@ -4,7 +4,7 @@
 -- the files, nothing is left of a capture, and the alerts are 3.
 use Rattle.std.specs.Prelude.{ℕ, List, Some}
 use Rattle.edge_io.specs.Files.{Files}
-use Rattle.edge_io.specs.Answers.{left_behind, taken_of}
+use Rattle.edge_io.specs.Answers.{left_after, taken_of}
 use Rattle.edge_io.specs.declared.heard_host.HeardHost.{HeardHost}
 use Rattle.edge_io.specs.declared.heard_sink.HeardSink.{HeardSink}
 use Rattle.edge_io.specs.declared.host.Host.{Ghosts as HostOf}
@@ -20,7 +20,7 @@ abbrev pub seen_by : {R File Folder Out Err : Type 0} → Files → HeardHost R 
     → List Refusal → Outside
 seen_by files host alerts errors refusals = record {
   files = Some files;
-  left = left_behind host.heard.answers files;
+  left = left_after host.heard.answers files;
   opens = host.host.opens;
   host_faults = host.host.faults;
   alerts = Some (taken_of alerts.heard.answers);

@@ -6,4 +6,4 @@ pub mod StayLaws
 pub mod EndOrder
 pub mod Liveness
 pub mod Bounds
-pub mod Standing
+pub mod KeptValues

@@ -161,13 +161,13 @@ pub record AreParts (width : ℕ) (body words tail : List ℕ) (first second : �
   pub bytes : AreBytes body
   pub size : length body ≡ 44 + (width + width)
   pub words_are : words ≡ take 36 body
-  pub behind : List ℕ
-  pub behind_is : behind ≡ drop 36 body
-  pub tail_is : tail ≡ drop (width + width) behind
+  pub after : List ℕ
+  pub after_is : after ≡ drop 36 body
+  pub tail_is : tail ≡ drop (width + width) after
   pub src : List ℕ
-  pub src_is : src ≡ take width (take (width + width) behind)
+  pub src_is : src ≡ take width (take (width + width) after)
   pub dst : List ℕ
-  pub dst_is : dst ≡ drop width (take (width + width) behind)
+  pub dst_is : dst ≡ drop width (take (width + width) after)
   pub first_is : first ≡ big_number width src
   pub second_is : second ≡ big_number width dst
 
@@ -175,22 +175,22 @@ pub record AreParts (width : ℕ) (body words tail : List ℕ) (first second : �
 pub parts-whole : (width : ℕ) (body words tail : List ℕ) (first second : ℕ) → AreParts width body words tail first second
     → (words ++ big_bytes width first ++ big_bytes width second ++ tail ≡ body) × (first < 256 ^ width) × (second < 256 ^ width)
 parts-whole width body words tail first second are =
-    let behind = drop 36 body in
-    let both = take (width + width) behind in
-    let behind_bytes = bytes-drop 36 body are.bytes in
-    let both_bytes = bytes-take (width + width) behind behind_bytes in
-    let both_size : length both ≡ width + width = omega (arith, are.size, length-take (width + width) behind, length-drop 36 body) in
+    let after = drop 36 body in
+    let both = take (width + width) after in
+    let after_bytes = bytes-drop 36 body are.bytes in
+    let both_bytes = bytes-take (width + width) after after_bytes in
+    let both_size : length both ≡ width + width = omega (arith, are.size, length-take (width + width) after, length-drop 36 body) in
     let src_bytes = bytes-take width both both_bytes in
     let dst_bytes = bytes-drop width both both_bytes in
-    let src_is : are.src ≡ take width both = are.src_is ∙ ap (λ (b : List ℕ). take width (take (width + width) b)) are.behind_is in
-    let dst_is : are.dst ≡ drop width both = are.dst_is ∙ ap (λ (b : List ℕ). drop width (take (width + width) b)) are.behind_is in
-    let tail_is : tail ≡ drop (width + width) behind = are.tail_is ∙ ap (λ (b : List ℕ). drop (width + width) b) are.behind_is in
+    let src_is : are.src ≡ take width both = are.src_is ∙ ap (λ (b : List ℕ). take width (take (width + width) b)) are.after_is in
+    let dst_is : are.dst ≡ drop width both = are.dst_is ∙ ap (λ (b : List ℕ). drop width (take (width + width) b)) are.after_is in
+    let tail_is : tail ≡ drop (width + width) after = are.tail_is ∙ ap (λ (b : List ℕ). drop (width + width) b) are.after_is in
     let first_is : first ≡ big_number width (take width both) = are.first_is ∙ ap (big_number width) src_is in
     let second_is : second ≡ big_number width (drop width both) = are.second_is ∙ ap (big_number width) dst_is in
     let src = ap (big_bytes width) first_is ∙ bytes-number width (take width both) src_bytes (omega (arith, length-take width both)) in
     let dst = ap (big_bytes width) second_is ∙ bytes-number width (drop width both) dst_bytes (omega (arith, length-drop width both)) in
     let whole : words ++ big_bytes width first ++ big_bytes width second ++ tail ≡ body =
-    rw (are.words_are, src, dst, tail_is, append_assoc (take 36 body) (take width both) (drop width both), take-append-drop width both, append_assoc (take 36 body) both (drop (width + width) behind), take-append-drop (width + width) behind, take-append-drop 36 body) refl in
+    rw (are.words_are, src, dst, tail_is, append_assoc (take 36 body) (take width both) (drop width both), take-append-drop width both, append_assoc (take 36 body) both (drop (width + width) after), take-append-drop (width + width) after, take-append-drop 36 body) refl in
     (whole, subst (λ (n : ℕ). n < 256 ^ width) (sym first_is) (big_from-lt 0 width (take width both) src_bytes), subst (λ (n : ℕ). n < 256 ^ width) (sym second_is) (big_from-lt 0 width (drop width both) dst_bytes))
 
 -- an event between addresses of version 4 whose body is that

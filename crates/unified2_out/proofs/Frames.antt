@@ -47,14 +47,14 @@ pub frame-read : (bytes : List ℕ) (kind size : ℕ) (body : List ℕ) → AreB
     → IsFrontFrame bytes kind body
 unfolding frame_text
 frame-read bytes kind size body small long short kind_is size_is body_is =
-    let behind = drop 8 bytes in
-    let rest = drop size behind in
-    let body_size : length body ≡ size = ap length body_is ∙ omega (arith, length-take size behind, length-drop 8 bytes) in
+    let after = drop 8 bytes in
+    let rest = drop size after in
+    let body_size : length body ≡ size = ap length body_is ∙ omega (arith, length-take size after, length-drop 8 bytes) in
     let front : big_bytes 4 kind ≡ take 4 bytes = ap (big_bytes 4) kind_is ∙ bytes-first 4 bytes small (omega arith) in
     let next : big_bytes 4 (length body) ≡ take 4 (drop 4 bytes) =
     ap (big_bytes 4) (body_size ∙ size_is) ∙ bytes-first 4 (drop 4 bytes) (bytes-drop 4 bytes small) (omega (arith, length-drop 4 bytes)) in
     let last : body ++ rest ≡ drop 4 (drop 4 bytes) =
-    ap (λ (b : List ℕ). b ++ rest) body_is ∙ take-append-drop size behind ∙ sym (drop-drop 4 4 bytes) in
+    ap (λ (b : List ℕ). b ++ rest) body_is ∙ take-append-drop size after ∙ sym (drop-drop 4 4 bytes) in
     let whole =
     ap (λ (b : List ℕ). b ++ (big_bytes 4 (length body) ++ (body ++ rest))) front
     ∙ ap (λ (b : List ℕ). take 4 bytes ++ (b ++ (body ++ rest))) next

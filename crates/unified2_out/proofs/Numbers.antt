@@ -87,13 +87,13 @@ numbers-read width bytes (value ∷ values) small size read =
     let first : value ≡ big_number width bytes = read 0 (omega arith) ∙ ap (λ (n : ℕ). big_number width (drop n bytes)) start in
     let front : bytes_high_first width value ≡ take width bytes =
     ap (bytes_high_first width) first ∙ bytes-first width bytes small (omega arith) in
-    let read_behind : IsRead big_number width (drop width bytes) values =
+    let read_after : IsRead big_number width (drop width bytes) values =
     λ (k : ℕ) (h : k < length values).
     read (suc k) (omega arith)
     ∙ ap (λ (n : ℕ). big_number width (drop n bytes)) (let e = mul-suc width k in omega arith)
     ∙ ap (big_number width) (sym (drop-drop (width * k) width bytes)) in
-    let behind = numbers-read width (drop width bytes) values (bytes-drop width bytes small) (omega (arith, length-drop width bytes)) read_behind in
-    rw (front, behind) (take-append-drop width bytes)
+    let after = numbers-read width (drop width bytes) values (bytes-drop width bytes small) (omega (arith, length-drop width bytes)) read_after in
+    rw (front, after) (take-append-drop width bytes)
 
 -- numbers that are read of bytes fit
 pub numbers-fit : (width : ℕ) (bytes values : List ℕ) → AreBytes bytes → IsRead big_number width bytes values → AllFit width values

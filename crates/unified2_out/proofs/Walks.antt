@@ -89,9 +89,9 @@ walk-step bytes old mid new place size walk adds =
     let entries = walk.reached.entries in
     let text = unified2_text adds.entry in
     let rest = adds.front.rest in
-    let behind : drop place bytes ≡ text ++ rest = sym (take_rest bytes place) ∙ adds.front.begins in
+    let after : drop place bytes ≡ text ++ rest = sym (take_rest bytes place) ∙ adds.front.begins in
     let whole : take place bytes ++ text ++ rest ≡ bytes =
-    append_assoc (take place bytes) text rest ∙ ap (λ (b : List ℕ). take place bytes ++ b) (sym behind) ∙ take-append-drop place bytes in
+    append_assoc (take place bytes) text rest ∙ ap (λ (b : List ℕ). take place bytes ++ b) (sym after) ∙ take-append-drop place bytes in
     let size_here : length (take place bytes) ≡ place = omega (arith, walk.reached.within, length-take place bytes) in
     let size_next : length (take place bytes ++ text) ≡ place + size = omega (arith, size_here, adds.front.size_is, length-append (take place bytes) text) in
     let inside : place + size ≤ length bytes = omega (arith, size_next, ap length whole, length-append (take place bytes ++ text) rest) in
@@ -123,15 +123,15 @@ walk-end bytes old new place walk all =
 pub walk-bad : (bytes : List ℕ) (old new : List U2) (place : ℕ) → IsWalk bytes old new place → place < length bytes
     → HasNoRecord (take (length bytes - place) (drop place bytes)) → IsBadAt bytes place
 walk-bad bytes old new place walk inside none =
-    let behind = take (length bytes - place) (drop place bytes) in
+    let after = take (length bytes - place) (drop place bytes) in
     let here = walk.reached in
     let furthest : (other : ℕ) → RecordsEndAt bytes other → other ≤ place =
     λ (other : ℕ) (there : RecordsEndAt bytes other).
-    let first : joined_text here.entries ++ behind ≡ bytes =
-    ap (λ (b : List ℕ). b ++ behind) here.are.joined ∙ ap (λ (b : List ℕ). take place bytes ++ b) (take_rest bytes place) ∙ take-append-drop place bytes in
+    let first : joined_text here.entries ++ after ≡ bytes =
+    ap (λ (b : List ℕ). b ++ after) here.are.joined ∙ ap (λ (b : List ℕ). take place bytes ++ b) (take_rest bytes place) ∙ take-append-drop place bytes in
     let second : joined_text there.entries ++ drop other bytes ≡ bytes =
     ap (λ (b : List ℕ). b ++ drop other bytes) there.are.joined ∙ take-append-drop other bytes in
-    let least = no_further here.entries there.entries behind (drop other bytes) here.are.each there.are.each none (first ∙ sym second) in
+    let least = no_further here.entries there.entries after (drop other bytes) here.are.each there.are.each none (first ∙ sym second) in
     omega (arith, least, here.within, there.within, ap length here.are.joined, ap length there.are.joined, length-take place bytes, length-take other bytes) in
     record { reached = here; furthest = furthest; left = inside }
 

@@ -83,13 +83,13 @@ fn front_frame(bytes: &[u8]) -> Option<Frame<'_>>
     }
     let kind = BigEndian::read_u32(bytes);
     let len = BigEndian::read_u32(&bytes[4..]) as usize;
-    let behind = &bytes[HEADER..];
-    if len > MAX_BODY || behind.len() < len {
+    let after = &bytes[HEADER..];
+    if len > MAX_BODY || after.len() < len {
         return None;
     }
     Some(Frame {
         kind,
-        body: &behind[..len],
+        body: &after[..len],
     })
 }
 
@@ -116,8 +116,8 @@ fn event(body: &[u8]) -> Option<U2>
     if body.len() != EVENT_LEN {
         return None;
     }
-    let (words, behind) = body.split_at(EVENT_NUMBERS);
-    let (addresses, tail) = behind.split_at(8);
+    let (words, after) = body.split_at(EVENT_NUMBERS);
+    let (addresses, tail) = after.split_at(8);
     let (src, dst) = addresses.split_at(4);
     Some(U2::Event(event_between(
         words,
@@ -133,8 +133,8 @@ fn event_ip6(body: &[u8]) -> Option<U2>
     if body.len() != EVENT_IP6_LEN {
         return None;
     }
-    let (words, behind) = body.split_at(EVENT_NUMBERS);
-    let (addresses, tail) = behind.split_at(32);
+    let (words, after) = body.split_at(EVENT_NUMBERS);
+    let (addresses, tail) = after.split_at(32);
     let (src, dst) = addresses.split_at(16);
     Some(U2::Event(event_between(
         words,

@@ -15,10 +15,10 @@ use Rattle.alert_fast.proofs.ReadBack.WholeWords.{free_number}
 use Rattle.alert_fast.proofs.ReadBack.Protocols.{Free, join, literal, free_protocol, bracket_is_foreign}
 
 -- what follows the bracket of a priority
-abbrev behind_bracket : PartFacts → List ℕ
-behind_bracket q = codes "Priority: " ++ (ranked_text q.ranked ++ arrow_text q.from q.to)
+abbrev after_bracket : PartFacts → List ℕ
+after_bracket q = codes "Priority: " ++ (ranked_text q.ranked ++ arrow_text q.from q.to)
 
-bracket_free : (q : PartFacts) → FitParts q → Lacks 91 (behind_bracket q)
+bracket_free : (q : PartFacts) → FitParts q → Lacks 91 (after_bracket q)
 bracket_free q fit =
     let priority : Free 91 (decimal q.ranked.0) = record { lacks = free_number 91 refl q.ranked.0 fit.ranked.0 } in
     let protocol : Free 91 (protocol_text q.ranked.1) = record { lacks = free_protocol 91 bracket_is_foreign q.ranked.1 fit.ranked.1 } in
@@ -32,15 +32,15 @@ pub parts_no_head : (line : List ℕ) → NoFront IsHead head_text line → NoPa
 parts_no_head line none q fit e = none (q.time, q.numbers) _ fit.head e
 
 module _ (line : List ℕ) (time : LineTime) (numbers : Numbers) (rest : List ℕ) (h : IsFront IsHead head_text line (time, numbers) rest) where
-  same_head : (q : PartFacts) → FitParts q → line ≡ parts_text q → (◌≡◌ {A = LineTime × Numbers} (q.time, q.numbers) (time, numbers)) × (msg_text q.msg q.class ++ (91 ∷ behind_bracket q) ≡ rest)
-  same_head q fit e = h.only (q.time, q.numbers) (msg_text q.msg q.class ++ (91 ∷ behind_bracket q)) fit.head e
+  same_head : (q : PartFacts) → FitParts q → line ≡ parts_text q → (◌≡◌ {A = LineTime × Numbers} (q.time, q.numbers) (time, numbers)) × (msg_text q.msg q.class ++ (91 ∷ after_bracket q) ≡ rest)
+  same_head q fit e = h.only (q.time, q.numbers) (msg_text q.msg q.class ++ (91 ∷ after_bracket q)) fit.head e
 
   pub parts_no_bracket : Lacks 91 rest → NoParts line
-  parts_no_bracket lacks q fit e = lacks-none 91 (msg_text q.msg q.class) (behind_bracket q) (rw (same_head q fit e).1 lacks)
+  parts_no_bracket lacks q fit e = lacks-none 91 (msg_text q.msg q.class) (after_bracket q) (rw (same_head q fit e).1 lacks)
 
   module _ (middle word : List ℕ) (w : IsBackWord 91 rest middle word) where
-    same_middle : (q : PartFacts) → FitParts q → line ≡ parts_text q → (msg_text q.msg q.class ≡ middle) × (behind_bracket q ≡ word)
-    same_middle q fit e = back_word_only 91 (msg_text q.msg q.class) middle (behind_bracket q) word (bracket_free q fit) w.lacks ((same_head q fit e).1 ∙ w.spelled)
+    same_middle : (q : PartFacts) → FitParts q → line ≡ parts_text q → (msg_text q.msg q.class ≡ middle) × (after_bracket q ≡ word)
+    same_middle q fit e = back_word_only 91 (msg_text q.msg q.class) middle (after_bracket q) word (bracket_free q fit) w.lacks ((same_head q fit e).1 ∙ w.spelled)
 
     pub parts_no_priority : ((more : List ℕ) → word ≢ codes "Priority: " ++ more) → NoParts line
     parts_no_priority none q fit e = none _ (sym (same_middle q fit e).1)

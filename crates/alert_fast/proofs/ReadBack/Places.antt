@@ -50,8 +50,8 @@ back_word_only start (a ∷ x) (b ∷ y) w v hw hv e =
     (ap (λ (h : ℕ). h ∷ x) (first_same a b _ _ e) ∙ ap (λ (t : List ℕ). b ∷ t) later.0, later.1)
 
 -- a text that a needle begins, after another one
-pub occurs_behind : (needle x y : List ℕ) → OccursAt (x ++ (needle ++ y)) needle (length x)
-occurs_behind needle x y = record {
+pub occurs_after : (needle x y : List ℕ) → OccursAt (x ++ (needle ++ y)) needle (length x)
+occurs_after needle x y = record {
   fits = omega (arith, length-append x (needle ++ y), length-append needle y);
   reads = λ j lt. get_or-append-add x (needle ++ y) j 0 ∙ get_or_append_left needle y 0 j lt;
 }
@@ -69,7 +69,7 @@ cut_there needle text k h =
 pub cut_nowhere : (needle text : List ℕ) → Nowhere (OccursAt text needle) 0 (length text + 1) → (x y : List ℕ) → text ≢ x ++ (needle ++ y)
 cut_nowhere needle text h x y e =
     let long = length-append x (needle ++ y) in
-    h (length x) (omega arith) (omega (arith, ap length e, long)) (rw e (occurs_behind needle x y))
+    h (length x) (omega arith) (omega (arith, ap length e, long)) (rw e (occurs_after needle x y))
 
 pub cut_last : (needle text : List ℕ) (k : ℕ) → NoneAfter (OccursAt text needle) 0 (length text + 1) k → OccursAt text needle k → IsLastCut needle text (take k text) (drop (k + length needle) text)
 cut_last needle text k h occurs = record {
@@ -78,7 +78,7 @@ cut_last needle text k h occurs = record {
       let long = length-append x (needle ++ y) in
       let short = length-take-le k text (omega (arith, occurs.fits)) in
       elim (cases_lt k (length x)) [
-        | inl after ↦ absurd (h.after (length x) (omega (arith, after)) (omega (arith, ap length e, long)) (rw e (occurs_behind needle x y)))
+        | inl after ↦ absurd (h.after (length x) (omega (arith, after)) (omega (arith, ap length e, long)) (rw e (occurs_after needle x y)))
         | inr within ↦ omega (arith, short, within)
       ];
 }

@@ -42,8 +42,8 @@ same-told low high host files seen is tells =
 same-first : (count high : ℕ) (seen : Contents) → count ≡ high → AreSame 0 high seen (first_files count seen)
 same-first count high seen e = record { at = λ number name l h. ap (λ b. cond b (seen number name) None) (lt-ltb number count (omega (arith, e, h))) }
 
-none-behind : (count high : ℕ) (seen : Contents) (name : List ℕ) → count ≡ high → first_files count seen high name ≡ None
-none-behind count high seen name e = ap (λ b. cond b (seen high name) None) (le-ltb high count (omega (arith, e)))
+none-after : (count high : ℕ) (seen : Contents) (name : List ℕ) → count ≡ high → first_files count seen high name ≡ None
+none-after count high seen name e = ap (λ b. cond b (seen high name) None) (le-ltb high count (omega (arith, e)))
 
 -- ---- whole
 
@@ -83,7 +83,7 @@ loading-stopped A host name before (stopped.Asks file output) answer vars out st
       ends = (
         output,
         read_files-is (first_files (length out.files) stops.seen) name before
-            ∙ stops.asks (first_files (length out.files) stops.seen) (same-first (length out.files) (length output.files) stops.seen count) (none-behind (length out.files) (length output.files) stops.seen file count),
+            ∙ stops.asks (first_files (length out.files) stops.seen) (same-first (length out.files) (length output.files) stops.seen count) (none-after (length out.files) (length output.files) stops.seen file count),
         hands.1,
       );
     })

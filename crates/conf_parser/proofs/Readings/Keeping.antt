@@ -6,7 +6,7 @@ use Rattle.net_lists.specs.Variables.{Variables}
 use Rattle.conf_parser.specs.declared.draft.Settings.{Settings}
 use Rattle.conf_parser.specs.declared.given.Given.{Given}
 use Rattle.conf_parser.specs.declared.given.Given.TheVariants.{Nothing, Rule, Skipped, Include}
-use Rattle.conf_parser.specs.declared.given.Behind.{Behind}
+use Rattle.conf_parser.specs.declared.given.Onward.{Onward}
 use Rattle.conf_parser.specs.declared.line.ConfKind.{ConfKind}
 use Rattle.net_lists.specs.declared.lines.Numbered.{Numbered}
 use Rattle.conf_parser.specs.declared.reading.At.{At}
@@ -19,42 +19,42 @@ use Rattle.conf_parser.specs.Reading.{Contents, Ended, Whole, Refused, Asks, Inc
 
 module _ (P : Settings → Type 0) where
   -- the property of what was read, where all of it was
-  abbrev pub Behind-all : Ended → Type 0
-  Behind-all (Whole read) = P read.settings
-  Behind-all (Refused fault output) = ⊤
-  Behind-all (Asks name output) = ⊤
+  abbrev pub Onward-all : Ended → Type 0
+  Onward-all (Whole read) = P read.settings
+  Onward-all (Refused fault output) = ⊤
+  Onward-all (Asks name output) = ⊤
 
   -- a line that is accepted keeps it
   abbrev pub LinesKeep : Type 0
-  LinesKeep = (spot : Spot) (settings : Settings) (line : List ℕ) (behind : Behind) → conf_line spot settings line ≡ Ok behind → P settings → P behind.settings
+  LinesKeep = (spot : Spot) (settings : Settings) (line : List ℕ) (after : Onward) → conf_line spot settings line ≡ Ok after → P settings → P after.settings
 
   -- an included file keeps it
   abbrev IncludesKeep : Including → Type 0
-  IncludesKeep including = (name : List ℕ) (at : At) (read : Read) → P read.settings → Behind-all (including name at read)
+  IncludesKeep including = (name : List ℕ) (at : At) (read : Read) → P read.settings → Onward-all (including name at read)
 
-  onward-keeps : (ended : Ended) (next : Read → Ended) → Behind-all ended → ((read : Read) → P read.settings → Behind-all (next read)) → Behind-all (onward ended next)
+  onward-keeps : (ended : Ended) (next : Read → Ended) → Onward-all ended → ((read : Read) → P read.settings → Onward-all (next read)) → Onward-all (onward ended next)
   onward-keeps (Whole read) next p all = all read p
   onward-keeps (Refused fault output) next p all = tt
   onward-keeps (Asks name output) next p all = tt
 
-  given-keeps : (including : Including) (source : Source) (line : Numbered) (settings : Settings) (output : Output) (given : Given) → IncludesKeep including → P settings → Behind-all (given_read including source line settings output given)
+  given-keeps : (including : Including) (source : Source) (line : Numbered) (settings : Settings) (output : Output) (given : Given) → IncludesKeep including → P settings → Onward-all (given_read including source line settings output given)
   given-keeps including source line settings output Nothing inner p = p
   given-keeps including source line settings output Rule inner p = p
   given-keeps including source line settings output (Skipped directive name) inner p = p
   given-keeps including source line settings output (Include name) inner p = inner name (line_at source line) (read_with settings output) p
 
-  meaning-keeps : (including : Including) (source : Source) (line : Numbered) (output : Output) (meant : Result Behind ConfKind) → IncludesKeep including → ((behind : Behind) → meant ≡ Ok behind → P behind.settings)
-      → Behind-all (meaning_read including source line output meant)
-  meaning-keeps including source line output (Ok behind) inner all = given-keeps including source line behind.settings output behind.given inner (all behind refl)
+  meaning-keeps : (including : Including) (source : Source) (line : Numbered) (output : Output) (meant : Result Onward ConfKind) → IncludesKeep including → ((after : Onward) → meant ≡ Ok after → P after.settings)
+      → Onward-all (meaning_read including source line output meant)
+  meaning-keeps including source line output (Ok after) inner all = given-keeps including source line after.settings output after.given inner (all after refl)
   meaning-keeps including source line output (Err kind) inner all = tt
 
-  line-keeps : LinesKeep → (including : Including) (source : Source) (line : Numbered) (read : Read) → IncludesKeep including → P read.settings → Behind-all (line_read including source line read)
+  line-keeps : LinesKeep → (including : Including) (source : Source) (line : Numbered) (read : Read) → IncludesKeep including → P read.settings → Onward-all (line_read including source line read)
   unfolding line_read
   line-keeps keeps including source line read inner p =
       meaning-keeps including source line read.output _ inner
-      (λ behind meant. keeps (record { file = source.name; depth = source.depth; files = file_count read }) read.settings line.text behind meant p)
+      (λ after meant. keeps (record { file = source.name; depth = source.depth; files = file_count read }) read.settings line.text after meant p)
 
-  lines-keep : LinesKeep → (including : Including) (source : Source) (lines : List Numbered) (read : Read) → IncludesKeep including → P read.settings → Behind-all (lines_read including source lines read)
+  lines-keep : LinesKeep → (including : Including) (source : Source) (lines : List Numbered) (read : Read) → IncludesKeep including → P read.settings → Onward-all (lines_read including source lines read)
   unfolding lines_read
   lines-keep keeps including source [] read inner p = p
   lines-keep keeps including source (line ∷ rest) read inner p =
@@ -62,12 +62,12 @@ module _ (P : Settings → Type 0) where
       (λ next q. lines-keep keeps including source rest next inner q)
 
   contents-keep : LinesKeep → (including : Including) (depth : ℕ) (name : List ℕ) (at : At) (read : Read) (contents : Option (List ℕ)) → IncludesKeep including → P read.settings
-      → Behind-all (contents_read including depth name at read contents)
+      → Onward-all (contents_read including depth name at read contents)
   unfolding contents_read
   contents-keep keeps including depth name at read None inner p = tt
   contents-keep keeps including depth name at read (Some bytes) inner p = go (nat_le (length bytes) most_bytes) _ (lines-keep keeps including _ _ _ inner p)
     where
-      go : (b : Bool) (ended : Ended) → Behind-all ended → Behind-all (cond b ended (too_large at name read.output))
+      go : (b : Bool) (ended : Ended) → Onward-all ended → Onward-all (cond b ended (too_large at name read.output))
       go true ended h = h
       go false ended h = tt
 
@@ -77,10 +77,10 @@ module _ (P : Settings → Type 0) where
   file-keeps keeps contents (suc left) = λ name at read p. contents-keep keeps (file_read contents left) (15 - left) name at read (contents (file_count read) name) (file-keeps keeps contents left) p
 
   -- the whole reading keeps it
-  pub reading-keeps : LinesKeep → (contents : Contents) (name : List ℕ) (variables : Variables) → P (nothing_read variables).settings → Behind-all (read_files contents name variables)
+  pub reading-keeps : LinesKeep → (contents : Contents) (name : List ℕ) (variables : Variables) → P (nothing_read variables).settings → Onward-all (read_files contents name variables)
   unfolding read_files
   reading-keeps keeps contents name variables p = file-keeps keeps contents 16 name (record { file = 0; line = 0 }) (nothing_read variables) p
 
   -- what each line keeps holds after a reading that was whole
   pub whole-keeps : LinesKeep → (contents : Contents) (name : List ℕ) (variables : Variables) (read : Read) → P (nothing_read variables).settings → read_files contents name variables ≡ Whole read → P read.settings
-  whole-keeps keeps contents name variables read p whole = subst Behind-all whole (reading-keeps keeps contents name variables p)
+  whole-keeps keeps contents name variables read p whole = subst Onward-all whole (reading-keeps keeps contents name variables p)

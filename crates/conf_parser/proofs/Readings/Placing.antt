@@ -8,7 +8,7 @@ use Rattle.net_lists.specs.Variables.{Variables}
 use Rattle.conf_parser.specs.declared.draft.Settings.{Settings}
 use Rattle.conf_parser.specs.declared.given.Given.{Given}
 use Rattle.conf_parser.specs.declared.given.Given.TheVariants.{Nothing, Rule, Skipped, Include}
-use Rattle.conf_parser.specs.declared.given.Behind.{Behind}
+use Rattle.conf_parser.specs.declared.given.Onward.{Onward}
 use Rattle.conf_parser.specs.declared.line.ConfFault.{ConfFault}
 use Rattle.conf_parser.specs.declared.line.ConfKind.{ConfKind}
 use Rattle.conf_parser.specs.declared.line.Line.{Line}
@@ -26,7 +26,7 @@ use Rattle.conf_parser.specs.Lines.{content_lines}
 use Rattle.conf_parser.specs.Reading.{Contents, Ended, Whole, Refused, Asks, Including, onward, file_count, with_file, with_rule, with_warning, read_with, line_at, given_read, meaning_read, line_read, lines_read, too_large, most_bytes, contents_read, file_read, nothing_read, read_files}
 use Rattle.conf_parser.specs.Loaded.{loaded_of}
 use Rattle.conf_parser.specs.Loading.{AreHandedOut, IsLoading, first_files}
-use Rattle.conf_parser.specs.Places.{WarningsAreIn, RulesAreIn, StandInFiles}
+use Rattle.conf_parser.specs.Places.{WarningsAreIn, RulesAreIn, LieInFiles}
 
 -- what is handed on is in its files
 record AreIn (output : Output) : Type 0 where
@@ -100,10 +100,10 @@ given-in including source line settings output Rule inner place h = (omega arith
 given-in including source line settings output (Skipped directive name) inner place h = (omega arith, with_warning-in output source line directive name place h)
 given-in including source line settings output (Include name) inner place h = inner name (line_at source line) (read_with settings output) (inl place) h
 
-meaning-in : (including : Including) (source : Source) (line : Numbered) (output : Output) (meant : Result Behind ConfKind) → IncludesIn including → source.place < length output.files → AreIn output
+meaning-in : (including : Including) (source : Source) (line : Numbered) (output : Output) (meant : Result Onward ConfKind) → IncludesIn including → source.place < length output.files → AreIn output
     → EndsIn (length output.files) (meaning_read including source line output meant)
 unfolding EndsIn
-meaning-in including source line output (Ok behind) inner place h = given-in including source line behind.settings output behind.given inner place h
+meaning-in including source line output (Ok after) inner place h = given-in including source line after.settings output after.given inner place h
 meaning-in including source line output (Err kind) inner place h = (place, h)
 
 line-in : (including : Including) (source : Source) (line : Numbered) (read : Read) → IncludesIn including → source.place < file_count read → AreIn read.output → EndsIn (file_count read) (line_read including source line read)
@@ -167,15 +167,15 @@ warnings-out output out h hands =
     subst (λ (files : List (List ℕ)). WarningsAreIn (length files) out.warnings) (sym hands.files)
     (subst (λ (warnings : List Warning). WarningsAreIn (length output.files) warnings) (sym hands.warnings) h.warnings)
 
-pub stand-in : {A : Type 0} (host : Option Files) (name : List ℕ) (before : Variables) (result : Result A LoadStop) (vars : Variables) (out : Loaded) → IsLoading host name before result vars out → StandInFiles result out
+pub hold-in : {A : Type 0} (host : Option Files) (name : List ℕ) (before : Variables) (result : Result A LoadStop) (vars : Variables) (out : Loaded) → IsLoading host name before result vars out → LieInFiles result out
 unfolding EndsIn
-stand-in host name before (Ok x) vars out loading =
+hold-in host name before (Ok x) vars out loading =
     let h = subst (EndsIn 0) loading.ends.whole (reading-in loading.seen name before) in
     subst (λ (o : Loaded). RulesAreIn (length o.files) o.rules × WarningsAreIn (length o.files) o.warnings) (sym loading.ends.out_is) (h.1.rules, h.1.warnings)
-stand-in host name before (Err (stop.Conf fault)) vars out loading =
+hold-in host name before (Err (stop.Conf fault)) vars out loading =
     let h = subst (EndsIn 0) loading.ends.1 (reading-in loading.seen name before) in
     (subst (λ (files : List (List ℕ)). fault.file < length files) (sym loading.ends.2.files) h.0, warnings-out loading.ends.0 out h.1 loading.ends.2)
-stand-in host name before (Err (stop.HostFailed file)) vars out loading =
+hold-in host name before (Err (stop.HostFailed file)) vars out loading =
     let h = subst (EndsIn 0) loading.ends.1 (reading-in (first_files (length out.files) loading.seen) name before) in
     warnings-out loading.ends.0 out h loading.ends.2
-stand-in host name before (Err stop.NoMemory) vars out loading = tt
+hold-in host name before (Err stop.NoMemory) vars out loading = tt

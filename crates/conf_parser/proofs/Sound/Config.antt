@@ -4,8 +4,8 @@ use Rattle.std.specs.Prelude.{IfSome, All, nat_le, is_some, not, ◌||◌}
 use Rattle.std.proofs.lemmas.List.Elements.{All-push}
 use Rattle.edge_io.specs.Bytes.{trimmed}
 use Rattle.net_lists.specs.Addresses.{cut}
-use Rattle.net_lists.specs.Cutting.{first_word, behind_word, comma_parts}
-use Rattle.net_lists.specs.Folds.{draft_behind}
+use Rattle.net_lists.specs.Cutting.{first_word, after_word, comma_parts}
+use Rattle.net_lists.specs.Folds.{draft_after}
 use Rattle.net_lists.specs.Numbers.{number_in}
 use Rattle.net_lists.specs.Variables.{Variables}
 use Rattle.conf_types.specs.declared.classes.Class.{Class}
@@ -94,7 +94,7 @@ filter_value-sound draft name.Seconds value sound = changed (IsWithin 1 42949672
 
 filter_part-sound : (draft : FilterDraft) (part : List ℕ) → IsFilterDraft draft → Holds IsFilterDraft (filter_part draft part)
 unfolding filter_part
-filter_part-sound draft part sound = chained Any IsFilterDraft (or_kind BadValue (filter_name (first_word part))) _ (anything _) (λ name any. filter_value-sound draft name (behind_word part) sound)
+filter_part-sound draft part sound = chained Any IsFilterDraft (or_kind BadValue (filter_name (first_word part))) _ (anything _) (λ name any. filter_value-sound draft name (after_word part) sound)
 
 filter_of-sound : (draft : FilterDraft) → IsFilterDraft draft → Holds IsFilter (filter_of draft)
 unfolding filter_of
@@ -110,7 +110,7 @@ filter_of-sound draft sound =
 
 read_filter-sound : (rest : List ℕ) → Holds IsFilter (read_filter rest)
 unfolding read_filter
-read_filter-sound rest = chained IsFilterDraft IsFilter (draft_behind filter_part no_parts (comma_parts rest)) filter_of (folded IsFilterDraft filter_part filter_part-sound no_parts (comma_parts rest) (record { count = tt; seconds = tt })) filter_of-sound
+read_filter-sound rest = chained IsFilterDraft IsFilter (draft_after filter_part no_parts (comma_parts rest)) filter_of (folded IsFilterDraft filter_part filter_part-sound no_parts (comma_parts rest) (record { count = tt; seconds = tt })) filter_of-sound
 
 -- the event filters read so far
 pub record AreFilters (list : List EventFilter) : Type 0 where

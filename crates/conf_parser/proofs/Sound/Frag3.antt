@@ -5,10 +5,10 @@ use Rattle.std.proofs.lemmas.List.Elements.{All-push, All-nil}
 use Rattle.net_lists.specs.Variables.{Variables}
 use Rattle.conf_types.specs.declared.config.FragEngine.{FragEngine}
 use Rattle.conf_parser.specs.declared.draft.FragDraft.{FragDraft}
-use Rattle.conf_parser.specs.Options.{settings_behind}
+use Rattle.conf_parser.specs.Options.{settings_after}
 use Rattle.conf_parser.specs.Values.{setting_text}
 use Rattle.conf_types.specs.Defaults.{default_frag_engine}
-use Rattle.conf_parser.specs.Frag3.{global_setting, with_max_frags, frag3_global, stands_alone, engine_setting, with_engine, frag3_engine}
+use Rattle.conf_parser.specs.Frag3.{global_setting, with_max_frags, frag3_global, is_alone, engine_setting, with_engine, frag3_engine}
 use Rattle.conf_types.specs.Sound.{IsWithin, IsFragEngine, IsFragConfig}
 use Rattle.conf_parser.specs.Settings.{frag_of}
 use Rattle.conf_parser.proofs.Sound.Steps.{Holds, Any, anything, given, refused, choice, unless, same, free, chained, ranged, numbered, set, pushed-few}
@@ -28,7 +28,7 @@ pub frag3_global-sound : (draft : FragDraft) (rest : List ℕ) → IsFragDraft d
 unfolding frag3_global with_max_frags
 frag3_global-sound draft rest sound =
     chained Any IsFragDraft (setting_text rest) _ (anything (setting_text rest)) (λ text any.
-    chained (IsWithin 1 1048576) IsFragDraft (settings_behind (λ name. false) global_setting 8192 text) _
+    chained (IsWithin 1 1048576) IsFragDraft (settings_after (λ name. false) global_setting 8192 text) _
     (set (IsWithin 1 1048576) (λ name. false) global_setting global_setting-within 8192 text (omega arith, omega arith))
     (λ frags within. search (choice, given, refused, sound, within) depth 9))
 
@@ -56,8 +56,8 @@ module _ (variables : Variables) where
   unfolding frag3_engine
   frag3_engine-sound draft rest sound =
       chained Any IsFragDraft (setting_text rest) _ (anything (setting_text rest)) (λ text any.
-      chained IsFragEngine IsFragDraft (settings_behind stands_alone (engine_setting variables) default_frag_engine text) _
-      (set IsFragEngine stands_alone (engine_setting variables) engine_setting-sound default_frag_engine text first-sound)
+      chained IsFragEngine IsFragDraft (settings_after is_alone (engine_setting variables) default_frag_engine text) _
+      (set IsFragEngine is_alone (engine_setting variables) engine_setting-sound default_frag_engine text first-sound)
       (λ engine one. with_engine-sound draft engine sound one))
 
 -- before the first line

@@ -1,13 +1,13 @@
 -- A line keeps a sound draft, and a reading gives a sound configuration.
 use Rattle.std.proofs.Common.{ℕ, List, Option, Some, None, Result, arith}
 use Rattle.std.proofs.lemmas.List.Elements.{All-nil}
-use Rattle.net_lists.specs.Cutting.{first_word, behind_word}
+use Rattle.net_lists.specs.Cutting.{first_word, after_word}
 use Rattle.net_lists.specs.Variables.{Variables}
 use Rattle.conf_parser.specs.declared.draft.Draft.{Draft}
 use Rattle.conf_parser.specs.declared.draft.FragDraft.{FragDraft}
 use Rattle.conf_parser.specs.declared.draft.StreamDraft.{StreamDraft}
 use Rattle.conf_parser.specs.declared.draft.Settings.{Settings}
-use Rattle.conf_parser.specs.declared.given.Behind.{Behind}
+use Rattle.conf_parser.specs.declared.given.Onward.{Onward}
 use Rattle.conf_parser.specs.declared.given.Given.TheVariants.{Rule}
 use Rattle.conf_parser.specs.declared.line.ConfKind.{ConfKind}
 use Rattle.conf_parser.specs.declared.line.ConfKind.TheVariants.{UnknownDirective, BadValue, OutsideProfile}
@@ -19,7 +19,7 @@ use Rattle.conf_parser.specs.declared.name.PreprocessorName.{PreprocessorName}
 use Rattle.conf_parser.specs.declared.name.PreprocessorName.TheVariants as preprocessor
 use Rattle.conf_parser.specs.declared.variables.ValueForm.{ValueForm}
 use Rattle.conf_parser.specs.declared.variables.ValueForm.TheVariants as form
-use Rattle.conf_parser.specs.ConfLine.{silent, drafted, skipped, definition_line, include_line, config_draft, config_value, behind_draft, named_or_skipped, config_line, preprocessor_draft, preprocessor_line, filter_line, suppress_line, directive_line, conf_line}
+use Rattle.conf_parser.specs.ConfLine.{silent, drafted, skipped, definition_line, include_line, config_draft, config_value, after_draft, named_or_skipped, config_line, preprocessor_draft, preprocessor_line, filter_line, suppress_line, directive_line, conf_line}
 use Rattle.conf_parser.specs.Config.{classification, checksum_mode, event_queue, detection}
 use Rattle.conf_parser.specs.Events.{event_filter, suppress}
 use Rattle.conf_parser.specs.Frag3.{frag3_global, frag3_engine}
@@ -28,7 +28,7 @@ use Rattle.conf_parser.specs.Settings.{first_draft, config_of}
 use Rattle.conf_types.specs.Sound.{IsClass, IsFilter, AreQueueLimits, IsSound}
 use Rattle.conf_parser.specs.Spots.{Spot}
 use Rattle.conf_parser.specs.Stream5.{stream5_global, stream5_tcp, stream5_udp}
-use Rattle.conf_parser.specs.Values.{or_kind, mapped, name_of, behind_name, behind_colon}
+use Rattle.conf_parser.specs.Values.{or_kind, mapped, name_of, after_name, after_colon}
 use Rattle.conf_parser.specs.Variables.{definition, include}
 use Rattle.conf_parser.proofs.Sound.Steps.{Holds, Any, anything, given, refused, free, chained, changed}
 use Rattle.conf_parser.proofs.Sound.Config.{Few, AreClasses, classification-sound, suppress-few, event_queue-sound, AreFilters, event_filter-sound}
@@ -84,10 +84,10 @@ module _ (draft : Draft) (sound : IsSoundDraft draft) where
   config_value-sound : (name : ConfigName) (rest : List ℕ) → Holds IsSoundDraft (config_value draft name rest)
   unfolding config_value
   config_value-sound config.Unread rest = given IsSoundDraft draft sound
-  config_value-sound config.Classification rest = chained Any IsSoundDraft (or_kind BadValue (behind_colon rest)) (config_draft draft config.Classification) (anything _) (λ value any. config_draft-sound config.Classification value)
-  config_value-sound config.ChecksumMode rest = chained Any IsSoundDraft (or_kind BadValue (behind_colon rest)) (config_draft draft config.ChecksumMode) (anything _) (λ value any. config_draft-sound config.ChecksumMode value)
-  config_value-sound config.EventQueue rest = chained Any IsSoundDraft (or_kind BadValue (behind_colon rest)) (config_draft draft config.EventQueue) (anything _) (λ value any. config_draft-sound config.EventQueue value)
-  config_value-sound config.Detection rest = chained Any IsSoundDraft (or_kind BadValue (behind_colon rest)) (config_draft draft config.Detection) (anything _) (λ value any. config_draft-sound config.Detection value)
+  config_value-sound config.Classification rest = chained Any IsSoundDraft (or_kind BadValue (after_colon rest)) (config_draft draft config.Classification) (anything _) (λ value any. config_draft-sound config.Classification value)
+  config_value-sound config.ChecksumMode rest = chained Any IsSoundDraft (or_kind BadValue (after_colon rest)) (config_draft draft config.ChecksumMode) (anything _) (λ value any. config_draft-sound config.ChecksumMode value)
+  config_value-sound config.EventQueue rest = chained Any IsSoundDraft (or_kind BadValue (after_colon rest)) (config_draft draft config.EventQueue) (anything _) (λ value any. config_draft-sound config.EventQueue value)
+  config_value-sound config.Detection rest = chained Any IsSoundDraft (or_kind BadValue (after_colon rest)) (config_draft draft config.Detection) (anything _) (λ value any. config_draft-sound config.Detection value)
 
   frag-sound : (read : Result FragDraft ConfKind) → Holds IsFragDraft read → Holds IsSoundDraft (mapped (λ frag. record draft { frag = frag }) read)
   frag-sound read p = changed IsFragDraft IsSoundDraft (λ frag. record draft { frag = frag }) read p (λ frag one. record { classes = sound.classes; queue = sound.queue; frag = one; stream = sound.stream; filters = sound.filters; suppress = sound.suppress })
@@ -105,16 +105,16 @@ module _ (draft : Draft) (sound : IsSoundDraft draft) where
   preprocessor_draft-sound variables preprocessor.Outside rest = refused IsSoundDraft OutsideProfile
 
 -- settings with a sound draft
-abbrev pub Kept : Behind → Type 0
-Kept behind = IsSoundDraft behind.settings.draft
+abbrev pub Kept : Onward → Type 0
+Kept after = IsSoundDraft after.settings.draft
 
 module _ (settings : Settings) (sound : IsSoundDraft settings.draft) where
-  behind_draft-sound : (read : Result Draft ConfKind) → Holds IsSoundDraft read → Holds Kept (behind_draft settings read)
-  behind_draft-sound read p = changed IsSoundDraft Kept (λ draft. silent (drafted settings draft)) read p (λ draft one. one)
+  after_draft-sound : (read : Result Draft ConfKind) → Holds IsSoundDraft read → Holds Kept (after_draft settings read)
+  after_draft-sound read p = changed IsSoundDraft Kept (λ draft. silent (drafted settings draft)) read p (λ draft one. one)
 
   named-sound : {N : Type 0} (word name : List ℕ) (known : Option N) (read : N → Result Draft ConfKind) → ((n : N) → Holds IsSoundDraft (read n)) → Holds Kept (named_or_skipped settings word name known read)
   named-sound word name None read p = given Kept (skipped settings word name) sound
-  named-sound word name (Some n) read p = behind_draft-sound (read n) (p n)
+  named-sound word name (Some n) read p = after_draft-sound (read n) (p n)
 
   definition_line-sound : (form : ValueForm) (rest : List ℕ) → Holds Kept (definition_line settings form rest)
   unfolding definition_line
@@ -127,17 +127,17 @@ module _ (settings : Settings) (sound : IsSoundDraft settings.draft) where
   directive_line-sound spot directive.IpVar word rest = definition_line-sound form.Addresses rest
   directive_line-sound spot directive.PortVar word rest = definition_line-sound form.Ports rest
   directive_line-sound spot directive.Include word rest = free Kept _ (include settings.vars spot rest) (λ name. sound)
-  directive_line-sound spot directive.Config word rest = named-sound word (name_of rest) (config_name (name_of rest)) (λ name. config_value settings.draft name (behind_name rest)) (λ name. config_value-sound settings.draft sound name (behind_name rest))
-  directive_line-sound spot directive.Preprocessor word rest = named-sound word (name_of rest) (preprocessor_name (name_of rest)) (λ name. preprocessor_draft settings.vars settings.draft name (behind_name rest)) (λ name. preprocessor_draft-sound settings.draft sound settings.vars name (behind_name rest))
+  directive_line-sound spot directive.Config word rest = named-sound word (name_of rest) (config_name (name_of rest)) (λ name. config_value settings.draft name (after_name rest)) (λ name. config_value-sound settings.draft sound name (after_name rest))
+  directive_line-sound spot directive.Preprocessor word rest = named-sound word (name_of rest) (preprocessor_name (name_of rest)) (λ name. preprocessor_draft settings.vars settings.draft name (after_name rest)) (λ name. preprocessor_draft-sound settings.draft sound settings.vars name (after_name rest))
   directive_line-sound spot directive.EventFilter word rest =
-      behind_draft-sound (mapped (λ filters. record (settings.draft) { filters = filters }) (event_filter settings.draft.filters rest))
+      after_draft-sound (mapped (λ filters. record (settings.draft) { filters = filters }) (event_filter settings.draft.filters rest))
       (changed AreFilters IsSoundDraft (λ filters. record (settings.draft) { filters = filters }) (event_filter settings.draft.filters rest) (event_filter-sound settings.draft.filters rest sound.filters) (λ filters few. record { classes = sound.classes; queue = sound.queue; frag = sound.frag; stream = sound.stream; filters = few; suppress = sound.suppress }))
   directive_line-sound spot directive.Suppress word rest =
-      behind_draft-sound (mapped (λ lines. record (settings.draft) { suppress = lines }) (suppress settings.vars settings.draft.suppress rest))
+      after_draft-sound (mapped (λ lines. record (settings.draft) { suppress = lines }) (suppress settings.vars settings.draft.suppress rest))
       (changed Few IsSoundDraft (λ lines. record (settings.draft) { suppress = lines }) (suppress settings.vars settings.draft.suppress rest) (suppress-few settings.vars settings.draft.suppress rest) (λ lines few. record { classes = sound.classes; queue = sound.queue; frag = sound.frag; stream = sound.stream; filters = sound.filters; suppress = few }))
   directive_line-sound spot directive.Skipped word rest = given Kept (skipped settings word (name_of rest)) sound
   directive_line-sound spot directive.Outside word rest = refused Kept OutsideProfile
 
   pub conf_line-sound : (spot : Spot) (line : List ℕ) → Holds Kept (conf_line spot settings line)
   unfolding conf_line
-  conf_line-sound spot line = chained Any Kept (or_kind UnknownDirective (directive_named (first_word line))) _ (anything _) (λ known any. directive_line-sound spot known (first_word line) (behind_word line))
+  conf_line-sound spot line = chained Any Kept (or_kind UnknownDirective (directive_named (first_word line))) _ (anything _) (λ known any. directive_line-sound spot known (first_word line) (after_word line))

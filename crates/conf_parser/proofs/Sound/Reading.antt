@@ -4,7 +4,7 @@ use Rattle.std.specs.Prelude.{Option, OnOk}
 use Rattle.edge_io.specs.Files.{Files}
 use Rattle.net_lists.specs.Variables.{Variables}
 use Rattle.conf_parser.specs.declared.draft.Settings.{Settings}
-use Rattle.conf_parser.specs.declared.given.Behind.{Behind}
+use Rattle.conf_parser.specs.declared.given.Onward.{Onward}
 use Rattle.conf_parser.specs.declared.line.ConfKind.{ConfKind}
 use Rattle.conf_parser.specs.declared.line.LoadStop.{LoadStop}
 use Rattle.conf_parser.specs.declared.loaded.Loaded.{Loaded}
@@ -23,7 +23,7 @@ HaveSoundDraft settings = IsSoundDraft settings.draft
 
 -- each line keeps a sound draft
 pub lines-keep-sound : LinesKeep HaveSoundDraft
-lines-keep-sound spot settings line behind is sound = (subst (λ (r : Result Behind ConfKind). Holds Kept r) is (conf_line-sound settings sound spot line)).holds
+lines-keep-sound spot settings line after is sound = (subst (λ (r : Result Onward ConfKind). Holds Kept r) is (conf_line-sound settings sound spot line)).holds
 
 -- the configuration of a whole reading
 pub read_files-sound : (contents : Contents) (name : List ℕ) (variables : Variables) (read : Read) → read_files contents name variables ≡ Whole read → IsSound (config_of read.settings.draft)

@@ -5,10 +5,10 @@ use Rattle.std.specs.Option.{option_and_then}
 use Rattle.std.proofs.lemmas.Bool.Decides.{nat_tests}
 use Rattle.net_lists.specs.Numbers.{number_in, kept_in, whole_number}
 use Rattle.net_lists.specs.Cutting.{settings}
-use Rattle.net_lists.specs.Folds.{draft_behind}
+use Rattle.net_lists.specs.Folds.{draft_after}
 use Rattle.conf_parser.specs.declared.line.ConfKind.{ConfKind}
 use Rattle.conf_parser.specs.Values.{◌>>=◌, or_kind, mapped}
-use Rattle.conf_parser.specs.Options.{paired, settings_behind}
+use Rattle.conf_parser.specs.Options.{paired, settings_after}
 use Rattle.conf_types.specs.Sound.{IsWithin}
 
 -- the value of a reading has this property, if there is a value
@@ -43,10 +43,10 @@ chained P Q (Ok x) next p q = q x p.holds
 chained P Q (Err kind) next p q = record { holds = tt }
 
 -- a fold over parts keeps what each part keeps
-pub folded : {A X : Type 0} (P : A → Type 0) (step : A → X → Result A ConfKind) → ((d : A) (part : X) → P d → Holds P (step d part)) → (d : A) (parts : List X) → P d → Holds P (draft_behind step d parts)
-unfolding draft_behind
+pub folded : {A X : Type 0} (P : A → Type 0) (step : A → X → Result A ConfKind) → ((d : A) (part : X) → P d → Holds P (step d part)) → (d : A) (parts : List X) → P d → Holds P (draft_after step d parts)
+unfolding draft_after
 folded P step keeps d [] p = record { holds = p }
-folded P step keeps d (part ∷ parts) p = chained P P (step d part) (λ next. draft_behind step next parts) (keeps d part p) (λ next q. folded P step keeps next parts q)
+folded P step keeps d (part ∷ parts) p = chained P P (step d part) (λ next. draft_after step next parts) (keeps d part p) (λ next q. folded P step keeps next parts q)
 
 -- a value changed
 pub changed : {A B : Type 0} (P : A → Type 0) (Q : B → Type 0) (f : A → B) (r : Result A ConfKind) → Holds P r → ((x : A) → P x → Q (f x)) → Holds Q (mapped f r)
@@ -95,7 +95,7 @@ pub numbered : {B : Type 0} (Q : B → Type 0) (f : ℕ → B) (kind : ConfKind)
 numbered Q f kind least most text q = changed (IsWithin least most) Q f (or_kind kind (number_in least most text)) (ranged kind least most text) q
 
 -- the settings of a text keep what each setting keeps
-pub set : {A : Type 0} (P : A → Type 0) (alone : List ℕ → Bool) (step : A → List ℕ → Option (List ℕ) → Result A ConfKind) → ((d : A) (name : List ℕ) (value : Option (List ℕ)) → P d → Holds P (step d name value)) → (d : A) (text : List ℕ) → P d → Holds P (settings_behind alone step d text)
+pub set : {A : Type 0} (P : A → Type 0) (alone : List ℕ → Bool) (step : A → List ℕ → Option (List ℕ) → Result A ConfKind) → ((d : A) (name : List ℕ) (value : Option (List ℕ)) → P d → Holds P (step d name value)) → (d : A) (text : List ℕ) → P d → Holds P (settings_after alone step d text)
 set P alone step keeps d text p = folded P (λ e s. step e s.name s.value) (λ e s q. keeps e s.name s.value q) d (paired alone (settings text)) p
 
 -- ---- counts

@@ -4,8 +4,8 @@ use Rattle.std.specs.Prelude.{IfSome, All, nat_le, unwrap_or, codes}
 use Rattle.std.specs.Option.{option_and_then}
 use Rattle.std.proofs.lemmas.Bool.Decides.{nat_tests}
 use Rattle.std.proofs.lemmas.List.Elements.{All-push, All-nil}
-use Rattle.net_lists.specs.Cutting.{first_word, behind_word}
-use Rattle.net_lists.specs.Folds.{draft_behind}
+use Rattle.net_lists.specs.Cutting.{first_word, after_word}
+use Rattle.net_lists.specs.Folds.{draft_after}
 use Rattle.net_lists.specs.Numbers.{number_in}
 use Rattle.net_lists.specs.Variables.{Variables}
 use Rattle.net_lists.specs.declared.part.Part.{Part as PortPart}
@@ -58,8 +58,8 @@ module _ {D : Type 0} (P : D → Type 0) where
   whole-sound partial p = choice P partial.lacks (Err BadValue) (Ok partial.draft) (refused P BadValue) (given P partial.draft p)
 
   -- all settings of a text
-  pub parts-sound : (step : Partial D → List ℕ → Result (Partial D) ConfKind) → ((partial : Partial D) (part : List ℕ) → P partial.draft → Holds Part (step partial part)) → (first : D) → P first → (parts : List (List ℕ)) → Holds P (draft_behind step (complete first) parts >>= whole)
-  parts-sound step keeps first p parts = chained Part P (draft_behind step (complete first) parts) whole (folded Part step keeps (complete first) parts p) whole-sound
+  pub parts-sound : (step : Partial D → List ℕ → Result (Partial D) ConfKind) → ((partial : Partial D) (part : List ℕ) → P partial.draft → Holds Part (step partial part)) → (first : D) → P first → (parts : List (List ℕ)) → Holds P (draft_after step (complete first) parts >>= whole)
+  parts-sound step keeps first p parts = chained Part P (draft_after step (complete first) parts) whole (folded Part step keeps (complete first) parts p) whole-sound
 
 -- ---- stream5_global
 
@@ -79,7 +79,7 @@ named_global-sound partial name value sound =
 
 global_part-sound : (partial : Partial StreamGlobal) (part : List ℕ) → IsStreamGlobal partial.draft → Holds (Part IsStreamGlobal) (global_part partial part)
 unfolding global_part
-global_part-sound partial part sound = chained Any (Part IsStreamGlobal) (or_kind BadValue (global_name (first_word part))) _ (anything _) (λ name any. named_global-sound partial name (behind_word part) sound)
+global_part-sound partial part sound = chained Any (Part IsStreamGlobal) (or_kind BadValue (global_name (first_word part))) _ (anything _) (λ name any. named_global-sound partial name (after_word part) sound)
 
 default-sound : IsStreamGlobal default_global
 default-sound = record { max_tcp = (omega arith, omega arith); max_udp = (omega arith, omega arith) }
@@ -100,11 +100,11 @@ udp_part-sound : (partial : Partial ℕ) (part : List ℕ) → IsWithin 1 86400 
 unfolding udp_part
 udp_part-sound partial part within =
     let Q : Partial ℕ → Type 0 = Part (IsWithin 1 86400) in
-    let read = onward-sound (IsWithin 1 86400) partial (or_kind BadValue (number_in 1 86400 (behind_word part))) (ranged BadValue 1 86400 (behind_word part)) in
+    let read = onward-sound (IsWithin 1 86400) partial (or_kind BadValue (number_in 1 86400 (after_word part))) (ranged BadValue 1 86400 (after_word part)) in
     let lacks = lacking-sound (IsWithin 1 86400) partial within in
-    let valued = choice Q (is_empty (behind_word part)) (Ok (lacking partial)) (onward partial (or_kind BadValue (number_in 1 86400 (behind_word part)))) lacks read in
+    let valued = choice Q (is_empty (after_word part)) (Ok (lacking partial)) (onward partial (or_kind BadValue (number_in 1 86400 (after_word part)))) lacks read in
     let named = choice Q (is_word (first_word part) (codes "timeout")) _ (Err BadValue) valued (refused Q BadValue) in
-    let alone = choice Q (is_empty (behind_word part)) (Ok partial) (Err BadValue) (given Q partial within) (refused Q BadValue) in
+    let alone = choice Q (is_empty (after_word part)) (Ok partial) (Err BadValue) (given Q partial within) (refused Q BadValue) in
     choice Q (is_word (first_word part) (codes "ignore_any_rules")) _ _ alone named
 
 udp_timeout-sound : (text : List ℕ) → Holds (IsWithin 1 86400) (udp_timeout text)
@@ -160,7 +160,7 @@ module _ (variables : Variables) where
   unfolding ports_value
   ports_value-sound draft value sound =
       chained Any Tcp (or_kind BadValue (side (first_word value))) _ (anything _) (λ side any.
-      chained Any Tcp (port_words (behind_word value)) _ (anything _) (λ ports any. given Tcp (with_ports draft side ports) (kept side ports)))
+      chained Any Tcp (port_words (after_word value)) _ (anything _) (λ ports any. given Tcp (with_ports draft side ports) (kept side ports)))
     where
       kept : (side : Side) (ports : Option (List (PortPart (Bounds ℕ)))) → Tcp (with_ports draft side ports)
       kept Client ports = sound
@@ -188,7 +188,7 @@ module _ (variables : Variables) where
 
   tcp_part-sound : (partial : Partial TcpDraft) (part : List ℕ) → Tcp partial.draft → Holds (Part Tcp) (tcp_part variables partial part)
   unfolding tcp_part
-  tcp_part-sound partial part sound = chained Any (Part Tcp) (or_kind BadValue (tcp_name (first_word part))) _ (anything _) (λ name any. named_tcp-sound partial name (behind_word part) sound)
+  tcp_part-sound partial part sound = chained Any (Part Tcp) (or_kind BadValue (tcp_name (first_word part))) _ (anything _) (λ name any. named_tcp-sound partial name (after_word part) sound)
 
   first-sound : Tcp first_tcp
   unfolding default_stream_engine

@@ -67,7 +67,7 @@ part-occurs nocase payload bytes start from len is =
     let word = map lower bytes in
     let long_payload = length-map payload lower in
     let long_bytes = length-map bytes lower in
-    let stands : drop start lowered ≡ word ++ drop (start + length word) lowered = at_from_reads 0 lowered word start (omega (arith, reads.0, long_payload, long_bytes)) (λ j h.
+    let holds : drop start lowered ≡ word ++ drop (start + length word) lowered = at_from_reads 0 lowered word start (omega (arith, reads.0, long_payload, long_bytes)) (λ j h.
     get_or-map lower payload (start + j) 0 0 (omega (arith, reads.0, long_bytes)) ∙ reads.1 j (omega (arith, long_bytes)) ∙ sym (get_or-map lower bytes j 0 0 (omega (arith, long_bytes)))) in
     let back = drop (start + length word) lowered in
     let part = take len (drop from bytes) in
@@ -78,14 +78,14 @@ part-occurs nocase payload bytes start from len is =
     ∙ ap (λ (xs : List ℕ). map lower (take from bytes) ++ xs) (map-append lower part rest) in
     infix-occurs part payload (take start lowered ++ map lower (take from bytes)) (map lower rest ++ back)
     (sym (take-append-drop start lowered)
-    ∙ ap (λ (xs : List ℕ). take start lowered ++ xs) (stands ∙ ap (λ (xs : List ℕ). xs ++ back) split ∙ append_assoc (map lower (take from bytes)) (map lower part ++ map lower rest) back ∙ ap (λ (xs : List ℕ). map lower (take from bytes) ++ xs) (append_assoc (map lower part) (map lower rest) back))
+    ∙ ap (λ (xs : List ℕ). take start lowered ++ xs) (holds ∙ ap (λ (xs : List ℕ). xs ++ back) split ∙ append_assoc (map lower (take from bytes)) (map lower part ++ map lower rest) back ∙ ap (λ (xs : List ℕ). map lower (take from bytes) ++ xs) (append_assoc (map lower part) (map lower rest) back))
     ∙ sym (append_assoc (take start lowered) (map lower (take from bytes)) (map lower part ++ (map lower rest ++ back))))
 
 needs-by : (options : List Opt) (payload : List ℕ) (choice : Option Sought) → IfSome choice (IsSought options) → ContentsOccur options payload → occurs_if_any (option_map (part_bytes options) choice) payload ≡ true
 needs-by options payload None is occur = refl
 needs-by options payload (Some sought) is occur =
-    let stands = occur.each sought.place is.content is.here is.kept in
-    ap (λ o. occurs (take sought.len (drop sought.from (bytes_of o))) payload) is.here ∙ part-occurs stands.0 payload is.content.bytes stands.1 sought.from sought.len stands.2
+    let holds = occur.each sought.place is.content is.here is.kept in
+    ap (λ o. occurs (take sought.len (drop sought.from (bytes_of o))) payload) is.here ∙ part-occurs holds.0 payload is.content.bytes holds.1 sought.from sought.len holds.2
 
 pub needs-pattern : (options : List Opt) (payload : List ℕ) → ContentsOccur options payload → occurs_if_any (pattern_of options) payload ≡ true
 needs-pattern options payload occur = needs-by options payload (chosen options) (chosen-sought options) occur

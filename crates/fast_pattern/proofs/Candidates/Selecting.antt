@@ -27,7 +27,7 @@ use Rattle.fast_pattern.specs.Blocks.{has}
 use Rattle.fast_pattern.specs.declared.sides.Side.TheVariants as side
 use Rattle.fast_pattern.specs.declared.sides.Sides.{Sides}
 use Rattle.fast_pattern.specs.Sides.{is_due, is_asked, AreSides, AddSought}
-use Rattle.fast_pattern.specs.Grouping.{asked_of, fits_some, fits_at, is_due_at, text_of, texts_of, StandFor}
+use Rattle.fast_pattern.specs.Grouping.{asked_of, fits_some, fits_at, is_due_at, text_of, texts_of, AreFor}
 use Rattle.pattern_search.specs.Occurring.{occurs}
 use Rattle.pattern_search.proofs.Finding.Occurring.{empty-occurs}
 use Rattle.fast_pattern.proofs.Candidates.Ordering.{increasing-is, numbers-tell, numbers-have, filter-numbers}
@@ -95,7 +95,7 @@ has-dedup xs place = same_bools (has (dedup eqb xs) place) (has xs place)
     (λ e. has-from xs place (Contains-from_dedup eqb xs place (has-tells (dedup eqb xs) place e)))
     (λ e. has-from (dedup eqb xs) place (Contains-dedup_nat xs place (has-tells xs place e)))
 
-module _ (groups : Groups) (rules : List Rule) (carried : Body) (payload : List ℕ) (stand : StandFor groups rules) where
+module _ (groups : Groups) (rules : List Rule) (carried : Body) (payload : List ℕ) (hold : AreFor groups rules) where
   abbrev texts : List (List ℕ)
   texts = texts_of rules
 
@@ -119,7 +119,7 @@ module _ (groups : Groups) (rules : List Rule) (carried : Body) (payload : List 
     text-is = get_or-map (λ (r : Rule). text_of (pattern_of r.opts)) rules place d [] h
 
     asked-is : slice_get groups.rules.items place ≡ Some (asked_of rule)
-    asked-is = ap (λ (xs : List Asked). slice_get xs place) stand.asked ∙ slice_get-get_or (map asked_of rules) place (asked_of d) (omega (arith, length-map rules asked_of)) ∙ ap Some (get_or-map asked_of rules place d (asked_of d) h)
+    asked-is = ap (λ (xs : List Asked). slice_get xs place) hold.asked ∙ slice_get-get_or (map asked_of rules) place (asked_of d) (omega (arith, length-map rules asked_of)) ∙ ap Some (get_or-map asked_of rules place d (asked_of d) h)
 
     fits-is : fits_at groups.rules.items carried place ≡ fits rule carried
     unfolding fits_at fits
@@ -166,7 +166,7 @@ module _ (groups : Groups) (rules : List Rule) (carried : Body) (payload : List 
         and-false false = refl
 
   asked-count : length groups.rules.items ≡ length rules
-  asked-count = ap length stand.asked ∙ length-map rules asked_of
+  asked-count = ap length hold.asked ∙ length-map rules asked_of
 
   due-within : (place : ℕ) → due place ≡ true → place < length rules
   unfolding is_due_at
@@ -177,7 +177,7 @@ module _ (groups : Groups) (rules : List Rule) (carried : Body) (payload : List 
 
   hits-are : (hits : List ℕ) → AreHits groups.automaton payload hits → IsPermutation (numbers occurs_at 0 (length texts)) hits
   unfolding occurring
-  hits-are hits are = are.found texts stand.finds
+  hits-are hits are = are.found texts hold.finds
 
   -- the places that were found, each once and in order, and of these those whose headers fit
   pub candidates-are : (hits found sorted places : List ℕ) → AreHits groups.automaton payload hits → ((place : ℕ) → has found place ≡ (has hits place || due place)) → IsPermutation found sorted → IsSorted nat_cmp sorted → places ≡ dedup eqb sorted → filter (fits_at groups.rules.items carried) places ≡ candidates rules carried payload
@@ -217,9 +217,9 @@ module _ (groups : Groups) (rules : List Rule) (carried : Body) (payload : List 
           (λ e. numbers-have occurs_at 0 (length rules) place (omega arith) (omega arith) e))
 
 -- the rules of a kind without ports
-pub list-due : (groups : Groups) (rules : List Rule) (carried : Body) (listed old new : List ℕ) → StandFor groups rules → listed ≡ numbers (is_plain groups.rules.items (texts_of rules) (kind_of carried)) 0 (length rules) → ((asked : Option Asked) → is_due carried asked ≡ true) → new ≡ old ++ listed → (place : ℕ) → has new place ≡ (has old place || is_due_at groups.rules.items (texts_of rules) carried place)
+pub list-due : (groups : Groups) (rules : List Rule) (carried : Body) (listed old new : List ℕ) → AreFor groups rules → listed ≡ numbers (is_plain groups.rules.items (texts_of rules) (kind_of carried)) 0 (length rules) → ((asked : Option Asked) → is_due carried asked ≡ true) → new ≡ old ++ listed → (place : ℕ) → has new place ≡ (has old place || is_due_at groups.rules.items (texts_of rules) carried place)
 unfolding is_due_at
-list-due groups rules carried listed old new stand is due pushed place =
+list-due groups rules carried listed old new hold is due pushed place =
     let plain = is_plain groups.rules.items (texts_of rules) (kind_of carried) in
     let n = length rules in
     ap (λ (xs : List ℕ). has xs place) pushed
@@ -229,7 +229,7 @@ list-due groups rules carried listed old new stand is due pushed place =
     (λ e. (numbers-tell plain 0 n place e).2)
     (λ e. ⊎_elim
     (λ low. numbers-have plain 0 n place (omega arith) (omega (arith, low)) e)
-    (λ high. absurd (false≢true (sym (plain-past groups.rules.items (texts_of rules) (kind_of carried) place (omega (arith, high, ap length stand.asked, length-map rules asked_of))) ∙ e)))
+    (λ high. absurd (false≢true (sym (plain-past groups.rules.items (texts_of rules) (kind_of carried) place (omega (arith, high, ap length hold.asked, length-map rules asked_of))) ∙ e)))
     (cases_lt place n))
     ∙ sym (ap (λ b. plain place && b) (due (slice_get groups.rules.items place)) ∙ and-one (plain place)))
   where

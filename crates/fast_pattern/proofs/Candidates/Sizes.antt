@@ -8,7 +8,7 @@ use Rattle.rule_types.specs.declared.option.FastMode.TheVariants as mode
 use Rattle.rule_types.specs.declared.option.Opt.{Opt}
 use Rattle.rule_types.specs.declared.option.Opt.TheVariants as opt
 use Rattle.rule_types.specs.declared.rule.Rule.{Rule}
-use Rattle.rule_types.specs.Sound.{IsContent, IsFast, IsOption, AreOptions, names_behind, IsTriable}
+use Rattle.rule_types.specs.Sound.{IsContent, IsFast, IsOption, AreOptions, names_after_one, IsTriable}
 use Rattle.fast_pattern.specs.declared.choice.Sought.{Sought}
 use Rattle.fast_pattern.specs.FastPattern.{first_of, size_of, sought_at, sought_of, with, sought_from, longer, longest, or_else, chosen}
 
@@ -41,7 +41,7 @@ module _ (most : ℕ) where
   all-small : (names : List ℕ) (place : ℕ) (options : List Opt) → place + length options ≤ most → AreOptions names options → AllOf (IsSmall most) (sought_from place options)
   all-small names place [] h are = tt
   all-small names place (option ∷ rest) h are =
-      with-option names place option (sought_from (place + 1) rest) (omega arith) are.0 (all-small (names_behind names option) (place + 1) rest (omega arith) are.1)
+      with-option names place option (sought_from (place + 1) rest) (omega arith) are.0 (all-small (names_after_one names option) (place + 1) rest (omega arith) are.1)
 
 module _ (P : Sought → Type 0) where
   found-cond : (b : Bool) (one : Sought) (other : Option Sought) → P one → IfSome other P → IfSome (cond b (Some one) other) P

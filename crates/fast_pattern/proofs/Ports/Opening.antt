@@ -9,7 +9,7 @@ use Rattle.packet_decode.specs.declared.packet.Body.TheVariants as body
 use Rattle.net_lists.specs.Membership.{is_in, has_port}
 use Rattle.fast_pattern.specs.Candidates.{header_fits, ports_fit, fits, occurs_if_any, is_candidate, places_from, candidates}
 use Rattle.fast_pattern.specs.declared.header.Asked.{Asked}
-use Rattle.fast_pattern.specs.Grouping.{fits_at, asked_of, StandFor}
+use Rattle.fast_pattern.specs.Grouping.{fits_at, asked_of, AreFor}
 use Rattle.fast_pattern.specs.FastPattern.{pattern_of}
 use Rattle.fast_pattern.specs.declared.groups.Groups.{Groups}
 use Rattle.rule_types.specs.declared.rule.Rule.{Rule}
@@ -146,7 +146,7 @@ none-fits carried payload (x ∷ xs) n none =
     ap (λ (b : Bool). cond (b && occurs_if_any (pattern_of x.opts) payload) (n ∷ places_from (n + 1) (is_candidate carried payload) xs) (places_from (n + 1) (is_candidate carried payload) xs)) (none 0)
     ∙ none-fits carried payload xs (n + 1) (λ place. none (suc place))
 
-pub none-let-in : (groups : Groups) (rules : List Rule) (carried : Body) (payload : List ℕ) → StandFor groups rules → lets_in groups.doors.items carried ≡ false → candidates rules carried payload ≡ []
+pub none-let-in : (groups : Groups) (rules : List Rule) (carried : Body) (payload : List ℕ) → AreFor groups rules → lets_in groups.doors.items carried ≡ false → candidates rules carried payload ≡ []
 unfolding candidates
-none-let-in groups rules carried payload stand shut = none-fits carried payload rules 0 (λ place. false_from_ne_true (fits_at (map asked_of rules) carried place)
-    (λ fits. false≢true (sym shut ∙ stand.guards.guards carried place (ap (λ rs. fits_at rs carried place) stand.asked ∙ fits))))
+none-let-in groups rules carried payload hold shut = none-fits carried payload rules 0 (λ place. false_from_ne_true (fits_at (map asked_of rules) carried place)
+    (λ fits. false≢true (sym shut ∙ hold.guards.guards carried place (ap (λ rs. fits_at rs carried place) hold.asked ∙ fits))))

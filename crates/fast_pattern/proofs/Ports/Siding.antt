@@ -23,7 +23,7 @@ use Rattle.fast_pattern.specs.Candidates.{ports_fit, header_fits}
 use Rattle.fast_pattern.specs.Blocks.{lies_in, has, is_filed, entries_of, AddBlocks, AreBlocks, IsChained, AddFiled}
 use Rattle.pattern_search.specs.Words.{word_at}
 use Rattle.fast_pattern.specs.Kinds.{is_for_some, is_plain}
-use Rattle.fast_pattern.specs.Sides.{is_any, key_of, stands_in, stands_some, stands_at, is_asked, is_sought, is_due, AreSoughtAt, AreFiled, IsSide, AddSought}
+use Rattle.fast_pattern.specs.Sides.{is_any, key_of, belongs_in, belongs_some, belongs_at, is_asked, is_sought, is_due, AreSoughtAt, AreFiled, IsSide, AddSought}
 use Rattle.fast_pattern.proofs.Ports.Filing.{filed-new}
 
 any-none : (ports : List (Part (Bounds ℕ))) → is_any ports ≡ true → ports ≡ []
@@ -56,21 +56,21 @@ module _ (sports dports : List (Part (Bounds ℕ))) (both : Bool) (sport dport :
 
   -- rules of tcp and udp
   pub asked-tcp : ports_fit sports dports both sport dport ≡ true → (is_asked side.Source sport (Some (record { proto = proto.Tcp; sports = sports; dports = dports; both = both })) || is_asked side.Destination dport (Some (record { proto = proto.Tcp; sports = sports; dports = dports; both = both }))) ≡ true
-  unfolding key_of stands_in
+  unfolding key_of belongs_in
   asked-tcp fits =
       ap (λ b. (cond (is_any dports) (not (is_any sports)) both && b) || ((both || (not (is_any dports) || is_any sports)) && has_port (cond (is_any dports) sports dports) dport)) (lifted (is_any dports) sport)
       ∙ ap (λ b. (cond (is_any dports) (not (is_any sports)) both && cond (is_any dports) (has_port sports sport) (has_port dports sport)) || ((both || (not (is_any dports) || is_any sports)) && b)) (lifted (is_any dports) dport)
       ∙ told (is_any dports) (is_any sports) both (has_port sports sport) (has_port sports dport) (has_port dports dport) (has_port dports sport) (λ e. none-has sports dport e) fits
 
   pub asked-udp : ports_fit sports dports both sport dport ≡ true → (is_asked side.Source sport (Some (record { proto = proto.Udp; sports = sports; dports = dports; both = both })) || is_asked side.Destination dport (Some (record { proto = proto.Udp; sports = sports; dports = dports; both = both }))) ≡ true
-  unfolding key_of stands_in
+  unfolding key_of belongs_in
   asked-udp fits =
       ap (λ b. (cond (is_any dports) (not (is_any sports)) both && b) || ((both || (not (is_any dports) || is_any sports)) && has_port (cond (is_any dports) sports dports) dport)) (lifted (is_any dports) sport)
       ∙ ap (λ b. (cond (is_any dports) (not (is_any sports)) both && cond (is_any dports) (has_port sports sport) (has_port dports sport)) || ((both || (not (is_any dports) || is_any sports)) && b)) (lifted (is_any dports) dport)
       ∙ told (is_any dports) (is_any sports) both (has_port sports sport) (has_port sports dport) (has_port dports dport) (has_port dports sport) (λ e. none-has sports dport e) fits
 
   pub asked-ip : (is_asked side.Source sport (Some (record { proto = proto.Ip; sports = sports; dports = dports; both = both })) || is_asked side.Destination dport (Some (record { proto = proto.Ip; sports = sports; dports = dports; both = both }))) ≡ true
-  unfolding key_of stands_in
+  unfolding key_of belongs_in
   asked-ip = none-has [] dport refl
 
 pub fits-due : (sports dports : List (Part (Bounds ℕ))) (both : Bool) (protocol : Proto) (carried : Body) → header_fits protocol sports dports both carried ≡ true → is_due carried (Some (record { proto = protocol; sports = sports; dports = dports; both = both })) ≡ true
@@ -110,23 +110,23 @@ module _ (rules : List Asked) (patterns : List (List ℕ)) (kind : Kind) (of : S
       P = λ bs. All (λ block. (0 < block) × (block < 131072)) bs
 
   -- what a rule that is in the index is sought at
-  asks-some : (some : Option Asked) (port : ℕ) → is_asked of port some ≡ (stands_some of some && has_key some port)
+  asks-some : (some : Option Asked) (port : ℕ) → is_asked of port some ≡ (belongs_some of some && has_key some port)
   asks-some None port = refl
   asks-some (Some asked) port = refl
 
-  pub stands-not : stands_at rules patterns kind of place ≡ false → AreSoughtAt rules patterns kind of place []
-  stands-not off = sought-none (λ port. ap (λ b. is_plain rules patterns kind place && b) (asks-some (slice_get rules place) port) ∙ no (is_plain rules patterns kind place) (stands_some of (slice_get rules place)) (has_key (slice_get rules place) port) off)
+  pub holds-not : belongs_at rules patterns kind of place ≡ false → AreSoughtAt rules patterns kind of place []
+  holds-not off = sought-none (λ port. ap (λ b. is_plain rules patterns kind place && b) (asks-some (slice_get rules place) port) ∙ no (is_plain rules patterns kind place) (belongs_some of (slice_get rules place)) (has_key (slice_get rules place) port) off)
     where
       no : (a b c : Bool) → (a && b) ≡ false → (a && (b && c)) ≡ false
       no true true c e = absurd (false≢true (sym e))
       no true false c e = refl
       no false b c e = refl
 
-  pub stands-so : (asked : Asked) (blocks : List ℕ) → slice_get rules place ≡ Some asked → stands_at rules patterns kind of place ≡ true → AddBlocks (key_of asked) 16 0 [] blocks → AreSoughtAt rules patterns kind of place blocks
-  stands-so asked blocks is on adds = sought-some (key_of asked) blocks
+  pub holds-so : (asked : Asked) (blocks : List ℕ) → slice_get rules place ≡ Some asked → belongs_at rules patterns kind of place ≡ true → AddBlocks (key_of asked) 16 0 [] blocks → AreSoughtAt rules patterns kind of place blocks
+  holds-so asked blocks is on adds = sought-some (key_of asked) blocks
       (λ port.
       ap (λ b. is_plain rules patterns kind place && b) (asks-some (slice_get rules place) port)
-      ∙ yes (is_plain rules patterns kind place) (stands_some of (slice_get rules place)) (has_key (slice_get rules place) port) on
+      ∙ yes (is_plain rules patterns kind place) (belongs_some of (slice_get rules place)) (has_key (slice_get rules place) port) on
       ∙ ap (λ o. has_key o port) is)
       adds
     where

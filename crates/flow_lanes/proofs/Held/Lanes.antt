@@ -10,7 +10,7 @@ use Rattle.std.proofs.lemmas.List.Sums.{sum_by-cons}
 use Rattle.stream5_reassembly.specs.Segments.{DirectionState}
 use Rattle.flow_lanes.specs.declared.job.Job.{Job}
 use Rattle.flow_lanes.specs.Flows.{Detection, FlowState, flow_of, same_number}
-use Rattle.flow_lanes.specs.Standing.{KeptFlow, LaneState, LanesStand, LanesState, is_in_lane, is_of_flow, kept_after, kept_of, lane_of, state_kept}
+use Rattle.flow_lanes.specs.LanesAfter.{KeptFlow, LaneState, AreAfter, LanesState, is_in_lane, is_of_flow, kept_after, kept_of, lane_of, state_kept}
 use Rattle.flow_lanes.specs.Holding.{IsLimitedJob, counted_segments, held_bytes, held_segments, in_lanes, is_seen, of_sides, seen_after, seen_of, waiting_bytes}
 use Rattle.flow_lanes.proofs.Held.Sides.{IsFew, IsIdle, counted-few, counted-idle, waiting-few, waiting-idle}
 use Rattle.flow_lanes.proofs.Held.Sessions.{HoldsFew, HoldsState, kept-after}
@@ -110,7 +110,7 @@ module _ (counted : DirectionState → ℕ) (bytes segs most : ℕ) (counts : Co
   kept-most d None seen holds = omega arith
   kept-most d (Some kept) seen holds = state-most d kept.found seen holds
 
-  module _ (d : Detection) (lanes : LanesState) (before : List Job) (stand : LanesStand d lanes before) (limited : All (IsLimitedJob d.making bytes segs) before) (flow : ℕ) where
+  module _ (d : Detection) (lanes : LanesState) (before : List Job) (hold : AreAfter d lanes before) (limited : All (IsLimitedJob d.making bytes segs) before) (flow : ℕ) where
     abbrev of_flow : List Job
     of_flow = filter (is_of_flow flow) before
 
@@ -128,7 +128,7 @@ module _ (counted : DirectionState → ℕ) (bytes segs most : ℕ) (counts : Co
         in_lane = filter (is_in_lane (length lanes.lanes) place) before
 
         kept : kept_of lane flow ≡ kept_after d (filter (is_of_flow flow) in_lane)
-        kept = (stand.each place lane is).flows flow
+        kept = (hold.each place lane is).flows flow
 
         by : (b : Bool) → (lane_of (length lanes.lanes) (Some flow) == place) ≡ b → option_map_or (of_sides counted) (kept_of lane flow) 0 ≤ cond b (cond (is_seen flow before) (2 * most) 0) 0
         by true here =
@@ -142,12 +142,12 @@ module _ (counted : DirectionState → ℕ) (bytes segs most : ℕ) (counts : Co
     flow-most =
         only-one (λ (lane : LaneState). option_map_or (of_sides counted) (kept_of lane flow) 0) lanes.lanes (lane_of (length lanes.lanes) (Some flow)) (cond (is_seen flow before) (2 * most) 0) lane-most
 
-pub bytes-few : (d : Detection) (lanes : LanesState) (before : List Job) (flow bytes segs : ℕ) → LanesStand d lanes before → All (IsLimitedJob d.making bytes segs) before
+pub bytes-few : (d : Detection) (lanes : LanesState) (before : List Job) (flow bytes segs : ℕ) → AreAfter d lanes before → All (IsLimitedJob d.making bytes segs) before
     → held_bytes lanes flow ≤ cond (is_seen flow before) (2 * bytes) 0
-bytes-few d lanes before flow bytes segs stand limited =
-    flow-most waiting_bytes bytes segs bytes (record { few = waiting-few bytes segs; none = waiting-idle }) d lanes before stand limited flow
+bytes-few d lanes before flow bytes segs hold limited =
+    flow-most waiting_bytes bytes segs bytes (record { few = waiting-few bytes segs; none = waiting-idle }) d lanes before hold limited flow
 
-pub segments-few : (d : Detection) (lanes : LanesState) (before : List Job) (flow bytes segs : ℕ) → LanesStand d lanes before → All (IsLimitedJob d.making bytes segs) before
+pub segments-few : (d : Detection) (lanes : LanesState) (before : List Job) (flow bytes segs : ℕ) → AreAfter d lanes before → All (IsLimitedJob d.making bytes segs) before
     → held_segments lanes flow ≤ cond (is_seen flow before) (2 * segs) 0
-segments-few d lanes before flow bytes segs stand limited =
-    flow-most counted_segments bytes segs segs (record { few = counted-few bytes segs; none = counted-idle }) d lanes before stand limited flow
+segments-few d lanes before flow bytes segs hold limited =
+    flow-most counted_segments bytes segs segs (record { few = counted-few bytes segs; none = counted-idle }) d lanes before hold limited flow

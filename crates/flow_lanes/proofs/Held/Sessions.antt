@@ -21,14 +21,14 @@ use Rattle.flow_lanes.specs.declared.job.Toward.{Toward}
 use Rattle.flow_lanes.specs.declared.job.Work.{Work}
 use Rattle.flow_lanes.specs.declared.job.Work.TheVariants as work
 use Rattle.flow_lanes.specs.Engines.{Making, limits_to}
-use Rattle.flow_lanes.specs.Flows.{Detection, FlowState, bits_found, session_at_hand, state_after, state_behind, steered, work_items}
+use Rattle.flow_lanes.specs.Flows.{Detection, FlowState, bits_found, session_at_hand, state_after, state_after_one, steered, work_items}
 use Rattle.flow_lanes.specs.Holding.{IsLimited, IsLimitedJob, IsLimitedWork, seen_after}
 use Rattle.flow_lanes.specs.ItemHits.{bits_after_items, hits_of}
-use Rattle.flow_lanes.specs.Items.{JobItems, finish_items, packet_items, session_behind}
+use Rattle.flow_lanes.specs.Items.{JobItems, finish_items, packet_items, session_after}
 use Rattle.flow_lanes.specs.Sessions.{Packet, Session, ack_of, after_ack, after_data, begun_session, client_at_begin, client_end, is_from_client, is_tcp, receiver, seq_of, server_at_begin, server_end, session_of, session_rules, settled, state_found, state_of, step_of, toward, with_bases}
 use Rattle.flow_lanes.specs.Sides.{side_after_ack, side_after_data, without_left}
-use Rattle.flow_lanes.specs.Sound.{FlowFacts, facts_behind}
-use Rattle.flow_lanes.specs.Standing.{KeptFlow, facts_kept, kept_behind, state_kept}
+use Rattle.flow_lanes.specs.Sound.{FlowFacts, facts_after_one}
+use Rattle.flow_lanes.specs.LanesAfter.{KeptFlow, facts_kept, kept_after_one, state_kept}
 use Rattle.flow_lanes.proofs.Sessions.ItemsOn.{state_of-tcp}
 use Rattle.flow_lanes.proofs.Held.Sides.{IsFew, IsIdle, few-idle, idle-base, idle-left, side-ack, side-base, side-data, side-left}
 
@@ -163,8 +163,8 @@ module _ (making : Making) (bytes segs : ℕ) where
     abbrev Goes : Step → Bool → Session → Type 0
     Goes step seen s = HoldsFew bytes segs s seen × (s.state.tcp ≡ false → IsQuiet step)
 
-    behind-few : (step : Step) (seen : Bool) (s : Session) → Goes step seen s → HoldsFew bytes segs (after_data p step (after_ack p step s)) seen
-    behind-few step seen s h =
+    after-few : (step : Step) (seen : Bool) (s : Session) → Goes step seen s → HoldsFew bytes segs (after_data p step (after_ack p step s)) seen
+    after-few step seen s h =
         data-few step (after_ack p step s) seen (ack-few step s seen h.0 h.1)
         (λ off. h.1 (ap (λ (state : State). state.tcp) (sym (ack-state step s)) ∙ off))
 
@@ -219,11 +219,11 @@ module _ (making : Making) (bytes segs : ℕ) where
         own : Option Session
         own = session_of making p found step (state_of making p found)
 
-        by : (b : Bool) → HoldsSession (cond b None (session_behind p step own)) seen
+        by : (b : Bool) → HoldsSession (cond b None (session_after p step own)) seen
         by true = tt
         by false =
             some-map (λ (s : Session). after_data p step (after_ack p step s)) (λ (s : Session). HoldsFew bytes segs s seen) own
-            (some-then (Goes step seen) (λ (s : Session). HoldsFew bytes segs (after_data p step (after_ack p step s)) seen) own (behind-few step seen) (session-few found was holds))
+            (some-then (Goes step seen) (λ (s : Session). HoldsFew bytes segs (after_data p step (after_ack p step s)) seen) own (after-few step seen) (session-few found was holds))
 
   -- ---- jobs
 
@@ -245,8 +245,8 @@ module _ (d : Detection) (bytes segs : ℕ) where
   steered-few hits s seen few = record { client = few.client; server = few.server; plain = few.plain; known = few.known }
 
   state-few : (found : Option FlowState) (was : Bool) (job : Job) → IsLimitedJob d.making bytes segs job → HoldsState d.making bytes segs found was
-      → HoldsState d.making bytes segs (state_behind d found job) (seen_after was job.work)
-  unfolding state_behind state_after
+      → HoldsState d.making bytes segs (state_after_one d found job) (seen_after was job.work)
+  unfolding state_after_one state_after
   state-few found was job limited holds =
       let items : JobItems = work_items d.making job.moment job.work (session_at_hand found) in
       let seen : Bool = seen_after was job.work in
@@ -260,17 +260,17 @@ module _ (d : Detection) (bytes segs : ℕ) where
       (items-few d.making bytes segs job.moment job.work (session_at_hand found) was limited (at_hand-few d.making bytes segs found was holds)))
 
   kept-few : (kept : Option KeptFlow) (was : Bool) (job : Job) → IsLimitedJob d.making bytes segs job → HoldsState d.making bytes segs (state_kept kept) was
-      → HoldsState d.making bytes segs (state_kept (kept_behind d kept job)) (seen_after was job.work)
-  kept-few kept was job limited holds = by_facts (facts_behind (facts_kept kept) job)
+      → HoldsState d.making bytes segs (state_kept (kept_after_one d kept job)) (seen_after was job.work)
+  kept-few kept was job limited holds = by_facts (facts_after_one (facts_kept kept) job)
     where
-      by_facts : (o : Option FlowFacts) → HoldsState d.making bytes segs (state_kept (option_map (λ (facts : FlowFacts). record { facts = facts; found = state_behind d (state_kept kept) job }) o)) (seen_after was job.work)
+      by_facts : (o : Option FlowFacts) → HoldsState d.making bytes segs (state_kept (option_map (λ (facts : FlowFacts). record { facts = facts; found = state_after_one d (state_kept kept) job }) o)) (seen_after was job.work)
       by_facts None = tt
       by_facts (Some facts) = state-few (state_kept kept) was job limited holds
 
   -- what is kept of a flow after some of its jobs
   pub kept-after : (jobs : List Job) (kept : Option KeptFlow) (was : Bool) → All (IsLimitedJob d.making bytes segs) jobs → HoldsState d.making bytes segs (state_kept kept) was
-      → HoldsState d.making bytes segs (state_kept (fold (kept_behind d) kept jobs)) (fold (λ seen (job : Job). seen_after seen job.work) was jobs)
+      → HoldsState d.making bytes segs (state_kept (fold (kept_after_one d) kept jobs)) (fold (λ seen (job : Job). seen_after seen job.work) was jobs)
   kept-after [] kept was limited holds = holds
   kept-after (job ∷ jobs) kept was limited holds =
-      kept-after jobs (kept_behind d kept job) (seen_after was job.work) (All-tail (IsLimitedJob d.making bytes segs) job jobs limited)
+      kept-after jobs (kept_after_one d kept job) (seen_after was job.work) (All-tail (IsLimitedJob d.making bytes segs) job jobs limited)
       (kept-few kept was job (All-head (IsLimitedJob d.making bytes segs) job jobs limited) holds)

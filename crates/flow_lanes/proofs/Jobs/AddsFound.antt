@@ -15,8 +15,8 @@ use Rattle.flow_lanes.specs.declared.job.Job.{Job}
 use Rattle.flow_lanes.specs.declared.worker.Worker.{Worker}
 use Rattle.flow_lanes.specs.Flows.{Detection, flow_of, same_flow}
 use Rattle.flow_lanes.specs.Given.{Inspection}
-use Rattle.flow_lanes.specs.Sound.{FlowFacts, IsSoundFor, facts_after, facts_behind}
-use Rattle.flow_lanes.specs.Standing.{LaneState, LanesStand, LanesState, LearnsJob, Stands, is_in_lane, known_in, known_of, lane_of}
+use Rattle.flow_lanes.specs.Sound.{FlowFacts, IsSoundFor, facts_after, facts_after_one}
+use Rattle.flow_lanes.specs.LanesAfter.{LaneState, AreAfter, LanesState, LearnsJob, IsAfter, is_in_lane, known_in, known_of, lane_of}
 use Rattle.flow_lanes.specs.Batching.{AddsFound, AreSearched, AreSoundAmong, HaveLearnt, HaveSearched, IsSearched, SearchesJob, lanes_of, numbered_out, own_jobs}
 use Rattle.flow_lanes.proofs.Jobs.AnswersOfFlow.{is_in_lane-by_class}
 use Rattle.flow_lanes.proofs.Jobs.OwnJobs.{own_jobs-more, own_jobs-of_flow}
@@ -49,10 +49,10 @@ abbrev knows : List LaneState → Job → Option FlowFacts
 knows lanes job = option_and_then (λ (lane : LaneState). known_of lane job) (slice_get lanes (lane_of (length lanes) (flow_of job)))
 
 -- lanes stand for what each of them stands for
-LanesStand-same : (d : Detection) (old new : LanesState) (before : List Job) → old.lanes ≡ new.lanes → LanesStand d old before → LanesStand d new before
-LanesStand-same d old new before is stand = record {
-  some = subst (λ (lanes : List LaneState). 0 < length lanes) is stand.some;
-  each = subst (λ (lanes : List LaneState). (place : ℕ) (lane : LaneState) → slice_get lanes place ≡ Some lane → Stands d lane (own_jobs (length lanes) place before)) is stand.each;
+AreAfter-same : (d : Detection) (old new : LanesState) (before : List Job) → old.lanes ≡ new.lanes → AreAfter d old before → AreAfter d new before
+AreAfter-same d old new before is hold = record {
+  some = subst (λ (lanes : List LaneState). 0 < length lanes) is hold.some;
+  each = subst (λ (lanes : List LaneState). (place : ℕ) (lane : LaneState) → slice_get lanes place ≡ Some lane → IsAfter d lane (own_jobs (length lanes) place before)) is hold.each;
 }
 
 -- what is found of a job goes by the earlier jobs of its lane alone
@@ -63,59 +63,59 @@ numbered_out-own all d count place job before here =
     ∙ sym (numbered_out-local all d before job)
 
 -- the lanes stand for a job more, where its own lane does
-stand-more : (d : Detection) (lanes : List LaneState) (place : ℕ) (mid next : LaneState) (job : Job) (before : List Job) → is_in_lane (length lanes) place job ≡ true → slice_get lanes place ≡ Some mid
-    → LanesStand d (among lanes) before → Stands d next (own_jobs (length lanes) place before ++ job ∷ []) → LanesStand d (among (set lanes place next)) (before ++ job ∷ [])
-stand-more d lanes place mid next job before here is_mid stand done = record {
-  some = omega (arith, length-set lanes place next, stand.some);
+hold-more : (d : Detection) (lanes : List LaneState) (place : ℕ) (mid next : LaneState) (job : Job) (before : List Job) → is_in_lane (length lanes) place job ≡ true → slice_get lanes place ≡ Some mid
+    → AreAfter d (among lanes) before → IsAfter d next (own_jobs (length lanes) place before ++ job ∷ []) → AreAfter d (among (set lanes place next)) (before ++ job ∷ [])
+hold-more d lanes place mid next job before here is_mid hold done = record {
+  some = omega (arith, length-set lanes place next, hold.some);
   each = λ p lane is.
-      subst (λ (count : ℕ). Stands d lane (own_jobs count p (before ++ job ∷ []))) (sym (length-set lanes place next)) (at_place p lane is (cases_eq p place));
+      subst (λ (count : ℕ). IsAfter d lane (own_jobs count p (before ++ job ∷ []))) (sym (length-set lanes place next)) (at_place p lane is (cases_eq p place));
 }
   where
-    at_place : (p : ℕ) (lane : LaneState) → slice_get (set lanes place next) p ≡ Some lane → (p ≡ place) ⊎ (p ≡ place → ⊥) → Stands d lane (own_jobs (length lanes) p (before ++ job ∷ []))
+    at_place : (p : ℕ) (lane : LaneState) → slice_get (set lanes place next) p ≡ Some lane → (p ≡ place) ⊎ (p ≡ place → ⊥) → IsAfter d lane (own_jobs (length lanes) p (before ++ job ∷ []))
     at_place p lane is (inl same) =
         let read : Some next ≡ Some lane =
         sym (slice_get-set_same lanes place next (slice_get_within lanes place mid is_mid)) ∙ ap (slice_get (set lanes place next)) (sym same) ∙ is in
-        subst (λ (q : ℕ). Stands d lane (own_jobs (length lanes) q (before ++ job ∷ []))) (sym same)
-        (subst (λ (js : List Job). Stands d lane js) (sym (own_jobs-more (length lanes) place before job true here))
-        (subst (λ (l : LaneState). Stands d l (own_jobs (length lanes) place before ++ job ∷ [])) (same_Some next lane read) done))
+        subst (λ (q : ℕ). IsAfter d lane (own_jobs (length lanes) q (before ++ job ∷ []))) (sym same)
+        (subst (λ (js : List Job). IsAfter d lane js) (sym (own_jobs-more (length lanes) place before job true here))
+        (subst (λ (l : LaneState). IsAfter d l (own_jobs (length lanes) place before ++ job ∷ [])) (same_Some next lane read) done))
     at_place p lane is (inr apart) =
         let other : is_in_lane (length lanes) p job ≡ false =
         ne_eqb (lane_of (length lanes) (flow_of job)) p (λ same. apart (sym same ∙ eqb-true (lane_of (length lanes) (flow_of job)) place here)) in
-        subst (λ (js : List Job). Stands d lane js) (sym (own_jobs-more (length lanes) p before job false other ∙ append-nil (own_jobs (length lanes) p before)))
-        (stand.each p lane (sym (slice_get-set_other lanes place p next apart) ∙ is))
+        subst (λ (js : List Job). IsAfter d lane js) (sym (own_jobs-more (length lanes) p before job false other ∙ append-nil (own_jobs (length lanes) p before)))
+        (hold.each p lane (sym (slice_get-set_other lanes place p next apart) ∙ is))
 
 module _ {P : Type 0} (by : Inspection P) where
   -- no job was searched
   pub searched-none : (lanes : List LaneState) → HaveSearched by lanes [] [] lanes
-  searched-none lanes old new is_old is_new means d before detects stand = record {
+  searched-none lanes old new is_old is_new means d before detects hold = record {
     right = refl;
-    stands = subst (λ (jobs : List Job). LanesStand d new jobs) (sym (append-nil before)) (LanesStand-same d old new before (is_old ∙ sym is_new) stand);
+    holds = subst (λ (jobs : List Job). AreAfter d new jobs) (sym (append-nil before)) (AreAfter-same d old new before (is_old ∙ sym is_new) hold);
   }
 
   -- a job, by its own lane
   searched-one : (lanes : List LaneState) (place : ℕ) (mid next : LaneState) (job : Job) (out : JobFound) → place ≡ lane_of (length lanes) (flow_of job) → slice_get lanes place ≡ Some mid
       → SearchesJob by mid job out next
       → HaveSearched by lanes (job ∷ []) (record { number = job.number; value = out } ∷ []) (set lanes place next)
-  searched-one lanes place mid next job out is_place is_mid searches old new is_old is_new means d before detects stand =
+  searched-one lanes place mid next job out is_place is_mid searches old new is_old is_new means d before detects hold =
       let here : is_in_lane (length lanes) place job ≡ true = eq-eqb (lane_of (length lanes) (flow_of job)) place (sym is_place) in
-      let stood : LanesStand d (among lanes) before = LanesStand-same d old (among lanes) before is_old stand in
+      let stood : AreAfter d (among lanes) before = AreAfter-same d old (among lanes) before is_old hold in
       let own : List Job = own_jobs (length lanes) place before in
       let done : IsSearched by.all d own job out next = searches means d own detects (stood.each place mid is_mid) in
       let last : record { number = job.number; value = out } ≡ numbered_out by.all d own job = ap (λ (found : JobFound). record { number = job.number; value = found }) done.right in
       record {
         right = ap (λ (o : Numbered JobFound). o ∷ []) (last ∙ numbered_out-own by.all d (length lanes) place job before here);
-        stands = LanesStand-same d (among (set lanes place next)) new (before ++ job ∷ []) (sym is_new) (stand-more d lanes place mid next job before here is_mid stood done.stands);
+        holds = AreAfter-same d (among (set lanes place next)) new (before ++ job ∷ []) (sym is_new) (hold-more d lanes place mid next job before here is_mid stood done.holds);
       }
 
   -- more jobs were searched
   searched-more : (olds mids news : List LaneState) (front jobs : List Job) (found more : List (Numbered JobFound)) → HaveSearched by olds front found mids
       → HaveSearched by mids jobs more news → HaveSearched by olds (front ++ jobs) (found ++ more) news
-  searched-more olds mids news front jobs found more one two old new is_old is_new means d before detects stand =
-      let first : AreSearched by.all d before front found (among mids) = one old (among mids) is_old refl means d before detects stand in
-      let second : AreSearched by.all d (before ++ front) jobs more new = two (among mids) new refl is_new means d (before ++ front) detects first.stands in
+  searched-more olds mids news front jobs found more one two old new is_old is_new means d before detects hold =
+      let first : AreSearched by.all d before front found (among mids) = one old (among mids) is_old refl means d before detects hold in
+      let second : AreSearched by.all d (before ++ front) jobs more new = two (among mids) new refl is_new means d (before ++ front) detects first.holds in
       record {
         right = (λ i. first.right i ++ second.right i) ∙ sym (along_from-append (numbered_out by.all d) before front jobs);
-        stands = subst (λ (js : List Job). LanesStand d new js) (append_assoc before front jobs) second.stands;
+        holds = subst (λ (js : List Job). AreAfter d new js) (append_assoc before front jobs) second.holds;
       }
 
   -- one job more
@@ -167,7 +167,7 @@ learnt-more olds mids news front jobs one two = record {
   known = λ old new is_old is_new other.
       two.known (among mids) new refl is_new other
       ∙ ap (λ (facts : Option FlowFacts). facts_after facts (filter (same_flow other) jobs)) (one.known old (among mids) is_old refl other)
-      ∙ sym (fold-append facts_behind (known_in old other) (filter (same_flow other) front) (filter (same_flow other) jobs))
+      ∙ sym (fold-append facts_after_one (known_in old other) (filter (same_flow other) front) (filter (same_flow other) jobs))
       ∙ ap (facts_after (known_in old other)) (sym (filter-append (same_flow other) front jobs));
 }
 

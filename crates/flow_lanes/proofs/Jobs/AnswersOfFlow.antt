@@ -8,7 +8,7 @@ use Rattle.edge_io.specs.Along.{IsByClass, IsLocal, along_from, told}
 use Rattle.edge_io.proofs.Along.{along_from-class, within-local}
 use Rattle.flow_lanes.specs.declared.job.Job.{Job}
 use Rattle.flow_lanes.specs.Flows.{Detection, answer, answer_tries, flow_of, hits, same_flow, same_number, tries}
-use Rattle.flow_lanes.specs.Standing.{answers_of_flow, is_in_lane, is_of_flow, lane_of}
+use Rattle.flow_lanes.specs.LanesAfter.{answers_of_flow, is_in_lane, is_of_flow, lane_of}
 
 -- an answer looks at the jobs of its own flow alone
 pub answer-local : (d : Detection) → IsLocal same_flow (answer d)

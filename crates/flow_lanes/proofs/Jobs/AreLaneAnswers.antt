@@ -6,7 +6,7 @@ use Rattle.edge_io.specs.Along.{AscendsBy, along_from}
 use Rattle.flow_lanes.specs.declared.answer.JobHits.{JobHits}
 use Rattle.flow_lanes.specs.declared.job.Job.{Job}
 use Rattle.flow_lanes.specs.Flows.{Detection, answer, flow_of, hits, same_flow}
-use Rattle.flow_lanes.specs.Standing.{AreLaneAnswers, lane_of}
+use Rattle.flow_lanes.specs.LanesAfter.{AreLaneAnswers, lane_of}
 use Rattle.flow_lanes.proofs.Jobs.AnswersJoined.{answers_joined}
 use Rattle.flow_lanes.proofs.Jobs.AnswersOfFlow.{answer-local, is_in_lane-by_class}
 

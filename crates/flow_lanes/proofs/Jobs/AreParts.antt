@@ -16,7 +16,7 @@ use Rattle.flow_lanes.specs.declared.answer.JobFound.{JobFound}
 use Rattle.flow_lanes.specs.declared.job.Job.{Job}
 use Rattle.flow_lanes.specs.declared.worker.Worker.{Worker}
 use Rattle.flow_lanes.specs.Given.{Inspection}
-use Rattle.flow_lanes.specs.Standing.{AreSoundFor, LaneState, LanesState, LearnsBatch}
+use Rattle.flow_lanes.specs.LanesAfter.{AreSoundFor, LaneState, LanesState, LearnsBatch}
 use Rattle.flow_lanes.specs.Batching.{AllGoOn, AreParts, AreSoundAmong, AreSoundIn, GoesOn, HaveLearnt, HaveSearched, lanes_of, own_jobs}
 use Rattle.flow_lanes.proofs.Jobs.HaveSearched.{AreSoundFor-in, numbers_joined, part_ascends, parts_know, parts_searched}
 

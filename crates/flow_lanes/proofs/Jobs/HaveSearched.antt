@@ -24,7 +24,7 @@ use Rattle.flow_lanes.specs.Flows.{Detection, answer, flow_of, same_flow}
 use Rattle.flow_lanes.specs.Given.{Inspection}
 use Rattle.flow_lanes.specs.Sound.{FlowFacts, IsSoundFor, facts_after}
 use Rattle.flow_lanes.specs.ItemHits.{matched_entry, told_entry}
-use Rattle.flow_lanes.specs.Standing.{AreSoundFor, DetectsBy, LaneState, LanesState, Stands, is_in_lane, known_in, known_of, lane_of, new_lane}
+use Rattle.flow_lanes.specs.LanesAfter.{AreSoundFor, DetectsBy, LaneState, LanesState, IsAfter, is_in_lane, known_in, known_of, lane_of, new_lane}
 use Rattle.flow_lanes.specs.Batching.{AreParts, AreSearched, AreSoundIn, GoesOn, HaveAnswered, HaveMatched, HaveSearched, found_of, numbered_out, own_jobs}
 use Rattle.flow_lanes.proofs.Jobs.AnswersJoined.{answers_joined}
 use Rattle.flow_lanes.proofs.Jobs.AnswersOfFlow.{answer-local, is_in_lane-by_class, tries-local}
@@ -129,16 +129,16 @@ module _ {P : Type 0} (by : Inspection P) (olds : List LaneState) (jobs : List J
       after ∙ here ∙ ap (λ facts. facts_after facts (filter (same_flow other) jobs)) (sym before)
 
   module _ (means : Means) (d : Detection) (before : List Job) (detects : DetectsBy by.finds means by.stream by.set d)
-      (stand : (place : ℕ) (lane : LaneState) → slice_get olds place ≡ Some lane → Stands d lane (own_jobs (length olds) place before)) where
+      (hold : (place : ℕ) (lane : LaneState) → slice_get olds place ≡ Some lane → IsAfter d lane (own_jobs (length olds) place before)) where
     -- the lanes stand for the batch too
-    pub parts_stand : (place : ℕ) (lane : LaneState) → slice_get news place ≡ Some lane → Stands d lane (own_jobs (length news) place (before ++ jobs))
-    parts_stand place lane is =
+    pub parts_hold : (place : ℕ) (lane : LaneState) → slice_get news place ≡ Some lane → IsAfter d lane (own_jobs (length news) place (before ++ jobs))
+    parts_hold place lane is =
         let within : place < length olds = omega (arith, are.news_count, slice_get_within news place lane is) in
         let old = slice_get-get_or olds place idle within in
         let done = are.each place (get_or olds place idle) lane (get_or parts place []) old (slice_get-get_or parts place [] (omega (arith, are.parts_count))) is in
-        let stands = (done.right means d (own_jobs (length olds) place before) detects (stand place (get_or olds place idle) old)).stands in
-        subst (λ count. Stands d lane (own_jobs count place (before ++ jobs))) (sym are.news_count)
-        (subst (λ (js : List Job). Stands d lane js) (sym (filter-append (is_in_lane (length olds) place) before jobs)) stands)
+        let holds = (done.right means d (own_jobs (length olds) place before) detects (hold place (get_or olds place idle) old)).holds in
+        subst (λ count. IsAfter d lane (own_jobs count place (before ++ jobs))) (sym are.news_count)
+        (subst (λ (js : List Job). IsAfter d lane js) (sym (filter-append (is_in_lane (length olds) place) before jobs)) holds)
 
     -- an ascending list of all answers is that of the jobs taken one by one
     pub parts_answer : 0 < length olds → AscendsBy (λ (job : Job). job.number) jobs → (merged : List (Numbered JobFound)) → IsPermutation (flat_map (λ part. part) parts) merged
@@ -153,23 +153,23 @@ module _ {P : Type 0} (by : Inspection P) (olds : List LaneState) (jobs : List J
             → get_or parts place part ≡ along_from (numbered_out by.all d) (own_jobs (length parts) place before) (own_jobs (length parts) place jobs)
         answers_at place part within =
             let inside : place < length olds = omega (arith, are.parts_count) in
-            let stands = stand place (get_or olds place idle) (slice_get-get_or olds place idle inside) in
+            let holds = hold place (get_or olds place idle) (slice_get-get_or olds place idle inside) in
             get_or_default parts place part [] within
-            ∙ ((at_place place inside).right means d (own_jobs (length olds) place before) detects stands).right
+            ∙ ((at_place place inside).right means d (own_jobs (length olds) place before) detects holds).right
             ∙ ap (λ count. along_from (numbered_out by.all d) (own_jobs count place before) (own_jobs count place jobs)) (sym are.parts_count)
 
   -- the batch is searched by its parts, merged
   pub parts_searched : 0 < length olds → AscendsBy (λ (job : Job). job.number) jobs
       → (merged : List (Numbered JobFound)) → IsPermutation (flat_map (λ part. part) parts) merged → AscendsBy (λ (out : Numbered JobFound). out.number) merged
       → HaveSearched by olds jobs merged news
-  parts_searched some ascend merged whole ascending old new is_old is_new means d before detects stand =
-      let each : (place : ℕ) (lane : LaneState) → slice_get olds place ≡ Some lane → Stands d lane (own_jobs (length olds) place before) =
-      subst (λ (lanes : List LaneState). (place : ℕ) (lane : LaneState) → slice_get lanes place ≡ Some lane → Stands d lane (own_jobs (length lanes) place before)) is_old stand.each in
+  parts_searched some ascend merged whole ascending old new is_old is_new means d before detects hold =
+      let each : (place : ℕ) (lane : LaneState) → slice_get olds place ≡ Some lane → IsAfter d lane (own_jobs (length olds) place before) =
+      subst (λ (lanes : List LaneState). (place : ℕ) (lane : LaneState) → slice_get lanes place ≡ Some lane → IsAfter d lane (own_jobs (length lanes) place before)) is_old hold.each in
       record {
         right = parts_answer means d before detects each some ascend merged whole ascending;
-        stands = record {
+        holds = record {
           some = subst (λ (lanes : List LaneState). 0 < length lanes) (sym is_new) (omega (arith, are.news_count));
-          each = subst (λ (lanes : List LaneState). (place : ℕ) (lane : LaneState) → slice_get lanes place ≡ Some lane → Stands d lane (own_jobs (length lanes) place (before ++ jobs))) (sym is_new) (parts_stand means d before detects each);
+          each = subst (λ (lanes : List LaneState). (place : ℕ) (lane : LaneState) → slice_get lanes place ≡ Some lane → IsAfter d lane (own_jobs (length lanes) place (before ++ jobs))) (sym is_new) (parts_hold means d before detects each);
         };
       }
 
@@ -189,24 +189,24 @@ module _ {P : Type 0} (by : Inspection P) (olds news : List LaneState) (jobs : L
   pub answered : by.all ≡ true → HaveSearched by olds jobs found news
       → (out : BatchOut) → out.hits ≡ map (λ (o : Numbered JobFound). o.value.hits) found → out.tries ≡ sum_by (λ (o : Numbered JobFound). o.value.tries) found
       → HaveAnswered by olds jobs out news
-  answered is searched out hits tries old new is_old is_new means d before detects stand =
-      let done : AreSearched true d before jobs found new = subst (λ (b : Bool). AreSearched b d before jobs found new) is (searched old new is_old is_new means d before detects stand) in
+  answered is searched out hits tries old new is_old is_new means d before detects hold =
+      let done : AreSearched true d before jobs found new = subst (λ (b : Bool). AreSearched b d before jobs found new) is (searched old new is_old is_new means d before detects hold) in
       record {
         hits = hits ∙ hits-found true d before jobs found done.right;
         tries = tries ∙ sum-found true d (λ (f : JobFound). f.tries) before jobs found done.right;
-        stands = done.stands;
+        holds = done.holds;
       }
 
   -- a search that tells the items that a rule matches gives the batch's matches
   pub told_matches : by.all ≡ false → HaveSearched by olds jobs found news
       → (out : Matches) → out.hits.items ≡ map (λ (o : Numbered JobFound). o.value.hits) found → out.items ≡ sum_by (λ (o : Numbered JobFound). o.value.items) found
       → out.tries ≡ sum_by (λ (o : Numbered JobFound). o.value.tries) found → HaveMatched by olds jobs out news
-  told_matches is searched out hits items tries old new is_old is_new means d before detects stand =
-      let done : AreSearched false d before jobs found new = subst (λ (b : Bool). AreSearched b d before jobs found new) is (searched old new is_old is_new means d before detects stand) in
+  told_matches is searched out hits items tries old new is_old is_new means d before detects hold =
+      let done : AreSearched false d before jobs found new = subst (λ (b : Bool). AreSearched b d before jobs found new) is (searched old new is_old is_new means d before detects hold) in
       record {
         hits = hits ∙ hits-found false d before jobs found done.right ∙ sym (map-along_from matched_entry (answer d) before jobs);
         items = items ∙ sum-found false d (λ (f : JobFound). f.items) before jobs found done.right
             ∙ sym (sym (sum-map (λ (entry : JobHits). length entry.items) (along_from (answer d) before jobs)) ∙ ap sum (map-along_from (λ (entry : JobHits). length entry.items) (answer d) before jobs));
         tries = tries ∙ sum-found false d (λ (f : JobFound). f.tries) before jobs found done.right;
-        stands = done.stands;
+        holds = done.holds;
       }

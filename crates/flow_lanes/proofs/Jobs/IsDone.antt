@@ -18,18 +18,18 @@ use Rattle.flow_lanes.specs.declared.job.Work.TheVariants as work
 use Rattle.flow_lanes.specs.Batching.{SearchesJob}
 use Rattle.flow_lanes.specs.Detecting.{Leaves, gain_of}
 use Rattle.flow_lanes.specs.Engines.{Making}
-use Rattle.flow_lanes.specs.Flows.{Detection, FlowState, all_items, flow_of, flow_state, hits, hits_in, items, same_flow, same_number, session_at_hand, state_behind, tries, work_items, bits_at_hand, bits_found}
+use Rattle.flow_lanes.specs.Flows.{Detection, FlowState, all_items, flow_of, flow_state, hits, hits_in, items, same_flow, same_number, session_at_hand, state_after_one, tries, work_items, bits_at_hand, bits_found}
 use Rattle.flow_lanes.specs.Given.{Inspection}
 use Rattle.flow_lanes.specs.Items.{JobItems, alone_items, finish_items}
 use Rattle.flow_lanes.specs.ItemHits.{hits_of, told}
 use Rattle.flow_lanes.specs.Kept.{Sets, facts_after_packet, kept_in}
 use Rattle.flow_lanes.specs.Sessions.{Packet}
-use Rattle.flow_lanes.specs.Sound.{FlowFacts, IsSoundFor, facts_behind, facts_behind_work}
-use Rattle.flow_lanes.specs.Standing.{AnswersJob, CountsTries, DetectsBy, KeptFlow, LaneState, LearnsJob, Stands, facts_kept, kept_of, state_kept}
+use Rattle.flow_lanes.specs.Sound.{FlowFacts, IsSoundFor, facts_after_one, facts_after_work}
+use Rattle.flow_lanes.specs.LanesAfter.{AnswersJob, CountsTries, DetectsBy, KeptFlow, LaneState, LearnsJob, IsAfter, facts_kept, kept_of, state_kept}
 use Rattle.flow_lanes.specs.Tried.{ByTest, SoFar, Tallied, TriesBy, candidates_of, of_job}
 use Rattle.flow_lanes.specs.Work.{CountsVisits, visits, visits_over}
 use Rattle.flow_lanes.specs.Whole.{IsDone, KeepsBy, found_for, kept_by}
-use Rattle.flow_lanes.proofs.Jobs.Stands.{HasDone-stands, Stands-finds}
+use Rattle.flow_lanes.proofs.Jobs.IsAfter.{HasDone-holds, IsAfter-finds}
 use Rattle.flow_lanes.proofs.Sessions.AreShort.{job_short}
 use Rattle.flow_lanes.proofs.ItemHits.Tried.{length-hits_of}
 
@@ -71,14 +71,14 @@ packet-facts : (moment : Moment) (flow : ℕ) (head : ItemHead) (payload : List 
     → Sets flow (Some kept) old new
     → kept.facts ≡ facts_after_packet (packet_at moment head payload to_dst to_src) (facts_kept (kept_in old flow))
     → (other : ℕ) → facts_kept (kept_in new other)
-    ≡ cond (same_number (Some other) (Some flow)) (facts_behind_work (facts_kept (kept_in old other)) moment (work.Packet flow head payload to_dst to_src)) (facts_kept (kept_in old other))
+    ≡ cond (same_number (Some other) (Some flow)) (facts_after_work (facts_kept (kept_in old other)) moment (work.Packet flow head payload to_dst to_src)) (facts_kept (kept_in old other))
 packet-facts moment flow head payload to_dst to_src old new kept sets facts =
-    sets_facts flow (Some kept) (λ f. facts_behind_work f moment (work.Packet flow head payload to_dst to_src)) old new sets (ap Some facts)
+    sets_facts flow (Some kept) (λ f. facts_after_work f moment (work.Packet flow head payload to_dst to_src)) old new sets (ap Some facts)
 
 finish-facts : (moment : Moment) (flow : ℕ) (old new : List (ℕ × KeptFlow)) → Sets flow None old new
     → (other : ℕ) → facts_kept (kept_in new other)
-    ≡ cond (same_number (Some other) (Some flow)) (facts_behind_work (facts_kept (kept_in old other)) moment (work.Finish flow)) (facts_kept (kept_in old other))
-finish-facts moment flow old new sets = sets_facts flow None (λ f. facts_behind_work f moment (work.Finish flow)) old new sets refl
+    ≡ cond (same_number (Some other) (Some flow)) (facts_after_work (facts_kept (kept_in old other)) moment (work.Finish flow)) (facts_kept (kept_in old other))
+finish-facts moment flow old new sets = sets_facts flow None (λ f. facts_after_work f moment (work.Finish flow)) old new sets refl
 
 -- the parts of what is done are those of the definition
 module _ {P : Type 0} (by : Inspection P) (making : Making) (moment : Moment) where
@@ -118,14 +118,14 @@ no_flow [] = refl
 no_flow (job ∷ before) = no_flow before
 
 -- what a job finds is what the earlier jobs of its flow leave
-found-is : (d : Detection) (old : LaneState) (before : List Job) (number : ℕ) (moment : Moment) (w : Work) → Stands d old before
+found-is : (d : Detection) (old : LaneState) (before : List Job) (number : ℕ) (moment : Moment) (w : Work) → IsAfter d old before
     → found_for old.flows w ≡ flow_state d (filter (same_flow (record { number = number; moment = moment; work = w })) before)
 unfolding flow_state
-found-is d old before number moment (work.Alone head payload) stands = ap (λ jobs. fold (state_behind d) None jobs) (sym (no_flow before))
-found-is d old before number moment (work.Packet flow head payload to_dst to_src) stands =
-    Stands-finds d old before (record { number = number; moment = moment; work = work.Packet flow head payload to_dst to_src }) flow refl stands
-found-is d old before number moment (work.Finish flow) stands =
-    Stands-finds d old before (record { number = number; moment = moment; work = work.Finish flow }) flow refl stands
+found-is d old before number moment (work.Alone head payload) holds = ap (λ jobs. fold (state_after_one d) None jobs) (sym (no_flow before))
+found-is d old before number moment (work.Packet flow head payload to_dst to_src) holds =
+    IsAfter-finds d old before (record { number = number; moment = moment; work = work.Packet flow head payload to_dst to_src }) flow refl holds
+found-is d old before number moment (work.Finish flow) holds =
+    IsAfter-finds d old before (record { number = number; moment = moment; work = work.Finish flow }) flow refl holds
 
 -- each item of a job has its rules
 length-hits_in : (trying : Trying) (given : JobItems) (state : Option FlowState) → length (hits_in trying given state) ≡ length (all_items given)
@@ -139,12 +139,12 @@ length-hits_in trying given state =
 module _ {P : Type 0} (finds : P → List ℕ → Option Span) (stream : StreamConfig) (set : Rules P) (old new : LaneState) (job : Job) (found : JobFound)
     (searches : SearchesJob (record { finds = finds; stream = stream; set = set; all = true }) old job found new) where
   pub answers-job : AnswersJob finds stream set old job found.hits new
-  answers-job means d before detects stands =
-      let is = searches means d before detects stands in
-      record { right = ap (λ (f : JobFound). f.hits) is.right; short = is.short; stands = is.stands }
+  answers-job means d before detects holds =
+      let is = searches means d before detects holds in
+      record { right = ap (λ (f : JobFound). f.hits) is.right; short = is.short; holds = is.holds }
 
   pub counts-tries : CountsTries finds stream set old job found.tries
-  counts-tries means d before detects stands = ap (λ (f : JobFound). f.tries) (searches means d before detects stands).right
+  counts-tries means d before detects holds = ap (λ (f : JobFound). f.tries) (searches means d before detects holds).right
 
 -- the lane makes items by what the definition makes them by
 abbrev making_by : LaneState → StreamConfig → Making
@@ -154,18 +154,18 @@ module _ {P : Type 0} (by : Inspection P) (old new : LaneState) (job : Job) (giv
   abbrev making : Making
   making = making_by old by.stream
 
-  one_making : (means : Means) (d : Detection) (before : List Job) → DetectsBy by.finds means by.stream by.set d → Stands d old before → making ≡ d.making
-  one_making means d before detects stands = λ i. record { flush = stands.flush i; inserts = stands.inserts i; stream = sym detects.config i }
+  one_making : (means : Means) (d : Detection) (before : List Job) → DetectsBy by.finds means by.stream by.set d → IsAfter d old before → making ≡ d.making
+  one_making means d before detects holds = λ i. record { flush = holds.flush i; inserts = holds.inserts i; stream = sym detects.config i }
 
   pub searches-job : (engines : ℕ) (facts : Option FlowFacts) (found : JobFound) → IsSoundFor engines facts job → new.flush ≡ old.flush → new.inserts ≡ old.inserts
       → found.hits.number ≡ job.number → found.hits.items ≡ given.hits → found.items ≡ given.items → found.tries ≡ given.tries → SearchesJob by old job found new
-  unfolding hits tries items state_behind
-  searches-job engines facts found sound flush inserts number told_are items_are tries_are = λ means d before detects stands.
+  unfolding hits tries items state_after_one
+  searches-job engines facts found sound flush inserts number told_are items_are tries_are = λ means d before detects holds.
       let tried : TriesBy by.finds means by.set d.trying = record { rules = detects.rules; made = detects.made; told = detects.told } in
-      let same : making ≡ d.making = one_making means d before detects stands in
+      let same : making ≡ d.making = one_making means d before detects holds in
       let keeps : KeepsBy d.trying d.making job.moment job.work old.flows new.flows =
       subst (λ (m : Making). KeepsBy d.trying m job.moment job.work old.flows new.flows) same (done.flows means d.trying tried) in
-      let at_hand = found-is d old before job.number job.moment job.work stands in
+      let at_hand = found-is d old before job.number job.moment job.work holds in
       let state : Option FlowState = flow_state d (filter (same_flow job) before) in
       let given_items : JobItems = work_items d.making job.moment job.work (session_at_hand state) in
       let hits_are : found.hits.items ≡ told by.all (hits_in d.trying given_items state) =
@@ -181,15 +181,15 @@ module _ {P : Type 0} (by : Inspection P) (old new : LaneState) (job : Job) (giv
               ∙ (λ j. candidates_of (sym detects.rules j) (all_items (work_items (same j) job.moment job.work (session_at_hand (at_hand j)))))) i;
         };
         short = job_short d engines facts before job sound;
-        stands = HasDone-stands d old job new before (record { flush = flush; inserts = inserts; flows = keeps }) stands;
+        holds = HasDone-holds d old job new before (record { flush = flush; inserts = inserts; flows = keeps }) holds;
       }
 
   -- the visits of the job are those of its items at most
   pub counts-visits : CountsVisits by.finds by.stream by.set old job given.visits
   unfolding visits items
-  counts-visits means d before detects stands =
-      let same : making ≡ d.making = one_making means d before detects stands in
-      let at_hand = found-is d old before job.number job.moment job.work stands in
+  counts-visits means d before detects holds =
+      let same : making ≡ d.making = one_making means d before detects holds in
+      let at_hand = found-is d old before job.number job.moment job.work holds in
       subst (λ (n : ℕ). given.visits ≤ n)
       (λ j. visits_over (sym detects.rules j) (all_items (work_items (same j) job.moment job.work (session_at_hand (at_hand j)))))
       (done.tallied.visits means detects.made)
@@ -197,10 +197,10 @@ module _ {P : Type 0} (by : Inspection P) (old new : LaneState) (job : Job) (giv
   pub learns-job : LearnsJob old job new
   learns-job other = by_flow (flow_of other)
     where
-      by_flow : (flow : Option ℕ) → option_and_then (λ f. facts_kept (kept_of new f)) flow ≡ fold facts_behind (option_and_then (λ f. facts_kept (kept_of old f)) flow) (cond (same_number flow (flow_of job)) (job ∷ []) [])
+      by_flow : (flow : Option ℕ) → option_and_then (λ f. facts_kept (kept_of new f)) flow ≡ fold facts_after_one (option_and_then (λ f. facts_kept (kept_of old f)) flow) (cond (same_number flow (flow_of job)) (job ∷ []) [])
       by_flow None = refl
       by_flow (Some flow) = done.facts flow ∙ by_test (same_number (Some flow) (flow_of job)) (facts_kept (kept_of old flow))
         where
-          by_test : (b : Bool) (known : Option FlowFacts) → cond b (facts_behind_work known job.moment job.work) known ≡ fold facts_behind known (cond b (job ∷ []) [])
+          by_test : (b : Bool) (known : Option FlowFacts) → cond b (facts_after_work known job.moment job.work) known ≡ fold facts_after_one known (cond b (job ∷ []) [])
           by_test true known = refl
           by_test false known = refl

@@ -3,7 +3,7 @@ use Rattle.std.proofs.Common.{◌≡◌, ℕ, ◌==◌, Bool, true, false, cond,
 use Rattle.std.specs.Map.{lookup}
 use Rattle.std.proofs.lemmas.Bool.Decides.{nat_tests}
 use Rattle.flow_lanes.specs.Kept.{Sets, kept_in}
-use Rattle.flow_lanes.specs.Standing.{KeptFlow}
+use Rattle.flow_lanes.specs.LanesAfter.{KeptFlow}
 
 same_test : (a b : ℕ) → (a == b) ≡ (b == a)
 same_test a b = grind (arith, nat_tests)
@@ -20,7 +20,7 @@ sets-from flow kept old new updates = λ other. sym (looked_up other new) ∙ up
 -- what is there where nothing was kept is what was put there
 pub put-new : (flow : ℕ) (flows : List (ℕ × KeptFlow)) (found : Option KeptFlow) (put kept : KeptFlow) → found ≡ lookup (λ key. flow == key) flows
     → kept_in flows flow ≡ None → kept ≡ unwrap_or found put → kept ≡ put
-put-new flow flows found put kept is none stands = stands ∙ ap (λ f. unwrap_or f put) (is ∙ looked_up flow flows ∙ none)
+put-new flow flows found put kept is none holds = holds ∙ ap (λ f. unwrap_or f put) (is ∙ looked_up flow flows ∙ none)
 
 -- what is set last of a flow holds
 pub sets-again : (flow : ℕ) (first last : Option KeptFlow) (old mid new : List (ℕ × KeptFlow)) → Sets flow first old mid → Sets flow last mid new → Sets flow last old new

@@ -13,8 +13,8 @@ use Rattle.flow_lanes.specs.declared.job.Job.{Job}
 use Rattle.flow_lanes.specs.declared.worker.Share.{Share}
 use Rattle.flow_lanes.specs.Flows.{flow_of, same_flow}
 use Rattle.flow_lanes.specs.Given.{Inspection}
-use Rattle.flow_lanes.specs.Sound.{IsSoundFor, facts_after, facts_behind}
-use Rattle.flow_lanes.specs.Standing.{LaneState, LearnsJob, Stands, is_in_lane, known_of, lane_of}
+use Rattle.flow_lanes.specs.Sound.{IsSoundFor, facts_after, facts_after_one}
+use Rattle.flow_lanes.specs.LanesAfter.{LaneState, LearnsJob, IsAfter, is_in_lane, known_of, lane_of}
 use Rattle.flow_lanes.specs.Batching.{AddsFound, AddsOwn, AreSoundIn, GoesOn, SearchesJob, numbered_out, own_jobs}
 use Rattle.flow_lanes.proofs.Jobs.AnswersOfFlow.{is_in_lane-by_class}
 
@@ -61,7 +61,7 @@ module _ {P : Type 0} (by : Inspection P) where
   -- a lane that has done no job
   pub GoesOn-none : (lane : LaneState) → GoesOn by lane [] [] lane
   GoesOn-none lane = record {
-    right = λ means d before detects stands. record { right = refl; stands = subst (λ jobs. Stands d lane jobs) (sym (append-nil before)) stands };
+    right = λ means d before detects holds. record { right = refl; holds = subst (λ jobs. IsAfter d lane jobs) (sym (append-nil before)) holds };
     known = λ other. refl;
     numbers = refl;
   }
@@ -71,20 +71,20 @@ module _ {P : Type 0} (by : Inspection P) where
       → SearchesJob by mid job out new → LearnsJob mid job new
       → GoesOn by old (jobs ++ job ∷ []) (outs ++ record { number = job.number; value = out } ∷ []) new
   GoesOn-more old mid new jobs outs job out done searches learns = record {
-    right = λ means d before detects stands.
-        let so_far = done.right means d before detects stands in
-        let searched = searches means d (before ++ jobs) detects so_far.stands in
+    right = λ means d before detects holds.
+        let so_far = done.right means d before detects holds in
+        let searched = searches means d (before ++ jobs) detects so_far.holds in
         let last : record { number = job.number; value = out } ≡ numbered_out by.all d (before ++ jobs) job = ap (λ (found : JobFound). record { number = job.number; value = found }) searched.right in
         record {
           right =
               ap (λ front. front ++ record { number = job.number; value = out } ∷ []) so_far.right ∙ ap (λ o. along_from (numbered_out by.all d) before jobs ++ o ∷ []) last
               ∙ sym (along_from-append (numbered_out by.all d) before jobs (job ∷ []));
-          stands = subst (λ (js : List Job). Stands d new js) (append_assoc before jobs (job ∷ [])) searched.stands;
+          holds = subst (λ (js : List Job). IsAfter d new js) (append_assoc before jobs (job ∷ [])) searched.holds;
         };
     known = λ other.
         learns other
         ∙ ap (λ facts. facts_after facts (filter (same_flow other) (job ∷ []))) (done.known other)
-        ∙ sym (fold-append facts_behind (known_of old other) (filter (same_flow other) jobs) (filter (same_flow other) (job ∷ [])))
+        ∙ sym (fold-append facts_after_one (known_of old other) (filter (same_flow other) jobs) (filter (same_flow other) (job ∷ [])))
         ∙ ap (facts_after (known_of old other)) (sym (filter-append (same_flow other) jobs (job ∷ [])));
     numbers = map-append (λ (o : Numbered JobFound). o.number) outs (record { number = job.number; value = out } ∷ [])
         ∙ ap (λ numbers. numbers ++ job.number ∷ []) done.numbers

@@ -15,7 +15,7 @@ use Rattle.stream5_sessions.specs.declared.step.Step.{Step}
 use Rattle.stream5_reassembly.specs.Segments.{DirectionState, ack_flushes, ack_place, top}
 use Rattle.rule_eval.specs.declared.item.Item.{Item}
 use Rattle.flow_lanes.specs.Engines.{Making}
-use Rattle.flow_lanes.specs.Items.{acked_items, both_sides, closing_items, finish_items, held_items, is_queued, items_told, left_items, own_items, packet_item, packet_items, session_behind, session_items, stream_items}
+use Rattle.flow_lanes.specs.Items.{acked_items, both_sides, closing_items, finish_items, held_items, is_queued, items_told, left_items, own_items, packet_item, packet_items, session_after, session_items, stream_items}
 use Rattle.flow_lanes.specs.declared.job.Job.{Job}
 use Rattle.flow_lanes.specs.declared.job.Work.{Work}
 use Rattle.flow_lanes.specs.declared.job.Work.TheVariants as work
@@ -23,7 +23,7 @@ use Rattle.flow_lanes.specs.Flows.{Detection, all_items, flow_of_work, flow_stat
 use Rattle.flow_lanes.specs.Sessions.{Packet, Session, ack_of, acked_side, session_of, settled, sizes_of, state_of, step_of}
 use Rattle.flow_lanes.specs.Sides.{Side, acked_payloads, held_payloads, left_payloads}
 use Rattle.flow_lanes.specs.Sound.{FlowFacts, HasSessions, IsSoundFor, IsSoundWork}
-use Rattle.flow_lanes.specs.Standing.{AreShort, is_stretch}
+use Rattle.flow_lanes.specs.LanesAfter.{AreShort, is_stretch}
 use Rattle.flow_lanes.specs.Streams.{flushed_payloads, item_size, parts_of, runs_of, places_below}
 
 -- a front of `most` bytes has no more
@@ -127,7 +127,7 @@ told_short : (making : Making) (p : Packet) (found : Option Session) (step : Ste
 told_short making p found step state has =
     both_short _ _
     (if_short step.ended_before (option_map_or (λ s. closing_items s p.moment) found []) [] (of_some_short (λ s. closing_items s p.moment) (λ s. closing_short s p.moment) found) none_short)
-    (session_short making p step found (session_of making p found step state) (session_behind p step (session_of making p found step state)) has)
+    (session_short making p step found (session_of making p found step state) (session_after p step (session_of making p found step state)) has)
 
 -- the items of a packet's job, and of a flow's end, are short
 pub packet_short : (making : Making) (p : Packet) (found : Option Session) → HasSessions p.head.body → AllShort (all_items (packet_items making p found))

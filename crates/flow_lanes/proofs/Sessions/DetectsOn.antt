@@ -17,10 +17,10 @@ use Rattle.flow_lanes.specs.Engines.{Making}
 use Rattle.flow_lanes.specs.Flows.{FlowState, all_items, bits_at_hand, hits_in, session_at_hand, state_after, steered}
 use Rattle.flow_lanes.specs.Given.{Inspection}
 use Rattle.flow_lanes.specs.ItemHits.{bits_after_items, hits_of, told}
-use Rattle.flow_lanes.specs.Items.{JobItems, acked_items, alone_items, finish_items, held_items, items_told, left_items, own_items, packet_items, session_behind}
+use Rattle.flow_lanes.specs.Items.{JobItems, acked_items, alone_items, finish_items, held_items, items_told, left_items, own_items, packet_items, session_after}
 use Rattle.flow_lanes.specs.Sessions.{Packet, Session, begun_session, session_of, settled, state_of, step_of, with_bases}
 use Rattle.flow_lanes.specs.Tried.{ByTest, SoFar, Tallied, Tallies, Tries, of_job, of_session}
-use Rattle.flow_lanes.specs.Working.{ended_items, items_on, sizes_behind, unless_ended}
+use Rattle.flow_lanes.specs.Working.{ended_items, items_on, sizes_after, unless_ended}
 use Rattle.flow_lanes.proofs.ItemHits.Told.{steered-told, told-none}
 use Rattle.flow_lanes.proofs.ItemHits.Tried.{tallied-new, tallies-same, tallies-then}
 
@@ -74,10 +74,10 @@ module _ (making : Making) (p : Packet) (step : Step) (state : State) (items : L
       (λ means trying tried i. hits_of trying (sym bits_are i) (sym items_are i))
 
   pub goes-on : (trying : Trying) (new : Option FlowState)
-      → (step.ends ≡ false → session_at_hand mid ≡ session_behind p step (session_of making p (session_at_hand old) step state))
+      → (step.ends ≡ false → session_at_hand mid ≡ session_after p step (session_of making p (session_at_hand old) step state))
       → Settles trying items step mid new → GoesOn trying making p step state old new
   goes-on trying new session settles =
-      let left = unless_ends step.ends (session_at_hand mid) (session_behind p step (session_of making p (session_at_hand old) step state)) session in
+      let left = unless_ends step.ends (session_at_hand mid) (session_after p step (session_of making p (session_at_hand old) step state)) session in
       settles ∙ (λ i. option_map (after_items trying (bits_are i) (items_are i)) (left i))
 
 -- after a session that ended before it, a packet begins its own or has none
@@ -108,8 +108,8 @@ bits-anew true step found fresh = by_case step.tracked step.begun (unwrap_or (bi
 told-current : (b : Bool) (making : Making) (p : Packet) (step : Step) (state : State) (found : Option FlowState) → (b ≡ true → step.begun ≡ step.tracked)
     → items_on making p step state (session_at_hand (unless_ended b found))
     ≡ (let session : Option Session = session_of making p (session_at_hand found) step state in
-    let after : Option Session = session_behind p step session in
-    let sizes : ℕ × ℕ = sizes_behind after in
+    let after : Option Session = session_after p step session in
+    let sizes : ℕ × ℕ = sizes_after after in
     (cond b [] (option_map_or (λ s. left_items s p.moment sizes) (session_at_hand found) []))
     ++ option_map_or (λ s. acked_items p step s sizes) session []
     ++ (cond step.ends (option_map_or (λ s. held_items s p.moment sizes) after []) [])
@@ -117,8 +117,8 @@ told-current : (b : Bool) (making : Making) (p : Packet) (step : Step) (state : 
 told-current false making p step state found fresh = refl
 told-current true making p step state found fresh =
     ap (λ (session : Option Session).
-    let after : Option Session = session_behind p step session in
-    let sizes : ℕ × ℕ = sizes_behind after in
+    let after : Option Session = session_after p step session in
+    let sizes : ℕ × ℕ = sizes_after after in
     [] ++ option_map_or (λ s. acked_items p step s sizes) session []
     ++ (cond step.ends (option_map_or (λ s. held_items s p.moment sizes) after []) [])
     ++ own_items making p step session after)
@@ -156,7 +156,7 @@ module _ (making : Making) (p : Packet) (found mid : Option FlowState) (step : S
       let session : session_of making p (session_at_hand mid) step state ≡ session_of making p (session_at_hand found) step state =
       ap (λ (f : Option FlowState). session_of making p (session_at_hand f) step state) left ∙ session-anew step.ended_before making p step state found anew in
       on
-      ∙ (λ i. option_map (after_items trying (bits_are i) (current-is i)) (cond {A = Option Session} step.ends None (session_behind p step (session i))))
+      ∙ (λ i. option_map (after_items trying (bits_are i) (current-is i)) (cond {A = Option Session} step.ends None (session_after p step (session i))))
       ∙ ap (λ (items : JobItems). state_after trying items found) told-is
 
 module _ {P : Type 0} (by : Inspection P) (none : SoFar) (hits : none.hits ≡ []) (items : none.items ≡ 0) (tries : none.tries ≡ 0) (visits : none.visits ≡ 0) where

@@ -16,10 +16,10 @@ use Rattle.stream5_sessions.specs.Phases.{IsBodyOf, segment_of}
 use Rattle.rule_eval.specs.declared.item.Item.{Item}
 use Rattle.flow_lanes.specs.declared.session.Stretches.{Stretches}
 use Rattle.flow_lanes.specs.Engines.{Making}
-use Rattle.flow_lanes.specs.Items.{acked_items, closing_items, facts_of, held_items, is_queued, left_items, own_items, session_behind, stream_items}
+use Rattle.flow_lanes.specs.Items.{acked_items, closing_items, facts_of, held_items, is_queued, left_items, own_items, session_after, stream_items}
 use Rattle.flow_lanes.specs.Sessions.{Packet, Session, ack_of, is_tcp, after_ack, after_data, is_from_client, seq_of, session_of, session_rules, settled, sizes_of, state_found, state_of}
 use Rattle.flow_lanes.specs.Sound.{HasSessions}
-use Rattle.flow_lanes.specs.Working.{HasNoneLeft, TellsLeft, TellsLeftAt, after_packet, item_with, items_on, maybe_items, own_facts, own_item, sizes_behind, streams_of, stretches_items, stretches_of, streams_told}
+use Rattle.flow_lanes.specs.Working.{HasNoneLeft, TellsLeft, TellsLeftAt, after_packet, item_with, items_on, maybe_items, own_facts, own_item, sizes_after, streams_of, stretches_items, stretches_of, streams_told}
 use Rattle.flow_lanes.specs.Sides.{Side, acked_payloads, left_payloads, side_after_ack, side_after_data}
 
 -- where nothing is left, no stretches tell it
@@ -138,8 +138,8 @@ closing-is session next moment sizes left old one new sizes_are left_is next_is 
 -- the streams of the packet's session, and then the packet
 streams_on : Packet → Step → Option Session → Option Session → List Item
 streams_on p step found session =
-    let after : Option Session = session_behind p step session in
-    let sizes : ℕ × ℕ = sizes_behind after in
+    let after : Option Session = session_after p step session in
+    let sizes : ℕ × ℕ = sizes_after after in
     option_map_or (λ s. left_items s p.moment sizes) found []
     ++ option_map_or (λ s. acked_items p step s sizes) session []
     ++ (cond step.ends (option_map_or (λ s. held_items s p.moment sizes) after []) [])
@@ -157,12 +157,12 @@ streams-on p step found (Some s) left told =
 
 pub items-on : (making : Making) (p : Packet) (step : Step) (state : State) (found session : Option Session) (left : Option Stretches) (queued : Bool) (own : Option SessionFacts) (old new : List Item)
     → TellsLeftAt found left → session ≡ session_of making p found step state → new ≡ old ++ streams_of p step left session → queued ≡ is_queued p step session
-    → own ≡ own_facts making.inserts p step queued (session_behind p step session) → new ++ own_item p own ≡ old ++ items_on making p step state found
+    → own ≡ own_facts making.inserts p step queued (session_after p step session) → new ++ own_item p own ≡ old ++ items_on making p step state found
 unfolding streams_on
 items-on making p step state found session left queued own old new left_is session_is pushed queued_is own_is =
-    let after : Option Session = session_behind p step session in
+    let after : Option Session = session_after p step session in
     let own_are : own_item p own ≡ own_items making p step session after =
     ap (own_item p) own_is ∙ ap (λ (q : Bool). own_item p (own_facts making.inserts p step q after)) queued_is ∙ own-is (is_queued p step session && not making.inserts) p (facts_of p step after) in
     (λ i. (pushed ∙ ap (λ (xs : List Item). old ++ xs) (streams-on p step found session left left_is)) i ++ own_are i)
     ∙ append_assoc old (streams_on p step found session) (own_items making p step session after)
-    ∙ ap (λ (s : Option Session). old ++ (streams_on p step found s ++ own_items making p step s (session_behind p step s))) session_is
+    ∙ ap (λ (s : Option Session). old ++ (streams_on p step found s ++ own_items making p step s (session_after p step s))) session_is

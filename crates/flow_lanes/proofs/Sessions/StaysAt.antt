@@ -16,7 +16,7 @@ use Rattle.flow_lanes.specs.Detecting.{GoesAt, Leaves, Settles, bits_now, gain_a
 use Rattle.flow_lanes.specs.Engines.{Making}
 use Rattle.flow_lanes.specs.Flows.{FlowState, bits_at_hand, session_at_hand}
 use Rattle.flow_lanes.specs.Given.{Inspection}
-use Rattle.flow_lanes.specs.Items.{is_queued, session_behind}
+use Rattle.flow_lanes.specs.Items.{is_queued, session_after}
 use Rattle.flow_lanes.specs.Sessions.{Packet, Session, session_of, session_rules, settled, state_of, step_of, with_bases, begun_session}
 use Rattle.flow_lanes.specs.Sides.{with_base}
 use Rattle.flow_lanes.specs.Staying.{StaysAt, StaysIn}
@@ -87,7 +87,7 @@ module _ (making : Making) (p : Packet) (before found : Option FlowState) (step 
   -- the streams that it flushes, and the packet itself
   pub staying-items : (left : Option Stretches) (queued : Bool) (own : Option SessionFacts) (old new : List Item) → left ≡ None → old ≡ []
       → new ≡ old ++ streams_of p step left (session_at_hand found) → queued ≡ is_queued p step (session_at_hand found)
-      → own ≡ own_facts making.inserts p step queued (session_behind p step (session_at_hand found)) → new ++ own_item p own ≡ items
+      → own ≡ own_facts making.inserts p step queued (session_after p step (session_at_hand found)) → new ++ own_item p own ≡ items
   staying-items left queued own old new none nothing pushed held own_is =
       items-on making p step state (session_at_hand before) (session_at_hand found) None queued own [] new stays.left stays.session_is
       (pushed ∙ (λ i. nothing i ++ streams_of p step (none i) (session_at_hand found))) held own_is
@@ -105,10 +105,10 @@ module _ (making : Making) (p : Packet) (before found : Option FlowState) (step 
     staying-gain by one two = gains-on making p step state tried before mid are bits_are by one two
 
     -- the session goes on
-    pub staying-on : (trying : Trying) (new : Option FlowState) → (step.ends ≡ false → session_at_hand mid ≡ session_behind p step (session_at_hand found))
+    pub staying-on : (trying : Trying) (new : Option FlowState) → (step.ends ≡ false → session_at_hand mid ≡ session_after p step (session_at_hand found))
         → Settles trying tried step mid new → GoesAt trying making p step before new
     staying-on trying new session settles =
-        goes-on making p step state tried before mid are bits_are trying new (λ on. session on ∙ ap (session_behind p step) stays.session_is) settles
+        goes-on making p step state tried before mid are bits_are trying new (λ on. session on ∙ ap (session_after p step) stays.session_is) settles
 
   -- no session ended before the packet
   none_ended : before ≡ unless_ended step.ended_before before

@@ -9,16 +9,16 @@ use Rattle.net_lists.specs.declared.place.Wanted.TheVariants as wanted
 use Rattle.net_lists.specs.Tokens.{Symbol, Open, Close, Comma, Not}
 use Rattle.net_lists.specs.Lists.{Rule, Operand, Item, Group, Derives, part, bracket, plain, negation, one, more, signed}
 use Rattle.net_lists.specs.Machine.{run, at, before}
-use Rattle.net_lists.proofs.Lists.Steps.{before-before, Stands, opened, ltb-opened, opened-closed, none_negated, run-word, run-open, run-not, run-close, run-comma, run-end}
+use Rattle.net_lists.proofs.Lists.Steps.{before-before, MayCome, opened, ltb-opened, opened-closed, none_negated, run-word, run-open, run-not, run-close, run-comma, run-end}
 
 -- what is read of symbols that the grammar derives: their parts, and then what follows
 abbrev pub Accepts : {B : Type 0} → (List ℕ → Option B) → Rule → Bool → List Symbol → List (Part B) → Type 0
-Accepts reads Operand sign symbols parts = (w : Wanted) (depth negated : ℕ) (rest : List Symbol) → Stands w negated sign → run reads (at w depth negated) (symbols ++ rest) ≡ before parts (run reads (at wanted.Separator depth negated) rest)
+Accepts reads Operand sign symbols parts = (w : Wanted) (depth negated : ℕ) (rest : List Symbol) → MayCome w negated sign → run reads (at w depth negated) (symbols ++ rest) ≡ before parts (run reads (at wanted.Separator depth negated) rest)
 Accepts reads Item sign symbols parts = (depth negated : ℕ) (rest : List Symbol) → ltb 0 negated ≡ sign → run reads (at wanted.Item depth negated) (symbols ++ rest) ≡ before parts (run reads (at wanted.Separator depth negated) rest)
 Accepts reads Group sign symbols parts = (depth negated : ℕ) (rest : List Symbol) → ltb 0 negated ≡ sign → run reads (at wanted.Item depth negated) (symbols ++ rest) ≡ before parts (run reads (at wanted.Separator depth negated) rest)
 
 -- a bracket, from what is read inside it
-accepts_bracket : {B : Type 0} (reads : List ℕ → Option B) (sign : Bool) (inner : List Symbol) (parts : List (Part B)) → ((depth negated : ℕ) (rest : List Symbol) → ltb 0 negated ≡ sign → run reads (at wanted.Item depth negated) (inner ++ rest) ≡ before parts (run reads (at wanted.Separator depth negated) rest)) → (w : Wanted) (depth negated : ℕ) (rest : List Symbol) → Stands w negated sign → run reads (at w depth negated) (Open ∷ ((inner ++ Close ∷ []) ++ rest)) ≡ before parts (run reads (at wanted.Separator depth negated) rest)
+accepts_bracket : {B : Type 0} (reads : List ℕ → Option B) (sign : Bool) (inner : List Symbol) (parts : List (Part B)) → ((depth negated : ℕ) (rest : List Symbol) → ltb 0 negated ≡ sign → run reads (at wanted.Item depth negated) (inner ++ rest) ≡ before parts (run reads (at wanted.Separator depth negated) rest)) → (w : Wanted) (depth negated : ℕ) (rest : List Symbol) → MayCome w negated sign → run reads (at w depth negated) (Open ∷ ((inner ++ Close ∷ []) ++ rest)) ≡ before parts (run reads (at wanted.Separator depth negated) rest)
 accepts_bracket reads sign inner parts h w depth negated rest s =
     run-open reads w depth negated sign ((inner ++ Close ∷ []) ++ rest) s
     ∙ ap (run reads (at wanted.Item (depth + 1) (opened sign negated))) (append_assoc inner (Close ∷ []) rest)
@@ -36,7 +36,7 @@ accepts_more reads sign front item first parts h i depth negated rest s =
     ∙ before-before first parts _
 
 -- a `!` and an operand
-accepts_negation : {B : Type 0} (reads : List ℕ → Option B) (operand : List Symbol) (parts : List (Part B)) → ((w : Wanted) (depth negated : ℕ) (rest : List Symbol) → Stands w negated true → run reads (at w depth negated) (operand ++ rest) ≡ before parts (run reads (at wanted.Separator depth negated) rest)) → (depth negated : ℕ) (rest : List Symbol) → ltb 0 negated ≡ false → run reads (at wanted.Item depth negated) (Not ∷ (operand ++ rest)) ≡ before parts (run reads (at wanted.Separator depth negated) rest)
+accepts_negation : {B : Type 0} (reads : List ℕ → Option B) (operand : List Symbol) (parts : List (Part B)) → ((w : Wanted) (depth negated : ℕ) (rest : List Symbol) → MayCome w negated true → run reads (at w depth negated) (operand ++ rest) ≡ before parts (run reads (at wanted.Separator depth negated) rest)) → (depth negated : ℕ) (rest : List Symbol) → ltb 0 negated ≡ false → run reads (at wanted.Item depth negated) (Not ∷ (operand ++ rest)) ≡ before parts (run reads (at wanted.Separator depth negated) rest)
 accepts_negation reads operand parts h depth negated rest s =
     let none : negated ≡ 0 = none_negated negated s in
     run-not reads depth negated (operand ++ rest)

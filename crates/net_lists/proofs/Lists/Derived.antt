@@ -9,7 +9,7 @@ use Rattle.net_lists.specs.declared.place.Wanted.TheVariants as wanted
 use Rattle.net_lists.specs.Tokens.{Symbol, Open, Close, Comma, Not, Word}
 use Rattle.net_lists.specs.Lists.{Rule, Operand, Item, Group, Derives, part, bracket, plain, negation, one, more, signed}
 use Rattle.net_lists.specs.Machine.{run, at, before}
-use Rattle.net_lists.proofs.Lists.Steps.{before_some, Stands, opened, ltb-opened, opened-closed, run-word, run-open, run-not, run-close, run-comma, run-end, run-end_wanted, run-close_wanted, run-comma_wanted, run-not_operand, run-close_outer, run-end_inner, run-word_behind, run-open_behind, run-not_behind}
+use Rattle.net_lists.proofs.Lists.Steps.{before_some, MayCome, opened, ltb-opened, opened-closed, run-word, run-open, run-not, run-close, run-comma, run-end, run-end_wanted, run-close_wanted, run-comma_wanted, run-not_operand, run-close_outer, run-end_inner, run-word_after, run-open_after, run-not_after}
 
 none_some : {A : Type 0} {x : A} → None ≡ Some x → ⊥
 none_some e = cc
@@ -63,9 +63,9 @@ module _ {B : Type 0} (reads : List ℕ → Option B) where
   closes : (most : ℕ) → Items most → (fuel : ℕ) (sign : Bool) (depth negated : ℕ) (front symbols : List Symbol) (first parts : List (Part B)) → ltb 0 negated ≡ sign → length symbols < fuel → length symbols ≤ most → Derives reads Group sign front first → run reads (at wanted.Separator (suc depth) negated) symbols ≡ Some parts → Closes sign depth negated front symbols first parts
   closes most items zero sign depth negated front symbols first parts s l m d e = absurd (omega arith)
   closes most items (suc fuel) sign depth negated front [] first parts s l m d e = absurd (none_some (sym (run-end_inner reads depth negated) ∙ e))
-  closes most items (suc fuel) sign depth negated front (Open ∷ rest) first parts s l m d e = absurd (none_some (sym (run-open_behind reads (suc depth) negated rest) ∙ e))
-  closes most items (suc fuel) sign depth negated front (Not ∷ rest) first parts s l m d e = absurd (none_some (sym (run-not_behind reads (suc depth) negated rest) ∙ e))
-  closes most items (suc fuel) sign depth negated front (Word word ∷ rest) first parts s l m d e = absurd (none_some (sym (run-word_behind reads (suc depth) negated word rest) ∙ e))
+  closes most items (suc fuel) sign depth negated front (Open ∷ rest) first parts s l m d e = absurd (none_some (sym (run-open_after reads (suc depth) negated rest) ∙ e))
+  closes most items (suc fuel) sign depth negated front (Not ∷ rest) first parts s l m d e = absurd (none_some (sym (run-not_after reads (suc depth) negated rest) ∙ e))
+  closes most items (suc fuel) sign depth negated front (Word word ∷ rest) first parts s l m d e = absurd (none_some (sym (run-word_after reads (suc depth) negated word rest) ∙ e))
   closes most items (suc fuel) sign depth negated front (Close ∷ rest) first parts s l m d e = record {
     inner = front;
     rest = rest;
@@ -83,7 +83,7 @@ module _ {B : Type 0} (reads : List ℕ → Option B) where
       (closes most items fuel sign depth negated (front ++ (Comma ∷ item.front)) item.rest (first ++ item.first) item.others s (omega (arith, item.shorter)) (omega (arith, item.shorter)) (more d item.derived) item.follows)
 
   -- a group in brackets is an operand where one is wanted
-  bracketed : (most : ℕ) → Items most → (w : Wanted) (depth negated : ℕ) (sign : Bool) (rest : List Symbol) (parts : List (Part B)) → Stands w negated sign → length rest < most → run reads (at w depth negated) (Open ∷ rest) ≡ Some parts → Begins Operand sign depth negated (Open ∷ rest) parts
+  bracketed : (most : ℕ) → Items most → (w : Wanted) (depth negated : ℕ) (sign : Bool) (rest : List Symbol) (parts : List (Part B)) → MayCome w negated sign → length rest < most → run reads (at w depth negated) (Open ∷ rest) ≡ Some parts → Begins Operand sign depth negated (Open ∷ rest) parts
   bracketed most items w depth negated sign rest parts s l e =
       let inside = opened sign negated in
       let item : Begins Item sign (suc depth) inside rest parts = subst (λ b. Begins Item b (suc depth) inside rest parts) (ltb-opened sign negated) (items (suc depth) inside rest parts l (ap (λ d. run reads (at wanted.Item d inside) rest) (sym (add-one depth)) ∙ sym (run-open reads w depth negated sign rest s) ∙ e)) in
@@ -103,20 +103,20 @@ module _ {B : Type 0} (reads : List ℕ → Option B) where
   worded : (w : Wanted) (depth negated : ℕ) (sign : Bool) (word : List ℕ) (rest : List Symbol) (parts : List (Part B)) → (read : Option B) → reads word ≡ read → option_and_then (λ bounds. before (signed sign bounds ∷ []) (run reads (at wanted.Separator depth negated) rest)) read ≡ Some parts → Begins Operand sign depth negated (Word word ∷ rest) parts
   worded w depth negated sign word rest parts None r e = absurd (none_some e)
   worded w depth negated sign word rest parts (Some bounds) r e =
-      let behind = before_some (signed sign bounds ∷ []) (run reads (at wanted.Separator depth negated) rest) parts e in
+      let after = before_some (signed sign bounds ∷ []) (run reads (at wanted.Separator depth negated) rest) parts e in
       record {
         front = Word word ∷ [];
         rest = rest;
         first = signed sign bounds ∷ [];
-        others = behind.0;
+        others = after.0;
         derived = part r;
         split = refl;
-        whole = behind.2;
-        follows = behind.1;
+        whole = after.2;
+        follows = after.1;
         shorter = omega arith;
       }
 
-  operand : (most : ℕ) → Items most → (w : Wanted) (depth negated : ℕ) (sign : Bool) (symbol : Symbol) (rest : List Symbol) (parts : List (Part B)) → Stands w negated sign → (symbol ≡ Not → ⊥) → length rest < most → run reads (at w depth negated) (symbol ∷ rest) ≡ Some parts → Begins Operand sign depth negated (symbol ∷ rest) parts
+  operand : (most : ℕ) → Items most → (w : Wanted) (depth negated : ℕ) (sign : Bool) (symbol : Symbol) (rest : List Symbol) (parts : List (Part B)) → MayCome w negated sign → (symbol ≡ Not → ⊥) → length rest < most → run reads (at w depth negated) (symbol ∷ rest) ≡ Some parts → Begins Operand sign depth negated (symbol ∷ rest) parts
   operand most items w depth negated sign Open rest parts s n l e = bracketed most items w depth negated sign rest parts s l e
   operand most items w depth negated sign Close rest parts s n l e = absurd (none_some (sym (run-close_wanted reads w depth negated sign rest s) ∙ e))
   operand most items w depth negated sign Comma rest parts s n l e = absurd (none_some (sym (run-comma_wanted reads w depth negated sign rest s) ∙ e))
@@ -153,16 +153,16 @@ module _ {B : Type 0} (reads : List ℕ → Option B) where
   }
 
   -- after a `!` an operand is wanted
-  behind_not : (most : ℕ) → Items most → (depth negated : ℕ) (rest : List Symbol) (parts : List (Part B)) → negated ≡ 0 → length rest ≤ most → run reads (at wanted.Operand depth negated) rest ≡ Some parts → Begins Operand true depth negated rest parts
-  behind_not most items depth negated [] parts z l e = absurd (none_some (sym (run-end_wanted reads wanted.Operand depth negated true (z, refl)) ∙ e))
-  behind_not most items depth negated (Not ∷ rest) parts z l e = absurd (none_some (sym (run-not_operand reads depth negated rest) ∙ e))
-  behind_not most items depth negated (symbol ∷ rest) parts z l e = operand most items wanted.Operand depth negated true symbol rest parts (z, refl) (λ same. cc) (omega arith) e
+  after_not : (most : ℕ) → Items most → (depth negated : ℕ) (rest : List Symbol) (parts : List (Part B)) → negated ≡ 0 → length rest ≤ most → run reads (at wanted.Operand depth negated) rest ≡ Some parts → Begins Operand true depth negated rest parts
+  after_not most items depth negated [] parts z l e = absurd (none_some (sym (run-end_wanted reads wanted.Operand depth negated true (z, refl)) ∙ e))
+  after_not most items depth negated (Not ∷ rest) parts z l e = absurd (none_some (sym (run-not_operand reads depth negated rest) ∙ e))
+  after_not most items depth negated (symbol ∷ rest) parts z l e = operand most items wanted.Operand depth negated true symbol rest parts (z, refl) (λ same. cc) (omega arith) e
 
   negation_at : (most : ℕ) → Items most → (depth negated : ℕ) (rest : List Symbol) (parts : List (Part B)) (none : Bool) → (negated == 0) ≡ none → length rest ≤ most → cond none (run reads (at wanted.Operand depth negated) rest) None ≡ Some parts → Begins Item (ltb 0 negated) depth negated (Not ∷ rest) parts
   negation_at most items depth negated rest parts false z l e = absurd (none_some e)
   negation_at most items depth negated rest parts true z l e =
       let zeroed : negated ≡ 0 = eqb-true negated 0 z in
-      subst (λ n. Begins Item (ltb 0 n) depth negated (Not ∷ rest) parts) (sym zeroed) (negated_item depth negated rest parts (behind_not most items depth negated rest parts zeroed l e))
+      subst (λ n. Begins Item (ltb 0 n) depth negated (Not ∷ rest) parts) (sym zeroed) (negated_item depth negated rest parts (after_not most items depth negated rest parts zeroed l e))
 
   item_at : (most : ℕ) → Items most → Items (suc most)
   item_at most items depth negated [] parts l e = absurd (none_some (sym (run-end_wanted reads wanted.Item depth negated (ltb 0 negated) refl) ∙ e))
@@ -181,9 +181,9 @@ module _ {B : Type 0} (reads : List ℕ → Option B) where
   ends (suc fuel) sign negated front [] first parts s l d e =
       let none : parts ≡ [] = some_same parts [] (sym e ∙ run-end reads negated) in
       subst (λ xs. Derives reads Group sign xs (first ++ parts)) (sym (append-nil front)) (subst (λ ps. Derives reads Group sign front (first ++ ps)) (sym none) (subst (λ ps. Derives reads Group sign front ps) (sym (append-nil first)) d))
-  ends (suc fuel) sign negated front (Open ∷ rest) first parts s l d e = absurd (none_some (sym (run-open_behind reads 0 negated rest) ∙ e))
-  ends (suc fuel) sign negated front (Not ∷ rest) first parts s l d e = absurd (none_some (sym (run-not_behind reads 0 negated rest) ∙ e))
-  ends (suc fuel) sign negated front (Word word ∷ rest) first parts s l d e = absurd (none_some (sym (run-word_behind reads 0 negated word rest) ∙ e))
+  ends (suc fuel) sign negated front (Open ∷ rest) first parts s l d e = absurd (none_some (sym (run-open_after reads 0 negated rest) ∙ e))
+  ends (suc fuel) sign negated front (Not ∷ rest) first parts s l d e = absurd (none_some (sym (run-not_after reads 0 negated rest) ∙ e))
+  ends (suc fuel) sign negated front (Word word ∷ rest) first parts s l d e = absurd (none_some (sym (run-word_after reads 0 negated word rest) ∙ e))
   ends (suc fuel) sign negated front (Close ∷ rest) first parts s l d e = absurd (none_some (sym (run-close_outer reads negated rest) ∙ e))
   ends (suc fuel) sign negated front (Comma ∷ rest) first parts s l d e =
       let item : Begins Item sign 0 negated rest parts = subst (λ b. Begins Item b 0 negated rest parts) s (items_of (suc (length rest)) 0 negated rest parts (omega arith) (sym (run-comma reads 0 negated rest) ∙ e)) in

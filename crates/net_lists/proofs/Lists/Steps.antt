@@ -11,7 +11,7 @@ use Rattle.net_lists.specs.declared.place.Wanted.{Wanted}
 use Rattle.net_lists.specs.declared.place.Wanted.TheVariants as wanted
 use Rattle.net_lists.specs.Lists.{signed}
 use Rattle.net_lists.specs.Tokens.{Symbol, Open, Close, Comma, Not, Word}
-use Rattle.net_lists.specs.Machine.{run, at, before, behind_word, behind_open, behind_close, behind_comma, behind_not, no_part, step_of, is_end}
+use Rattle.net_lists.specs.Machine.{run, at, before, after_word, after_open, after_close, after_comma, after_not, no_part, step_of, is_end}
 
 pub before-nil : {B : Type 0} (rest : Option (List (Part B))) → before [] rest ≡ rest
 before-nil None = refl
@@ -27,10 +27,10 @@ before_some parts None whole e = cc
 before_some parts (Some rest) whole e = (rest, refl, cc)
 
 -- an operand of this sign may come where this is wanted and `negated` brackets are negated
-abbrev pub Stands : Wanted → ℕ → Bool → Type 0
-Stands wanted.Item negated sign = ltb 0 negated ≡ sign
-Stands wanted.Operand negated sign = (negated ≡ 0) × (sign ≡ true)
-Stands wanted.Separator negated sign = ⊥
+abbrev pub MayCome : Wanted → ℕ → Bool → Type 0
+MayCome wanted.Item negated sign = ltb 0 negated ≡ sign
+MayCome wanted.Operand negated sign = (negated ≡ 0) × (sign ≡ true)
+MayCome wanted.Separator negated sign = ⊥
 
 -- how many brackets are negated after one that opens
 abbrev pub opened : Bool → ℕ → ℕ
@@ -43,7 +43,7 @@ ltb-opened false negated = refl
 pub none_negated : (negated : ℕ) → ltb 0 negated ≡ false → negated ≡ 0
 none_negated negated e = let h = ltb-false 0 negated e in omega (arith, h)
 
-pub opened-closed : (w : Wanted) (sign : Bool) (negated : ℕ) → Stands w negated sign → opened sign negated - 1 ≡ negated
+pub opened-closed : (w : Wanted) (sign : Bool) (negated : ℕ) → MayCome w negated sign → opened sign negated - 1 ≡ negated
 opened-closed wanted.Item true negated s = omega arith
 opened-closed wanted.Item false negated s = sym (none_negated negated s)
 opened-closed wanted.Operand true negated s = omega arith
@@ -52,8 +52,8 @@ opened-closed wanted.Separator sign negated s = absurd s
 
 module _ {B : Type 0} (reads : List ℕ → Option B) where
   -- where an operand is wanted
-  pub run-word : (w : Wanted) (depth negated : ℕ) (sign : Bool) (word : List ℕ) (rest : List Symbol) → Stands w negated sign → run reads (at w depth negated) (Word word ∷ rest) ≡ option_and_then (λ bounds. before (signed sign bounds ∷ []) (run reads (at wanted.Separator depth negated) rest)) (reads word)
-  unfolding run behind_word
+  pub run-word : (w : Wanted) (depth negated : ℕ) (sign : Bool) (word : List ℕ) (rest : List Symbol) → MayCome w negated sign → run reads (at w depth negated) (Word word ∷ rest) ≡ option_and_then (λ bounds. before (signed sign bounds ∷ []) (run reads (at wanted.Separator depth negated) rest)) (reads word)
+  unfolding run after_word
   run-word wanted.Item depth negated sign word rest s =
       elim (reads word) as (λ o. elim (option_map {U = Step B} (λ bounds. record { place = at wanted.Separator depth negated; part = Some (signed (ltb 0 negated) bounds) }) o) as (λ _. Option (List (Part B))) [ None ↦ None | Some step ↦ before (option_to_list step.part) (run reads step.place rest) ] ≡ option_and_then (λ bounds. before (signed sign bounds ∷ []) (run reads (at wanted.Separator depth negated) rest)) o) [
         | None ↦ refl
@@ -66,53 +66,53 @@ module _ {B : Type 0} (reads : List ℕ → Option B) where
       ]
   run-word wanted.Separator depth negated sign word rest s = absurd s
 
-  pub run-open : (w : Wanted) (depth negated : ℕ) (sign : Bool) (rest : List Symbol) → Stands w negated sign → run reads (at w depth negated) (Open ∷ rest) ≡ run reads (at wanted.Item (depth + 1) (opened sign negated)) rest
-  unfolding run behind_open
+  pub run-open : (w : Wanted) (depth negated : ℕ) (sign : Bool) (rest : List Symbol) → MayCome w negated sign → run reads (at w depth negated) (Open ∷ rest) ≡ run reads (at wanted.Item (depth + 1) (opened sign negated)) rest
+  unfolding run after_open
   run-open wanted.Item depth negated sign rest s = before-nil _ ∙ ap (λ b. run reads (at wanted.Item (depth + 1) (cond b (negated + 1) 0)) rest) s
   run-open wanted.Operand depth negated sign rest s = before-nil _ ∙ ap (λ b. run reads (at wanted.Item (depth + 1) (cond b (negated + 1) 0)) rest) (sym s.1)
   run-open wanted.Separator depth negated sign rest s = absurd s
 
   pub run-not : (depth negated : ℕ) (rest : List Symbol) → run reads (at wanted.Item depth negated) (Not ∷ rest) ≡ cond (negated == 0) (run reads (at wanted.Operand depth negated) rest) None
-  unfolding run behind_not
+  unfolding run after_not
   run-not depth negated rest = elim (negated == 0) as (λ b. elim (cond b (Some (no_part {B = B} (at wanted.Operand depth negated))) None) as (λ _. Option (List (Part B))) [ None ↦ None | Some step ↦ before (option_to_list step.part) (run reads step.place rest) ] ≡ cond b (run reads (at wanted.Operand depth negated) rest) None) [ true ↦ before-nil _ | false ↦ refl ]
 
   -- what may not come at a place
-  pub run-end_wanted : (w : Wanted) (depth negated : ℕ) (sign : Bool) → Stands w negated sign → run reads (at w depth negated) [] ≡ None
+  pub run-end_wanted : (w : Wanted) (depth negated : ℕ) (sign : Bool) → MayCome w negated sign → run reads (at w depth negated) [] ≡ None
   unfolding run
   run-end_wanted wanted.Item depth negated sign s = refl
   run-end_wanted wanted.Operand depth negated sign s = refl
   run-end_wanted wanted.Separator depth negated sign s = absurd s
 
-  pub run-close_wanted : (w : Wanted) (depth negated : ℕ) (sign : Bool) (rest : List Symbol) → Stands w negated sign → run reads (at w depth negated) (Close ∷ rest) ≡ None
-  unfolding run behind_close
+  pub run-close_wanted : (w : Wanted) (depth negated : ℕ) (sign : Bool) (rest : List Symbol) → MayCome w negated sign → run reads (at w depth negated) (Close ∷ rest) ≡ None
+  unfolding run after_close
   run-close_wanted wanted.Item depth negated sign rest s = refl
   run-close_wanted wanted.Operand depth negated sign rest s = refl
   run-close_wanted wanted.Separator depth negated sign rest s = absurd s
 
-  pub run-comma_wanted : (w : Wanted) (depth negated : ℕ) (sign : Bool) (rest : List Symbol) → Stands w negated sign → run reads (at w depth negated) (Comma ∷ rest) ≡ None
-  unfolding run behind_comma
+  pub run-comma_wanted : (w : Wanted) (depth negated : ℕ) (sign : Bool) (rest : List Symbol) → MayCome w negated sign → run reads (at w depth negated) (Comma ∷ rest) ≡ None
+  unfolding run after_comma
   run-comma_wanted wanted.Item depth negated sign rest s = refl
   run-comma_wanted wanted.Operand depth negated sign rest s = refl
   run-comma_wanted wanted.Separator depth negated sign rest s = absurd s
 
   pub run-not_operand : (depth negated : ℕ) (rest : List Symbol) → run reads (at wanted.Operand depth negated) (Not ∷ rest) ≡ None
-  unfolding run behind_not
+  unfolding run after_not
   run-not_operand depth negated rest = refl
 
   -- where a separator is wanted
   pub run-comma : (depth negated : ℕ) (rest : List Symbol) → run reads (at wanted.Separator depth negated) (Comma ∷ rest) ≡ run reads (at wanted.Item depth negated) rest
-  unfolding run behind_comma
+  unfolding run after_comma
   run-comma depth negated rest = before-nil _
 
   pub run-close : (depth negated : ℕ) (rest : List Symbol) → run reads (at wanted.Separator (suc depth) negated) (Close ∷ rest) ≡ run reads (at wanted.Separator depth (negated - 1)) rest
-  unfolding run behind_close
+  unfolding run after_close
   run-close depth negated rest =
       let e : suc depth - 1 ≡ depth = omega arith in
       ap (λ b. elim (cond b None (Some (no_part {B = B} (at wanted.Separator (suc depth - 1) (negated - 1))))) as (λ _. Option (List (Part B))) [ None ↦ None | Some step ↦ before (option_to_list step.part) (run reads step.place rest) ]) (eqb-suc-zero depth)
       ∙ before-nil (run reads (at wanted.Separator (suc depth - 1) (negated - 1)) rest) ∙ ap (λ d. run reads (at wanted.Separator d (negated - 1)) rest) e
 
   pub run-close_outer : (negated : ℕ) (rest : List Symbol) → run reads (at wanted.Separator 0 negated) (Close ∷ rest) ≡ None
-  unfolding run behind_close
+  unfolding run after_close
   run-close_outer negated rest = refl
 
   pub run-end : (negated : ℕ) → run reads (at wanted.Separator 0 negated) [] ≡ Some []
@@ -123,17 +123,17 @@ module _ {B : Type 0} (reads : List ℕ → Option B) where
   unfolding run
   run-end_inner depth negated = rw eqb-suc-zero refl
 
-  pub run-word_behind : (depth negated : ℕ) (word : List ℕ) (rest : List Symbol) → run reads (at wanted.Separator depth negated) (Word word ∷ rest) ≡ None
-  unfolding run behind_word
-  run-word_behind depth negated word rest = refl
+  pub run-word_after : (depth negated : ℕ) (word : List ℕ) (rest : List Symbol) → run reads (at wanted.Separator depth negated) (Word word ∷ rest) ≡ None
+  unfolding run after_word
+  run-word_after depth negated word rest = refl
 
-  pub run-open_behind : (depth negated : ℕ) (rest : List Symbol) → run reads (at wanted.Separator depth negated) (Open ∷ rest) ≡ None
-  unfolding run behind_open
-  run-open_behind depth negated rest = refl
+  pub run-open_after : (depth negated : ℕ) (rest : List Symbol) → run reads (at wanted.Separator depth negated) (Open ∷ rest) ≡ None
+  unfolding run after_open
+  run-open_after depth negated rest = refl
 
-  pub run-not_behind : (depth negated : ℕ) (rest : List Symbol) → run reads (at wanted.Separator depth negated) (Not ∷ rest) ≡ None
-  unfolding run behind_not
-  run-not_behind depth negated rest = refl
+  pub run-not_after : (depth negated : ℕ) (rest : List Symbol) → run reads (at wanted.Separator depth negated) (Not ∷ rest) ≡ None
+  unfolding run after_not
+  run-not_after depth negated rest = refl
 
   -- a symbol of any kind, from where it was read
   pub run-refused : (place : Place) (symbol : Symbol) (rest : List Symbol) → None ≡ step_of reads place symbol → run reads place (symbol ∷ rest) ≡ None

@@ -3,7 +3,7 @@ use Rattle.std.proofs.Common.{◌≡◌, ℕ, ◌<◌, min, List, Option, Some, 
 use Rattle.std.specs.Option.{option_map, option_and_then}
 use Rattle.std.proofs.lemmas.Bool.Decides.{nat_tests}
 use Rattle.std.proofs.lemmas.Int.{ints}
-use Rattle.net_lists.specs.Numbers.{whole_number, kept_in, number_in, behind_minus, number_signed, signed_number, signed_kept_in, signed_in}
+use Rattle.net_lists.specs.Numbers.{whole_number, kept_in, number_in, after_minus, number_signed, signed_number, signed_kept_in, signed_in}
 
 kept_in-min : (least most cap number : ℕ) → most < cap → kept_in least most (min number cap) ≡ kept_in least most number
 kept_in-min least most cap number h = grind (arith, nat_tests)
@@ -40,24 +40,24 @@ map-map f g None = refl
 map-map f g (Some x) = refl
 
 module _ (least most : ℤ) (cap : ℕ) (low : neg_ℤ (pos cap) <ℤ least) (high : most <ℤ pos cap) (text : List ℕ) where
-  plain : behind_minus text ≡ None → signed_in least most text ≡ option_and_then (signed_kept_in least most) (option_map pos (whole_number text))
+  plain : after_minus text ≡ None → signed_in least most text ≡ option_and_then (signed_kept_in least most) (option_map pos (whole_number text))
   unfolding signed_in signed_number
   plain e = ap (λ o. option_and_then (signed_kept_in least most) (number_signed text o)) e
 
-  behind : (digits : List ℕ) → behind_minus text ≡ Some digits → signed_in least most text ≡ option_and_then (signed_kept_in least most) (option_map (λ n. neg_ℤ (pos n)) (whole_number digits))
+  after : (digits : List ℕ) → after_minus text ≡ Some digits → signed_in least most text ≡ option_and_then (signed_kept_in least most) (option_map (λ n. neg_ℤ (pos n)) (whole_number digits))
   unfolding signed_in signed_number
-  behind digits e = ap (λ o. option_and_then (signed_kept_in least most) (number_signed text o)) e
+  after digits e = ap (λ o. option_and_then (signed_kept_in least most) (number_signed text o)) e
 
   -- a number without a sign that was read with a cap, or none
-  pub signed_in-plain : (read : Option ℕ) → None ≡ behind_minus text → read ≡ option_map (λ n. min n cap) (whole_number text) → option_and_then (signed_kept_in least most) (option_map pos read) ≡ signed_in least most text
+  pub signed_in-plain : (read : Option ℕ) → None ≡ after_minus text → read ≡ option_map (λ n. min n cap) (whole_number text) → option_and_then (signed_kept_in least most) (option_map pos read) ≡ signed_in least most text
   signed_in-plain read e r =
       ap (λ o. option_and_then (signed_kept_in least most) (option_map pos o)) r
       ∙ ap (option_and_then (signed_kept_in least most)) (map-map pos (λ n. min n cap) (whole_number text))
       ∙ positives least most cap high (whole_number text) ∙ sym (plain (sym e))
 
   -- the number after a `-`, or none
-  pub signed_in-minus : (read : Option ℕ) (digits : List ℕ) → Some digits ≡ behind_minus text → read ≡ option_map (λ n. min n cap) (whole_number digits) → option_and_then (signed_kept_in least most) (option_map (λ n. neg_ℤ (pos n)) read) ≡ signed_in least most text
+  pub signed_in-minus : (read : Option ℕ) (digits : List ℕ) → Some digits ≡ after_minus text → read ≡ option_map (λ n. min n cap) (whole_number digits) → option_and_then (signed_kept_in least most) (option_map (λ n. neg_ℤ (pos n)) read) ≡ signed_in least most text
   signed_in-minus read digits e r =
       ap (λ o. option_and_then (signed_kept_in least most) (option_map (λ n. neg_ℤ (pos n)) o)) r
       ∙ ap (option_and_then (signed_kept_in least most)) (map-map (λ n. neg_ℤ (pos n)) (λ n. min n cap) (whole_number digits))
-      ∙ negatives least most cap low (whole_number digits) ∙ sym (behind digits (sym e))
+      ∙ negatives least most cap low (whole_number digits) ∙ sym (after digits (sym e))

@@ -38,8 +38,8 @@ pieces-nil variables text place = refl
 
 module _ (variables : Variables) (text : List ℕ) (whole : Result (List ℕ) ExpandFault) (front : List ℕ) (place room : ℕ) (so_far : whole ≡ with_front front (put_together room (pieces variables text place 0 (drop place text)))) where
   -- after a piece that fits
-  pub fits_behind : (bytes : List ℕ) (next : ℕ) → pieces variables text place 0 (drop place text) ≡ Bytes bytes ∷ pieces variables text next 0 (drop next text) → length bytes ≤ room → whole ≡ with_front (front ++ bytes) (put_together (room - length bytes) (pieces variables text next 0 (drop next text)))
-  fits_behind bytes next piece fits =
+  pub fits_after : (bytes : List ℕ) (next : ℕ) → pieces variables text place 0 (drop place text) ≡ Bytes bytes ∷ pieces variables text next 0 (drop next text) → length bytes ≤ room → whole ≡ with_front (front ++ bytes) (put_together (room - length bytes) (pieces variables text next 0 (drop next text)))
+  fits_after bytes next piece fits =
       so_far ∙ ap (λ ps. with_front front (put_together room ps)) piece
       ∙ ap (with_front front) (put_together-bytes room bytes _ fits)
       ∙ with_front-with_front front bytes _
@@ -62,12 +62,12 @@ module _ (variables : Variables) (text : List ℕ) (whole : Result (List ℕ) Ex
       ∙ ap (with_front front) (put_together-nil room) ∙ ap Ok (append-nil front)
 
 -- what is kept in front stays there
-pub front_behind : (old now after bytes : List ℕ) (n : ℕ) → length old ≡ n → now ≡ old ++ drop n now → after ≡ now ++ bytes → drop n after ≡ drop n now ++ bytes
-front_behind old now after bytes n e kept more =
+pub front_after : (old now after bytes : List ℕ) (n : ℕ) → length old ≡ n → now ≡ old ++ drop n now → after ≡ now ++ bytes → drop n after ≡ drop n now ++ bytes
+front_after old now after bytes n e kept more =
     let whole : after ≡ old ++ (drop n now ++ bytes) = more ∙ ap (λ xs. xs ++ bytes) kept ∙ append_assoc old (drop n now) bytes in
     ap (drop n) whole ∙ drop_at old (drop n now ++ bytes) n e
 
-pub kept_behind : (old now after bytes : List ℕ) (n : ℕ) → length old ≡ n → now ≡ old ++ drop n now → after ≡ now ++ bytes → after ≡ old ++ drop n after
-kept_behind old now after bytes n e kept more =
+pub kept_after : (old now after bytes : List ℕ) (n : ℕ) → length old ≡ n → now ≡ old ++ drop n now → after ≡ now ++ bytes → after ≡ old ++ drop n after
+kept_after old now after bytes n e kept more =
     let whole : after ≡ old ++ (drop n now ++ bytes) = more ∙ ap (λ xs. xs ++ bytes) kept ∙ append_assoc old (drop n now) bytes in
-    whole ∙ ap (λ xs. old ++ xs) (sym (front_behind old now after bytes n e kept more))
+    whole ∙ ap (λ xs. old ++ xs) (sym (front_after old now after bytes n e kept more))

@@ -33,7 +33,7 @@ module _ (variables : Variables) (text : List ℕ) (place : ℕ) where
   -- a form is a piece, and the next begins after it
   pub pieces-form : place < length text → ((get_or text place 0 == 36) ≡ true) → (form : Form) → form_at text (place + 1) ≡ Some form → place + 1 < form.end → pieces variables text place 0 (drop place text) ≡ piece_of text form (variable_of variables text form) ∷ pieces variables text form.end 0 (drop form.end text)
   unfolding pieces
-  pieces-form within dollar form found behind =
+  pieces-form within dollar form found after =
       let e : place + 1 + (form.end - (place + 1)) ≡ form.end = omega arith in
       let more : drop (form.end - (place + 1)) (drop (place + 1) text) ≡ drop form.end text = drop-drop (form.end - (place + 1)) (place + 1) text ∙ ap (λ n. drop n text) e in
       ap (pieces variables text place 0) (here within) ∙ rw (dollar, found) refl
@@ -49,17 +49,17 @@ pub piece_of-lacking : (text : List ℕ) (form : Form) (variable : Option Variab
 piece_of-lacking text form (Some variable) e = cc
 piece_of-lacking text form None e = refl
 
-module _ (variables : Variables) (text : List ℕ) (place : ℕ) (form : Form) (within : place < length text) (dollar : get_or text place 0 ≡ 36) (found : Some form ≡ form_at text (place + 1)) (behind : place + 1 < form.end) where
+module _ (variables : Variables) (text : List ℕ) (place : ℕ) (form : Form) (within : place < length text) (dollar : get_or text place 0 ≡ 36) (found : Some form ≡ form_at text (place + 1)) (after : place + 1 < form.end) where
   -- the variable's value, where it has one
   pub pieces-value : (bytes : List ℕ) → Some bytes ≡ value_of (variable_of variables text form) → pieces variables text place 0 (drop place text) ≡ Bytes bytes ∷ pieces variables text form.end 0 (drop form.end text)
   pieces-value bytes e =
-      pieces-form variables text place within (eq-eqb _ 36 dollar) form (sym found) behind
+      pieces-form variables text place within (eq-eqb _ 36 dollar) form (sym found) after
       ∙ ap (λ p. p ∷ pieces variables text form.end 0 (drop form.end text)) (piece_of-found text form _ bytes e)
 
   -- where the variable has no value, the piece is what the form says
   pub pieces-otherwise : None ≡ value_of (variable_of variables text form) → (otherwise : Otherwise) → form.otherwise ≡ otherwise → pieces variables text place 0 (drop place text) ≡ otherwise_of text otherwise ∷ pieces variables text form.end 0 (drop form.end text)
   pieces-otherwise e otherwise o =
-      pieces-form variables text place within (eq-eqb _ 36 dollar) form (sym found) behind
+      pieces-form variables text place within (eq-eqb _ 36 dollar) form (sym found) after
       ∙ ap (λ p. p ∷ pieces variables text form.end 0 (drop form.end text)) (piece_of-lacking text form _ e ∙ ap (otherwise_of text) o)
 
 module _ (variables : Variables) (text : List ℕ) (place : ℕ) (within : place < length text) where

@@ -18,14 +18,14 @@ list_cases x xs y (suc k, within, is) = inr (k, omega arith, is)
 pub is_head : {X : Type 0} (x : X) (xs : List X) (y : X) → y ≡ x → Contains (x ∷ xs) y
 is_head x xs y same = (0, omega arith, sym same)
 
-pub is_behind : {X : Type 0} (x : X) (xs : List X) (y : X) → Contains xs y → Contains (x ∷ xs) y
-is_behind x xs y has = (suc has.0, omega (arith, has.1), has.2)
+pub is_after : {X : Type 0} (x : X) (xs : List X) (y : X) → Contains xs y → Contains (x ∷ xs) y
+is_after x xs y has = (suc has.0, omega (arith, has.1), has.2)
 
 contains_map : {X Y : Type 0} (f : X → Y) (xs : List X) (x : X) (y : Y) → Contains xs x → y ≡ f x → Contains (map f xs) y
 contains_map f [] x y has is = absurd (omega (arith, has.1))
 contains_map {X} f (z ∷ xs) x y has is = ⊎_elim
     (λ (same : x ≡ z). is_head (f z) (map f xs) y (is ∙ ap f same))
-    (λ (behind : Contains xs x). is_behind (f z) (map f xs) y (contains_map f xs x y behind is))
+    (λ (after : Contains xs x). is_after (f z) (map f xs) y (contains_map f xs x y after is))
     (list_cases z xs x has)
 
 -- a list of one, and one of none
@@ -49,7 +49,7 @@ numbers_have : (n k : ℕ) → k < n → Contains (numbers n) k
 unfolding numbers
 numbers_have zero k below = absurd (omega (arith, below))
 numbers_have (suc n) k below = ⊎_elim
-    (λ (less : k < n). is_behind n (numbers n) k (numbers_have n k less))
+    (λ (less : k < n). is_after n (numbers n) k (numbers_have n k less))
     (λ (more : n ≤ k). is_head n (numbers n) k (omega (arith, below, more)))
     (cases_lt k n)
 
@@ -106,7 +106,7 @@ module _ (X : Type 0) (P : X → Type 0) where
       pairs_have [] ys x y z has other is = absurd (omega (arith, has.1))
       pairs_have (w ∷ xs) ys x y z has other is = ⊎_elim
           (λ (same : x ≡ w). Contains-append_left (map (f w) ys) (pairs xs ys) z (contains_map (f w) ys y z other (is ∙ ap (λ (v : X). f v y) same)))
-          (λ (behind : Contains xs x). Contains-append_right (map (f w) ys) (pairs xs ys) z (pairs_have xs ys x y z behind other is))
+          (λ (after : Contains xs x). Contains-append_right (map (f w) ys) (pairs xs ys) z (pairs_have xs ys x y z after other is))
           (list_cases w xs x has)
 
       pub few_pairs : (m n : ℕ) (Q : Y → Type 0) → Few X m P → Few Y n Q → Few Z (m * n) (λ z. (x : X) × (y : Y) × P x × Q y × (z ≡ f x y))

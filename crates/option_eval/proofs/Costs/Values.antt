@@ -1,4 +1,4 @@
--- What a rule can extract from a payload: the numbers, the lists of values, and the standings after extractions.
+-- What a rule can extract from a payload: the numbers, the lists of values, and the points after extractions.
 use Rattle.std.proofs.Common.{◌≡◌, ℕ, zero, suc, ◌+◌, ◌-◌, ◌*◌, ◌<◌, ◌≤◌, ◌⊎◌, inl, inr, ⊎_elim, pos, ◌+ℤ◌, Bool, true, false, not, ◌&&◌, ◌||◌, ◌==◌, cond, List, [], ◌∷◌, length, take, drop, get_or, Option, Some, None, Contains, slice_index, slice_set, refl, sym, ap, subst, ◌∙◌, arith, unwrap_or}
 use Rattle.std.specs.Prelude.{min, All, nat_le, option_and_then}
 use Rattle.std.proofs.lemmas.Bool.{false≢true, eqb-true}
@@ -13,12 +13,12 @@ use Rattle.rule_types.specs.declared.option.Num.TheVariants as num
 use Rattle.rule_types.specs.declared.option.Opt.{Opt}
 use Rattle.rule_types.specs.declared.option.Opt.TheVariants as opt
 use Rattle.option_eval.specs.Kept.{gives, is_read, kept_value, kept_values}
-use Rattle.option_eval.specs.Numbers.{Standing, Fetched, bytes_from, bytes_number, fetched, number_of, origin, place_of, rounded_up}
+use Rattle.option_eval.specs.Numbers.{Point, Fetched, bytes_from, bytes_number, fetched, number_of, origin, place_of, rounded_up}
 use Rattle.option_eval.specs.Places.{Means, Leads, is_extract, start}
-use Rattle.option_eval.specs.Sets.{standing}
-use Rattle.option_eval.specs.Values.{is_told, place_count, number_count, extracted_count, reads_both, list_count, other_count, standings_behind, standing_count}
+use Rattle.option_eval.specs.Sets.{point}
+use Rattle.option_eval.specs.Values.{is_told, place_count, number_count, extracted_count, reads_both, list_count, other_count, points_after, point_count}
 use Rattle.option_eval.specs.Walks.{HasValues, HasEachValueList}
-use Rattle.option_eval.proofs.Costs.Few.{Few, list_cases, is_head, is_behind, few_one, few_none, few_below, few_or, few_weaker, few_as, few_min, few_map, few_pairs}
+use Rattle.option_eval.proofs.Costs.Few.{Few, list_cases, is_head, is_after, few_one, few_none, few_below, few_or, few_weaker, few_as, few_min, few_map, few_pairs}
 use Rattle.option_eval.proofs.Walks.Walking.{values_kept}
 
 -- ---- one extraction
@@ -28,17 +28,17 @@ number_in : Base → ℕ → ℕ → List ℕ → ℕ
 number_in base times align bytes = rounded_up align (unwrap_or (bytes_number base bytes) 0 * times)
 
 -- the place where a fetch begins
-place_from : Fetch → Standing → Option ℕ
+place_from : Fetch → Point → Option ℕ
 place_from fetch before = place_of (pos (origin fetch.relative before) +ℤ number_of before.values fetch.offset)
 
--- a fetch from some standing begins at this place
+-- a fetch from some point begins at this place
 record Begins (payload : List ℕ) (fetch : Fetch) (from : ℕ) : Type 0 where
-  before : Standing
+  before : Point
   at : place_from fetch before ≡ Some from
   within : from + fetch.bytes ≤ length payload
 
 -- what was fetched
-record IsFetched (payload : List ℕ) (fetch : Fetch) (before : Standing) (read : Fetched) : Type 0 where
+record IsFetched (payload : List ℕ) (fetch : Fetch) (before : Point) (read : Fetched) : Type 0 where
   from : ℕ
   begins : Begins payload fetch from
   number : unwrap_or (bytes_number fetch.base (slice payload from (from + fetch.bytes))) 0 ≡ read.number
@@ -52,7 +52,7 @@ if_some : {A : Type 0} (b : Bool) (x y : A) → cond b (Some x) None ≡ Some y 
 if_some true x y is = (refl, cc)
 if_some false x y is = cc
 
-module _ (payload : List ℕ) (fetch : Fetch) (before : Standing) (read : Fetched) where
+module _ (payload : List ℕ) (fetch : Fetch) (before : Point) (read : Fetched) where
   ending : ℕ → ℕ → Option Fetched
   ending from number = Some (record { number = number; stop = from + fetch.bytes })
 
@@ -73,7 +73,7 @@ module _ (payload : List ℕ) (fetch : Fetch) (before : Standing) (read : Fetche
 
 -- where a fetch can begin
 module _ (payload : List ℕ) (fetch : Fetch) where
-  few_at : (at : Option ℕ) → ((before : Standing) → place_from fetch before ≡ at) → Few ℕ 1 (Begins payload fetch)
+  few_at : (at : Option ℕ) → ((before : Point) → place_from fetch before ≡ at) → Few ℕ 1 (Begins payload fetch)
   few_at None always = few_weaker ℕ 0 1 (λ n. ⊥) (Begins payload fetch) (omega arith) (λ n begins. absurd (no_place n begins)) (few_none ℕ (λ n. ⊥) (λ n never. never))
     where
       no_place : (n : ℕ) → Begins payload fetch n → ⊥
@@ -93,7 +93,7 @@ module _ (payload : List ℕ) (fetch : Fetch) where
   by_offset false (num.Name name) is same = few_inside
   by_offset false (num.Value number) is same = few_at (place_of (pos 0 +ℤ number)) always
     where
-      always : (before : Standing) → place_from fetch before ≡ place_of (pos 0 +ℤ number)
+      always : (before : Point) → place_from fetch before ≡ place_of (pos 0 +ℤ number)
       always before = rw (← is, ← same) refl
 
   few_places : (name times align : ℕ) → Few ℕ (place_count (opt.ByteExtract fetch name times align) (length payload)) (Begins payload fetch)
@@ -103,7 +103,7 @@ module _ (payload : List ℕ) (fetch : Fetch) where
 
   -- what an extraction takes
   Takes : ℕ → ℕ → ℕ → Type 0
-  Takes times align x = (before : Standing) × (read : Fetched) × (fetched payload fetch before ≡ Some read) × (x ≡ rounded_up align (read.number * times))
+  Takes times align x = (before : Point) × (read : Fetched) × (fetched payload fetch before ≡ Some read) × (x ≡ rounded_up align (read.number * times))
 
   number_at : ℕ → ℕ → ℕ → ℕ
   number_at times align from = number_in fetch.base times align (slice payload from (from + fetch.bytes))
@@ -180,7 +180,7 @@ module _ (payload : List ℕ) where
       (omega (arith, sum_by-cons (λ option. cond (gives name option) (number_count option (length payload)) 0) o os))
       (λ x given. ⊎_elim
       (λ (same : given.0 ≡ o). inl (subst (λ (p : Opt). IsGivenBy name p x) same (given.2, given.3)))
-      (λ (behind : Contains os given.0). inr (given.0, behind, given.2, given.3))
+      (λ (following : Contains os given.0). inr (given.0, following, given.2, given.3))
       (list_cases o os given.0 given.1))
       (few_or ℕ here later (IsGivenBy name o) (IsGiven name os) (few_given_by bytes name o (gives name o) refl) (few_given bytes name os))
 
@@ -228,11 +228,11 @@ module _ (payload : List ℕ) (all : List Opt) where
     other = had.other;
   }
 
-  values_next : (means : Means) (o : Opt) → Contains all o → (before after : Standing) → AreValues before.values → Leads means payload o before after → AreValues after.values
+  values_next : (means : Means) (o : Opt) → Contains all o → (before after : Point) → AreValues before.values → Leads means payload o before after → AreValues after.values
   unfolding Leads Takes
   values_next means (opt.ByteExtract fetch name times align) at before after had leads =
       let x = rounded_up align (leads.0.number * times) in
-      subst AreValues (sym (ap (λ (s : Standing). s.values) leads.2)) (set_values fetch name times align at before.values x had (before, leads.0, leads.1, refl))
+      subst AreValues (sym (ap (λ (s : Point). s.values) leads.2)) (set_values fetch name times align at before.values x had (before, leads.0, leads.1, refl))
   values_next means o at before after had leads = subst AreValues (sym (values_kept means payload o before after refl leads)) had
 
   -- ---- the lists of values
@@ -316,15 +316,15 @@ module _ (payload : List ℕ) (all : List Opt) where
           (few_map ℕ (IsValue 0) (List ℕ) (1 + a) (λ x. x ∷ 0 ∷ []) (few_values bytes 0))
           (few_map ℕ (IsGiven payload 1 all) (List ℕ) b (λ y. 0 ∷ y ∷ []) (few_given payload bytes 1 all)))
 
-  -- ---- the standings after extractions
+  -- ---- the points after extractions
 
   module _ (means : Means) where
-    IsBehindOne : Opt → List Opt → Standing → Type 0
-    IsBehindOne o later s = (is_extract o ≡ true) × (before : Standing) × (after : Standing) × AreValues before.values × Leads means payload o before after × (s ≡ standing (kept_values later after.values) after.place)
+    IsAfterOne : Opt → List Opt → Point → Type 0
+    IsAfterOne o later s = (is_extract o ≡ true) × (before : Point) × (after : Point) × AreValues before.values × Leads means payload o before after × (s ≡ point (kept_values later after.values) after.place)
 
-    IsBehind : List Opt → Standing → Type 0
-    IsBehind [] s = ⊥
-    IsBehind (o ∷ os) s = IsBehindOne o os s ⊎ IsBehind os s
+    IsAfter : List Opt → Point → Type 0
+    IsAfter [] s = ⊥
+    IsAfter (o ∷ os) s = IsAfterOne o os s ⊎ IsAfter os s
 
     -- a value that a name can have besides, where it counts, else 0
     IsOther : Bool → ℕ → ℕ → Type 0
@@ -376,8 +376,8 @@ module _ (payload : List ℕ) (all : List Opt) where
       Others : List ℕ → Type 0
       Others others = (x : ℕ) × (y : ℕ) × IsOther (counts 0) 0 x × IsOther (counts 1) 1 y × (others ≡ x ∷ y ∷ [])
 
-      at_place_with : ℕ → List ℕ → Standing
-      at_place_with from others = standing (left (number_at payload fetch times align from) others) (from + fetch.bytes)
+      at_place_with : ℕ → List ℕ → Point
+      at_place_with from others = point (left (number_at payload fetch times align from) others) (from + fetch.bytes)
 
       left_is : (first second x : ℕ) → kept_values later (slice_set (first ∷ second ∷ []) name x) ≡ left x (cond (counts 0) first 0 ∷ cond (counts 1) second 0 ∷ [])
       unfolding left
@@ -387,73 +387,73 @@ module _ (payload : List ℕ) (all : List Opt) where
           ∙ ap (λ (v : ℕ). v ∷ cond (is_read 1 later) (cond (name == 1) x second) 0 ∷ []) (kept_same (is_read 0 later) (name == 0) x first)
           ∙ ap (λ (v : ℕ). cond (is_read 0 later) (cond (name == 0) x (cond (counts 0) first 0)) 0 ∷ v ∷ []) (kept_same (is_read 1 later) (name == 1) x second)
 
-      Placed : Standing → Type 0
+      Placed : Point → Type 0
       Placed s = (from : ℕ) × (others : List ℕ) × Begins payload fetch from × Others others × (s ≡ at_place_with from others)
 
-      behind_placed : (s : Standing) → IsBehindOne o later s → Placed s
-      unfolding IsBehindOne Placed Others at_place_with number_at number_in Leads
-      behind_placed s behind =
-          let before = behind.1 in
-          let had = behind.3 in
-          let leads = behind.4 in
+      after_placed : (s : Point) → IsAfterOne o later s → Placed s
+      unfolding IsAfterOne Placed Others at_place_with number_at number_in Leads
+      after_placed s following =
+          let before = following.1 in
+          let had = following.3 in
+          let leads = following.4 in
           let got = is_fetched payload fetch before leads.0 leads.1 in
           let x = rounded_up align (leads.0.number * times) in
           let number : number_at payload fetch times align got.from ≡ x = ap (λ (n : ℕ). rounded_up align (n * times)) got.number in
           let others = cond (counts 0) had.first 0 ∷ cond (counts 1) had.second 0 ∷ [] in
-          let values = ap (λ (t : Standing). t.values) leads.2 ∙ ap (λ (v : List ℕ). slice_set v name x) had.are in
-          let place = ap (λ (t : Standing). t.place) leads.2 ∙ got.stop in (
+          let values = ap (λ (t : Point). t.values) leads.2 ∙ ap (λ (v : List ℕ). slice_set v name x) had.are in
+          let place = ap (λ (t : Point). t.place) leads.2 ∙ got.stop in (
             got.from,
             others,
             got.begins,
             (cond (counts 0) had.first 0, cond (counts 1) had.second 0, is_other 0 had.first (counts 0) had.one, is_other 1 had.second (counts 1) had.other, refl),
-            behind.5 ∙ ap (λ (v : List ℕ). standing (kept_values later v) behind.2.place) values
-                ∙ ap (λ (v : List ℕ). standing v behind.2.place) (left_is had.first had.second x)
-                ∙ ap (λ (p : ℕ). standing (left x others) p) place
-                ∙ ap (λ (n : ℕ). standing (left n others) (got.from + fetch.bytes)) (sym number),
+            following.5 ∙ ap (λ (v : List ℕ). point (kept_values later v) following.2.place) values
+                ∙ ap (λ (v : List ℕ). point v following.2.place) (left_is had.first had.second x)
+                ∙ ap (λ (p : ℕ). point (left x others) p) place
+                ∙ ap (λ (n : ℕ). point (left n others) (got.from + fetch.bytes)) (sym number),
           )
 
-      few_placed : All (λ byte. byte < 256) payload → Few Standing (place_count o (length payload) * (other_count 0 o later all (length payload) * other_count 1 o later all (length payload))) (IsBehindOne o later)
+      few_placed : All (λ byte. byte < 256) payload → Few Point (place_count o (length payload) * (other_count 0 o later all (length payload) * other_count 1 o later all (length payload))) (IsAfterOne o later)
       unfolding Placed Others
       few_placed bytes =
           let places = place_count o (length payload) in
           let one = other_count 0 o later all (length payload) in
           let other = other_count 1 o later all (length payload) in
-          few_weaker Standing (places * (one * other)) (places * (one * other)) Placed (IsBehindOne o later) (omega arith) behind_placed
-          (few_pairs ℕ (Begins payload fetch) (List ℕ) Standing at_place_with places (one * other) Others (few_places payload fetch name times align)
+          few_weaker Point (places * (one * other)) (places * (one * other)) Placed (IsAfterOne o later) (omega arith) after_placed
+          (few_pairs ℕ (Begins payload fetch) (List ℕ) Point at_place_with places (one * other) Others (few_places payload fetch name times align)
           (few_pairs ℕ (IsOther (counts 0) 0) ℕ (List ℕ) (λ x y. x ∷ y ∷ []) one other (IsOther (counts 1) 1) (few_others bytes 0 (counts 0)) (few_others bytes 1 (counts 1))))
 
-    few_behind_one : All (λ byte. byte < 256) payload → (o : Opt) (later : List Opt) → Few Standing (place_count o (length payload) * (other_count 0 o later all (length payload) * other_count 1 o later all (length payload))) (IsBehindOne o later)
-    unfolding IsBehindOne
-    few_behind_one bytes (opt.ByteExtract fetch name times align) later = few_placed fetch name times align later bytes
-    few_behind_one bytes o later = few_as Standing (IsBehindOne o later) 0 (0 * (other_count 0 o later all (length payload) * other_count 1 o later all (length payload))) (omega arith) (few_none Standing (IsBehindOne o later) (λ s behind. false≢true behind.0))
+    few_after_one : All (λ byte. byte < 256) payload → (o : Opt) (later : List Opt) → Few Point (place_count o (length payload) * (other_count 0 o later all (length payload) * other_count 1 o later all (length payload))) (IsAfterOne o later)
+    unfolding IsAfterOne
+    few_after_one bytes (opt.ByteExtract fetch name times align) later = few_placed fetch name times align later bytes
+    few_after_one bytes o later = few_as Point (IsAfterOne o later) 0 (0 * (other_count 0 o later all (length payload) * other_count 1 o later all (length payload))) (omega arith) (few_none Point (IsAfterOne o later) (λ s following. false≢true following.0))
 
-    few_behind : All (λ byte. byte < 256) payload → (options : List Opt) → Few Standing (standings_behind all options (length payload)) (IsBehind options)
-    unfolding IsBehind
-    few_behind bytes [] = few_none Standing (λ s. ⊥) (λ s never. never)
-    few_behind bytes (o ∷ os) =
-        few_or Standing (place_count o (length payload) * (other_count 0 o os all (length payload) * other_count 1 o os all (length payload))) (standings_behind all os (length payload)) (IsBehindOne o os) (IsBehind os) (few_behind_one bytes o os) (few_behind bytes os)
+    few_after : All (λ byte. byte < 256) payload → (options : List Opt) → Few Point (points_after all options (length payload)) (IsAfter options)
+    unfolding IsAfter
+    few_after bytes [] = few_none Point (λ s. ⊥) (λ s never. never)
+    few_after bytes (o ∷ os) =
+        few_or Point (place_count o (length payload) * (other_count 0 o os all (length payload) * other_count 1 o os all (length payload))) (points_after all os (length payload)) (IsAfterOne o os) (IsAfter os) (few_after_one bytes o os) (few_after bytes os)
 
     -- ---- all of it
 
-    has_values : (lists : List (List ℕ)) (listed : List Standing) (options : List Opt) → ((o : Opt) → Contains options o → Contains all o)
-        → ((v : List ℕ) → IsKept options v → Contains lists v) → ((s : Standing) → IsBehind options s → Contains listed s)
-        → (before : Standing) → AreValues before.values → HasValues means payload lists (Some listed) options before
-    unfolding IsKept IsBehind IsBehindOne
-    has_values lists listed [] among kept behind before had = tt
-    has_values lists listed (o ∷ os) among kept behind before had = λ after leads.
+    has_values : (lists : List (List ℕ)) (listed : List Point) (options : List Opt) → ((o : Opt) → Contains options o → Contains all o)
+        → ((v : List ℕ) → IsKept options v → Contains lists v) → ((s : Point) → IsAfter options s → Contains listed s)
+        → (before : Point) → AreValues before.values → HasValues means payload lists (Some listed) options before
+    unfolding IsKept IsAfter IsAfterOne
+    has_values lists listed [] among kept following before had = tt
+    has_values lists listed (o ∷ os) among kept following before had = λ after leads.
         let next = values_next means o (among o (is_head o os o refl)) before after had leads in (
           kept (kept_values os after.values) (inl (after.values, next, refl)),
-          λ extracts. behind (standing (kept_values os after.values) after.place) (inl (extracts, before, after, had, leads, refl)),
-          has_values lists listed os (λ p has. among p (is_behind o os p has)) (λ v later. kept v (inr later)) (λ s later. behind s (inr later)) after next,
+          λ extracts. following (point (kept_values os after.values) after.place) (inl (extracts, before, after, had, leads, refl)),
+          has_values lists listed os (λ p has. among p (is_after o os p has)) (λ v later. kept v (inr later)) (λ s later. following s (inr later)) after next,
         )
 
 pub values_few : (means : Means) (payload : List ℕ) (options : List Opt) → All (λ byte. byte < 256) payload
-    → (lists : List (List ℕ)) × (listed : List Standing) × HasEachValueList means payload options lists (Some listed)
-    × (length lists ≤ list_count options (length payload)) × (length listed ≤ standing_count options (length payload))
-unfolding standing_count
+    → (lists : List (List ℕ)) × (listed : List Point) × HasEachValueList means payload options lists (Some listed)
+    × (length lists ≤ list_count options (length payload)) × (length listed ≤ point_count options (length payload))
+unfolding point_count
 values_few means payload options bytes =
     let lists = few_lists payload options bytes in
-    let listed = few_behind payload options means bytes options in (
+    let listed = few_after payload options means bytes options in (
       lists.items,
       listed.items,
       (

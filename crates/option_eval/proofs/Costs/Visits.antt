@@ -8,15 +8,15 @@ use Rattle.std.proofs.lemmas.Bool.Decides.{nat_tests}
 use Rattle.std.proofs.lemmas.List.Sums.{sum_by-cons}
 use Rattle.std.proofs.lemmas.Nat.{mul-le}
 use Rattle.rule_types.specs.declared.option.Opt.{Opt}
-use Rattle.option_eval.specs.Numbers.{Standing}
+use Rattle.option_eval.specs.Numbers.{Point}
 use Rattle.option_eval.specs.Places.{Means, is_payload_option, is_extract, start}
-use Rattle.option_eval.specs.Values.{extracted_count, reads_both, list_count, standing_count, most_visits}
-use Rattle.option_eval.specs.Walks.{HasValues, HasEachValueList, visits_of, visits_apart, part_standings}
+use Rattle.option_eval.specs.Values.{extracted_count, reads_both, list_count, point_count, most_visits}
+use Rattle.option_eval.specs.Walks.{HasValues, HasEachValueList, visits_of, visits_apart, part_points}
 use Rattle.option_eval.proofs.Costs.Values.{values_few}
 use Rattle.option_eval.proofs.Walks.Walking.{visits_next}
 
 -- where nothing is listed, the lists alone are asked
-pub unlisted : (means : Means) (payload : List ℕ) (lists : List (List ℕ)) (listed : List Standing) (options : List Opt) (before : Standing)
+pub unlisted : (means : Means) (payload : List ℕ) (lists : List (List ℕ)) (listed : List Point) (options : List Opt) (before : Point)
     → HasValues means payload lists (Some listed) options before → HasValues means payload lists None options before
 unlisted means payload lists listed [] before has = tt
 unlisted means payload lists listed (o ∷ os) before has = λ after leads.
@@ -39,26 +39,26 @@ both_ways old now a b one other = ⊎_elim (λ (less : a < b). omega (arith, les
 module _ (means : Means) (payload : List ℕ) (options : List Opt) (old now : ℕ) where
   -- the two bounds by lists of values, as bounds by the options and the length alone
   abbrev Together : Type 0
-  Together = (lists : List (List ℕ)) (listed : List Standing) → HasEachValueList means payload options lists (Some listed) → length listed ≤ part_standings
+  Together = (lists : List (List ℕ)) (listed : List Point) → HasEachValueList means payload options lists (Some listed) → length listed ≤ part_points
       → now ≤ old + length lists * visits_of options (length payload)
 
   abbrev Apart : Type 0
   Apart = (lists : List (List ℕ)) → HasEachValueList means payload options lists None → now ≤ old + visits_apart (length lists) options (length payload)
 
-  module _ (lists : List (List ℕ)) (listed : List Standing) (has : HasEachValueList means payload options lists (Some listed))
-      (few : length lists ≤ list_count options (length payload)) (few_listed : length listed ≤ standing_count options (length payload)) where
+  module _ (lists : List (List ℕ)) (listed : List Point) (has : HasEachValueList means payload options lists (Some listed))
+      (few : length lists ≤ list_count options (length payload)) (few_listed : length listed ≤ point_count options (length payload)) where
     in_parts : Apart → now ≤ old + visits_apart (list_count options (length payload)) options (length payload)
     in_parts apart =
         let once = apart lists (has.0, unlisted means payload lists listed options start has.1) in
         omega (arith, once, apart_more (length lists) (list_count options (length payload)) options (length payload) few)
 
-    at_once : Together → standing_count options (length payload) ≤ part_standings → now ≤ old + list_count options (length payload) * visits_of options (length payload)
+    at_once : Together → point_count options (length payload) ≤ part_points → now ≤ old + list_count options (length payload) * visits_of options (length payload)
     at_once together fits =
         let once = together lists listed has (omega (arith, few_listed, fits)) in
         let each = visits_of options (length payload) in
         omega (arith, once, mul-le (length lists) each (list_count options (length payload)) each few (omega arith))
 
-    by_count : (b : Bool) → nat_le (standing_count options (length payload)) part_standings ≡ b → Together → Apart
+    by_count : (b : Bool) → nat_le (point_count options (length payload)) part_points ≡ b → Together → Apart
         → now ≤ old + cond b (min (list_count options (length payload) * visits_of options (length payload)) (visits_apart (list_count options (length payload)) options (length payload))) (visits_apart (list_count options (length payload)) options (length payload))
     by_count true is together apart =
         both_ways old now (list_count options (length payload) * visits_of options (length payload)) (visits_apart (list_count options (length payload)) options (length payload)) (at_once together (grind (arith, nat_tests, is))) (in_parts apart)
@@ -68,7 +68,7 @@ module _ (means : Means) (payload : List ℕ) (options : List Opt) (old now : �
   unfolding most_visits
   visits_few bytes together apart =
       let few = values_few means payload options bytes in
-      by_count few.0 few.1 few.2 few.3 few.4 (nat_le (standing_count options (length payload)) part_standings) refl together apart
+      by_count few.0 few.1 few.2 few.3 few.4 (nat_le (point_count options (length payload)) part_points) refl together apart
 
 -- ---- in closed form
 
@@ -114,5 +114,5 @@ most_is false x y m less = less
 pub visits_closed : (options : List Opt) (size : ℕ) → most_visits options size ≤ list_count options size ^ count_by is_extract options * visits_of options size
 unfolding most_visits
 visits_closed options size =
-    most_is (nat_le (standing_count options size) part_standings) (list_count options size * visits_of options size) (visits_apart (list_count options size) options size) (list_count options size ^ count_by is_extract options * visits_of options size)
+    most_is (nat_le (point_count options size) part_points) (list_count options size * visits_of options size) (visits_apart (list_count options size) options size) (list_count options size ^ count_by is_extract options * visits_of options size)
     (apart_closed (list_count options size) options size (one_list options size))

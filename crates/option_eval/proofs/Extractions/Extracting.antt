@@ -6,11 +6,11 @@ use Rattle.rule_types.specs.declared.option.Fetch.{Fetch}
 use Rattle.rule_types.specs.declared.option.Opt.{Opt}
 use Rattle.rule_types.specs.declared.option.Opt.TheVariants as opt
 use Rattle.option_eval.specs.Kept.{kept_values}
-use Rattle.option_eval.specs.Numbers.{Standing, Fetched, fetched, rounded_up}
+use Rattle.option_eval.specs.Numbers.{Point, Fetched, fetched, rounded_up}
 use Rattle.option_eval.specs.Places.{Means, Leads}
-use Rattle.option_eval.specs.Sets.{standing}
+use Rattle.option_eval.specs.Sets.{point}
 use Rattle.option_eval.specs.States.{places_at, MatchesFromSome, HaveValues, Leaves}
-use Rattle.option_eval.specs.Walks.{MatchesFrom, MatchesFromOne, IsListed, HasValues, behind_extraction}
+use Rattle.option_eval.specs.Walks.{MatchesFrom, MatchesFromOne, IsListed, HasValues, after_extraction}
 use Rattle.option_eval.specs.declared.states.States.{States}
 use Rattle.option_eval.proofs.Sets.Asking.{split, contains_head, contains_later, asked_is}
 use Rattle.option_eval.proofs.Extractions.Forgetting.{Alike, alike_sym, alike_kept, matches_alike, has_values_alike}
@@ -19,62 +19,62 @@ use Rattle.option_eval.proofs.Extractions.Stating.{some_added, some_kept, some_n
 use Rattle.option_eval.proofs.Walks.Walking.{way_next, next_way, move_free, extract_none, extract_some}
 
 pub contains_one : (x p : ℕ) → Contains (x ∷ []) p → p ≡ x
-contains_one x p has = ⊎_elim (λ (same : p ≡ x). same) (λ (behind : Contains [] p). absurd (contains_nil p behind)) (contains_cases x [] p has)
+contains_one x p has = ⊎_elim (λ (same : p ≡ x). same) (λ (after : Contains [] p). absurd (contains_nil p after)) (contains_cases x [] p has)
 
 module _ (means : Means) (payload : List ℕ) (fetch : Fetch) (name times align : ℕ) (later : List Opt) (values : List ℕ) (place : ℕ) where
   -- nothing is fetched
-  pub leaves_none : None ≡ fetched payload fetch (standing values place) → (states : States) → Leaves means payload (opt.ByteExtract fetch name times align ∷ later) values (place ∷ []) states states
+  pub leaves_none : None ≡ fetched payload fetch (point values place) → (states : States) → Leaves means payload (opt.ByteExtract fetch name times align ∷ later) values (place ∷ []) states states
   leaves_none none states = record {
     sound = λ m. inl m;
     kept = λ m. m;
-    complete = λ m. absurd (extract_none means payload fetch name times align later values place none (subst (λ (p : ℕ). MatchesFrom means payload (opt.ByteExtract fetch name times align ∷ later) (standing values p)) (contains_one place m.0 m.1) m.2));
+    complete = λ m. absurd (extract_none means payload fetch name times align later values place none (subst (λ (p : ℕ). MatchesFrom means payload (opt.ByteExtract fetch name times align ∷ later) (point values p)) (contains_one place m.0 m.1) m.2));
     have = λ lists listed each old. old;
   }
 
   -- a number is fetched
-  module _ (read : Fetched) (behind : List ℕ) (some : Some read ≡ fetched payload fetch (standing values place)) (two : length values ≡ 2)
-      (kept : behind ≡ kept_values later (slice_set values name (rounded_up align (read.number * times))))
-      (old new : States) (added : (q : List ℕ) → places_at new q ≡ cond (bytes_eq behind q) (Some (unwrap_or (places_at old behind) [] ++ read.stop ∷ [])) (places_at old q)) where
+  module _ (read : Fetched) (after : List ℕ) (some : Some read ≡ fetched payload fetch (point values place)) (two : length values ≡ 2)
+      (kept : after ≡ kept_values later (slice_set values name (rounded_up align (read.number * times))))
+      (old new : States) (added : (q : List ℕ) → places_at new q ≡ cond (bytes_eq after q) (Some (unwrap_or (places_at old after) [] ++ read.stop ∷ [])) (places_at old q)) where
     abbrev full : List ℕ
     full = slice_set values name (rounded_up align (read.number * times))
 
-    same : Alike later full behind
+    same : Alike later full after
     same = subst (λ (v : List ℕ). Alike later full v) (sym kept) (alike_kept later full (length-set values name (rounded_up align (read.number * times)) ∙ two))
 
-    leads : Leads means payload (opt.ByteExtract fetch name times align) (standing values place) (standing full read.stop)
+    leads : Leads means payload (opt.ByteExtract fetch name times align) (point values place) (point full read.stop)
     unfolding Leads
     leads = (read, sym some, refl)
 
-    up : MatchesFrom means payload later (standing behind read.stop) → MatchesFrom means payload (opt.ByteExtract fetch name times align ∷ later) (standing values place)
-    up m = (extract_some means payload fetch name times align later values place read full some refl).1 (read.stop, contains_first read.stop [], matches_alike means payload later behind full read.stop (alike_sym later full behind same) m)
+    up : MatchesFrom means payload later (point after read.stop) → MatchesFrom means payload (opt.ByteExtract fetch name times align ∷ later) (point values place)
+    up m = (extract_some means payload fetch name times align later values place read full some refl).1 (read.stop, contains_first read.stop [], matches_alike means payload later after full read.stop (alike_sym later full after same) m)
 
-    down : MatchesFrom means payload (opt.ByteExtract fetch name times align ∷ later) (standing values place) → MatchesFrom means payload later (standing behind read.stop)
+    down : MatchesFrom means payload (opt.ByteExtract fetch name times align ∷ later) (point values place) → MatchesFrom means payload later (point after read.stop)
     down m =
         let there = (extract_some means payload fetch name times align later values place read full some refl).0 m in
-        matches_alike means payload later full behind read.stop same (subst (λ (p : ℕ). MatchesFrom means payload later (standing full p)) (contains_one read.stop there.0 there.1) there.2)
+        matches_alike means payload later full after read.stop same (subst (λ (p : ℕ). MatchesFrom means payload later (point full p)) (contains_one read.stop there.0 there.1) there.2)
 
     pub leaves_some : Leaves means payload (opt.ByteExtract fetch name times align ∷ later) values (place ∷ []) old new
     leaves_some = record {
-      sound = λ m. ⊎_elim (λ (before : MatchesFromSome means payload later old). inl before) (λ (here : MatchesFrom means payload later (standing behind read.stop)). inr (place, contains_first place [], up here))
-          (some_added old new behind read.stop added (λ v p. MatchesFrom means payload later (standing v p)) m);
-      kept = λ m. some_kept old new behind read.stop added (λ v p. MatchesFrom means payload later (standing v p)) m;
-      complete = λ m. some_new old new behind read.stop added (λ v p. MatchesFrom means payload later (standing v p))
-          (down (subst (λ (p : ℕ). MatchesFrom means payload (opt.ByteExtract fetch name times align ∷ later) (standing values p)) (contains_one place m.0 m.1) m.2));
+      sound = λ m. ⊎_elim (λ (before : MatchesFromSome means payload later old). inl before) (λ (here : MatchesFrom means payload later (point after read.stop)). inr (place, contains_first place [], up here))
+          (some_added old new after read.stop added (λ v p. MatchesFrom means payload later (point v p)) m);
+      kept = λ m. some_kept old new after read.stop added (λ v p. MatchesFrom means payload later (point v p)) m;
+      complete = λ m. some_new old new after read.stop added (λ v p. MatchesFrom means payload later (point v p))
+          (down (subst (λ (p : ℕ). MatchesFrom means payload (opt.ByteExtract fetch name times align ∷ later) (point values p)) (contains_one place m.0 m.1) m.2));
       have = λ lists listed each before.
-          let here = each place (contains_first place []) (standing full read.stop) leads in
-          each_added old new behind read.stop added (Contains lists) (λ v p. IsListed listed v p × HasValues means payload lists listed later (standing v p)) before
+          let here = each place (contains_first place []) (point full read.stop) leads in
+          each_added old new after read.stop added (Contains lists) (λ v p. IsListed listed v p × HasValues means payload lists listed later (point v p)) before
           (subst (λ (v : List ℕ). Contains lists v) (sym kept) here.0)
-          (subst (λ (v : List ℕ). IsListed listed v read.stop) (sym kept) (here.1 refl), has_values_alike means payload lists listed later full behind read.stop same here.2);
+          (subst (λ (v : List ℕ). IsListed listed v read.stop) (sym kept) (here.1 refl), has_values_alike means payload lists listed later full after read.stop same here.2);
     }
 
 -- the places before the rest were asked
 pub record AskedFrom (means : Means) (payload : List ℕ) (options : List Opt) (values places rest : List ℕ) (old new : States) : Type 0 where
-  pub sound : MatchesFromSome means payload (behind_extraction options) new → MatchesFromSome means payload (behind_extraction options) old ⊎ MatchesFromOne means payload options values places
-  pub kept : MatchesFromSome means payload (behind_extraction options) old → MatchesFromSome means payload (behind_extraction options) new
+  pub sound : MatchesFromSome means payload (after_extraction options) new → MatchesFromSome means payload (after_extraction options) old ⊎ MatchesFromOne means payload options values places
+  pub kept : MatchesFromSome means payload (after_extraction options) old → MatchesFromSome means payload (after_extraction options) new
   pub within : (p : ℕ) → Contains rest p → Contains places p
-  pub complete : (p : ℕ) → Contains places p → MatchesFrom means payload options (standing values p) → MatchesFromSome means payload (behind_extraction options) new ⊎ Contains rest p
-  pub have : (lists : List (List ℕ)) (listed : Option (List Standing)) → ((p : ℕ) → Contains places p → HasValues means payload lists listed options (standing values p))
-      → HaveValues means payload lists listed (behind_extraction options) old → HaveValues means payload lists listed (behind_extraction options) new
+  pub complete : (p : ℕ) → Contains places p → MatchesFrom means payload options (point values p) → MatchesFromSome means payload (after_extraction options) new ⊎ Contains rest p
+  pub have : (lists : List (List ℕ)) (listed : Option (List Point)) → ((p : ℕ) → Contains places p → HasValues means payload lists listed options (point values p))
+      → HaveValues means payload lists listed (after_extraction options) old → HaveValues means payload lists listed (after_extraction options) new
 
 module _ (means : Means) (payload : List ℕ) (options : List Opt) (values places : List ℕ) where
   pub asked_none : (states : States) → AskedFrom means payload options values places places states states
@@ -90,15 +90,15 @@ module _ (means : Means) (payload : List ℕ) (options : List Opt) (values place
       → AskedFrom means payload options values places (take (length rest - 1) (drop 1 rest)) old new
   asked_next rest old now new some before next = record {
     sound = λ m. ⊎_elim before.sound
-        (λ (here : MatchesFromOne means payload options values (get_or rest 0 0 ∷ [])). inr (get_or rest 0 0, first_in, subst (λ (p : ℕ). MatchesFrom means payload options (standing values p)) (contains_one (get_or rest 0 0) here.0 here.1) here.2))
+        (λ (here : MatchesFromOne means payload options values (get_or rest 0 0 ∷ [])). inr (get_or rest 0 0, first_in, subst (λ (p : ℕ). MatchesFrom means payload options (point values p)) (contains_one (get_or rest 0 0) here.0 here.1) here.2))
         (next.sound m);
     kept = λ m. next.kept (before.kept m);
     within = λ p has. before.within p (contains_later rest p some has);
     complete = λ p has m. ⊎_elim
-        (λ (done : MatchesFromSome means payload (behind_extraction options) now). inl (next.kept done))
+        (λ (done : MatchesFromSome means payload (after_extraction options) now). inl (next.kept done))
         (λ (left : Contains rest p). ⊎_elim
-        (λ (same : p ≡ get_or rest 0 0). inl (next.complete (get_or rest 0 0, contains_first (get_or rest 0 0) [], subst (λ (x : ℕ). MatchesFrom means payload options (standing values x)) same m)))
-        (λ (behind : Contains (take (length rest - 1) (drop 1 rest)) p). inr behind)
+        (λ (same : p ≡ get_or rest 0 0). inl (next.complete (get_or rest 0 0, contains_first (get_or rest 0 0) [], subst (λ (x : ℕ). MatchesFrom means payload options (point values x)) same m)))
+        (λ (after : Contains (take (length rest - 1) (drop 1 rest)) p). inr after)
         (contains_cases (get_or rest 0 0) (take (length rest - 1) (drop 1 rest)) p (subst (λ (xs : List ℕ). Contains xs p) (split rest some) left)))
         (before.complete p has m);
     have = λ lists listed each have. next.have lists listed (λ p has. each p (subst (λ (x : ℕ). Contains places x) (sym (contains_one (get_or rest 0 0) p has)) first_in)) (before.have lists listed each have);
@@ -110,7 +110,7 @@ module _ (means : Means) (payload : List ℕ) (options : List Opt) (values place
   asked_all rest old new empty h = record {
     sound = h.sound;
     kept = h.kept;
-    complete = λ m. ⊎_elim (λ (done : MatchesFromSome means payload (behind_extraction options) new). done) (λ (left : Contains rest m.0). absurd (omega (arith, left.1))) (h.complete m.0 m.1 m.2);
+    complete = λ m. ⊎_elim (λ (done : MatchesFromSome means payload (after_extraction options) new). done) (λ (left : Contains rest m.0). absurd (omega (arith, left.1))) (h.complete m.0 m.1 m.2);
     have = h.have;
   }
 
@@ -131,6 +131,6 @@ module _ (means : Means) (payload : List ℕ) (fetch : Fetch) (name times align 
     from true fixed places some is m = (m.0, subst (λ (xs : List ℕ). Contains xs m.0) (sym is) m.1, m.2)
     from false fixed [] some is m = absurd (omega arith)
     from false fixed (p ∷ places) some is m =
-        let next = way_next means payload (opt.ByteExtract fetch name times align) later (standing values m.0) m.2 in
+        let next = way_next means payload (opt.ByteExtract fetch name times align) later (point values m.0) m.2 in
         let here = move_free means payload (opt.ByteExtract fetch name times align) values m.0 p next.0 refl (sym fixed) next.1 in
-        (p, subst (λ (xs : List ℕ). Contains xs p) (sym is) (contains_first p []), next_way means payload (opt.ByteExtract fetch name times align) later (standing values p) next.0 here next.2)
+        (p, subst (λ (xs : List ℕ). Contains xs p) (sym is) (contains_first p []), next_way means payload (opt.ByteExtract fetch name times align) later (point values p) next.0 here next.2)

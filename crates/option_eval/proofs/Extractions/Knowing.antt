@@ -10,7 +10,7 @@ use Rattle.option_eval.specs.Kinds.{is_relative, is_test, needs_place}
 use Rattle.option_eval.specs.Known.{known_at, is_free, LeadsAlike, IsKnown, AreKnown, AreRising}
 use Rattle.option_eval.specs.Next.{next_set, IsForAll, RisesTo}
 use Rattle.option_eval.specs.Places.{Means, is_extract}
-use Rattle.option_eval.specs.Sets.{standing, IsRising, IsGot, Gathers, IsLedTo, LeadsFrom}
+use Rattle.option_eval.specs.Sets.{point, IsRising, IsGot, Gathers, IsLedTo, LeadsFrom}
 use Rattle.option_eval.specs.declared.known.Known.{Known}
 use Rattle.option_eval.specs.declared.next.Next.{Next}
 use Rattle.option_eval.specs.declared.next.Next.TheVariants as next
@@ -77,8 +77,8 @@ module _ (means : Means) (payload : List ℕ) (o : Opt) (plain : is_extract o �
           record {
             sound = λ q has.
                 let from = found.sound q has in
-                (y, Contains-get_or places' 0 0 some', other_values vs ws two two' y q (move_free means payload o vs from.0 y (standing vs q) (sym is) fixed from.2));
-            complete = λ q to. found.complete q (x, Contains-get_or places 0 0 some, other_values ws vs two' two x q (move_free means payload o ws to.0 x (standing ws q) (sym is) fixed to.2));
+                (y, Contains-get_or places' 0 0 some', other_values vs ws two two' y q (move_free means payload o vs from.0 y (point vs q) (sym is) fixed from.2));
+            complete = λ q to. found.complete q (x, Contains-get_or places 0 0 some, other_values ws vs two' two x q (move_free means payload o ws to.0 x (point ws q) (sym is) fixed to.2));
           }
 
 -- numbers of options that follow, one below the other, differ
@@ -121,11 +121,11 @@ known_taken means payload os old taken take h =
     known_below means payload os old taken (λ other below. take other ∙ cond_false (other == length os) None (known_at old other) (apart_from other (length os) (inl below))) h
 
 -- a turn: what is known of one option is taken, what is known of the options after it changes, and it is put back
-module _ (taken behind kept : Known) (old : Known) (left : ℕ) (next : Next) (free : Type 0)
+module _ (taken after kept : Known) (old : Known) (left : ℕ) (next : Next) (free : Type 0)
     (take : (other : ℕ) → known_at taken other ≡ cond (other == left) None (known_at old other))
-    (others : (other : ℕ) → left ≤ other → known_at behind other ≡ known_at taken other)
-    (keeps : (other : ℕ) → (other == left) ≡ false → known_at kept other ≡ known_at behind other)
-    (own : (known_at kept left ≡ known_at behind left) ⊎ (free × (known_at kept left ≡ Some next))) where
+    (others : (other : ℕ) → left ≤ other → known_at after other ≡ known_at taken other)
+    (keeps : (other : ℕ) → (other == left) ≡ false → known_at kept other ≡ known_at after other)
+    (own : (known_at kept left ≡ known_at after left) ⊎ (free × (known_at kept left ≡ Some next))) where
   taken_other : (other : ℕ) → (other == left) ≡ false → known_at taken other ≡ known_at old other
   taken_other other apart = take other ∙ cond_false (other == left) None (known_at old other) apart
 
@@ -133,7 +133,7 @@ module _ (taken behind kept : Known) (old : Known) (left : ℕ) (next : Next) (f
   taken_own = take left ∙ cond_true (left == left) None (known_at old left) (own_left left)
 
   pub turn_own : (known_at kept left ≡ None) ⊎ (free × (known_at kept left ≡ Some next))
-  turn_own = ⊎_elim (λ (same : known_at kept left ≡ known_at behind left). inl (same ∙ others left (omega arith) ∙ taken_own)) (λ (both : free × (known_at kept left ≡ Some next)). inr both) own
+  turn_own = ⊎_elim (λ (same : known_at kept left ≡ known_at after left). inl (same ∙ others left (omega arith) ∙ taken_own)) (λ (both : free × (known_at kept left ≡ Some next)). inr both) own
 
   pub turn_others : (other : ℕ) → left + 1 ≤ other → known_at kept other ≡ known_at old other
   turn_others other past =
@@ -141,18 +141,18 @@ module _ (taken behind kept : Known) (old : Known) (left : ℕ) (next : Next) (f
       keeps other apart ∙ others other (omega arith) ∙ taken_other other apart
 
   pub turn_known : (means : Means) (payload : List ℕ) (o : Opt) (os : List Opt) → left ≡ length os
-      → (AreKnown means payload os taken → AreKnown means payload os behind) → (free → LeadsAlike means payload o (needs_place os) next)
+      → (AreKnown means payload os taken → AreKnown means payload os after) → (free → LeadsAlike means payload o (needs_place os) next)
       → AreKnown means payload (o ∷ os) old → AreKnown means payload (o ∷ os) kept
   turn_known means payload o os is on alike h = (
     subst (λ (n : ℕ). IsKnown means payload o (needs_place os) (known_at kept n)) is (⊎_elim
         (λ (none : known_at kept left ≡ None). some_none (LeadsAlike means payload o (needs_place os)) (known_at kept left) none)
         (λ (both : free × (known_at kept left ≡ Some next)). subst (λ (found : Option Next). IsKnown means payload o (needs_place os) found) (sym both.1) (alike both.0))
         turn_own),
-    known_below means payload os behind kept (λ other below. keeps other (apart_from other left (inl (omega arith))))
+    known_below means payload os after kept (λ other below. keeps other (apart_from other left (inl (omega arith))))
         (on (known_below means payload os old taken (λ other below. taken_other other (apart_from other left (inl (omega arith)))) h.1)),
   )
 
-  pub turn_rising : (high : ℕ) → RisesTo high next → AreRising high behind → AreRising high kept
+  pub turn_rising : (high : ℕ) → RisesTo high next → AreRising high after → AreRising high kept
   turn_rising high risen h = λ other. by_number other (other == left) refl
     where
       by_number : (other : ℕ) (b : Bool) → b ≡ (other == left) → IfSome (known_at kept other) (RisesTo high)

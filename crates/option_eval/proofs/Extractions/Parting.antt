@@ -1,13 +1,13 @@
--- Parts of states: the same standings, each once, how many they are, and what trying them one after another costs.
+-- Parts of states: the same points, each once, how many they are, and what trying them one after another costs.
 use Rattle.std.proofs.Common.{◌≡◌, ℕ, ◌+◌, ◌*◌, ◌≤◌, ◌⊎◌, inl, inr, ⊎_elim, Bool, true, false, cond, List, [], ◌∷◌, length, Some, None, Ok, Err, Result, IfOk, IsTrue, MatchBool, Contains, refl, sym, ap, subst, ◌∙◌, arith}
 use Rattle.std.specs.Prelude.{bytes_eq, ⊤}
 use Rattle.std.proofs.lemmas.Bool.{false≢true}
 use Rattle.edge_io.specs.declared.fault.NoMemory.{NoMemory}
-use Rattle.option_eval.specs.Numbers.{Standing}
-use Rattle.option_eval.specs.Sets.{IsRising, standing}
+use Rattle.option_eval.specs.Numbers.{Point}
+use Rattle.option_eval.specs.Sets.{IsRising, point}
 use Rattle.option_eval.specs.States.{places_at, AreAmong, AreSame, SomeState, EachState}
 use Rattle.option_eval.specs.declared.states.States.{States}
-use Rattle.option_eval.proofs.Sets.Rising.{contains_first, contains_behind, rising_least}
+use Rattle.option_eval.proofs.Sets.Rising.{contains_first, contains_after, rising_least}
 use Rattle.option_eval.proofs.Extractions.Stating.{same_values, left_was, some_among}
 use Rattle.option_eval.proofs.Extractions.Stepping.{Counted, IsLeft, counted_first, counted_next, without}
 
@@ -64,29 +64,29 @@ merged_all from left done none h = (
   h.back,
 )
 
--- a list of standings without those of one value list at these places
-pub without_all : (values xs : List ℕ) (low high : ℕ) → IsRising low xs high → (rest : List Standing) → ((p : ℕ) → Contains xs p → Contains rest (standing values p))
-    → (ys : List Standing) × (length ys + length xs ≡ length rest) × ((s : Standing) → Contains rest s → ((p : ℕ) → Contains xs p → s ≡ standing values p → ⊥) → Contains ys s)
+-- a list of points without those of one value list at these places
+pub without_all : (values xs : List ℕ) (low high : ℕ) → IsRising low xs high → (rest : List Point) → ((p : ℕ) → Contains xs p → Contains rest (point values p))
+    → (ys : List Point) × (length ys + length xs ≡ length rest) × ((s : Point) → Contains rest s → ((p : ℕ) → Contains xs p → s ≡ point values p → ⊥) → Contains ys s)
 without_all values [] low high risen rest all = (rest, omega arith, λ s has apart. has)
 without_all values (x ∷ xs) low high risen rest all =
-    let one = without rest (standing values x) (all x (contains_first x xs)) in
-    let more = without_all values xs (x + 1) high risen.1 one.0 (λ p has. one.2 (standing values p) (all p (contains_behind x xs p has)) (above p has)) in (
+    let one = without rest (point values x) (all x (contains_first x xs)) in
+    let more = without_all values xs (x + 1) high risen.1 one.0 (λ p has. one.2 (point values p) (all p (contains_after x xs p has)) (above p has)) in (
       more.0,
       omega (arith, one.1, more.1),
-      λ s has apart. more.2 s (one.2 s has (apart x (contains_first x xs))) (λ p behind. apart p (contains_behind x xs p behind)),
+      λ s has apart. more.2 s (one.2 s has (apart x (contains_first x xs))) (λ p following. apart p (contains_after x xs p following)),
     )
   where
-    above : (p : ℕ) → Contains xs p → standing values p ≡ standing values x → ⊥
-    above p has same = let place : p ≡ x = ap (λ (s : Standing). s.place) same in omega (arith, rising_least xs (x + 1) high p risen.1 has)
+    above : (p : ℕ) → Contains xs p → point values p ≡ point values x → ⊥
+    above p has same = let place : p ≡ x = ap (λ (s : Point). s.place) same in omega (arith, rising_least xs (x + 1) high p risen.1 has)
 
--- this many standings were taken out of a list: `rest` has those that are left
-abbrev pub Listed : List Standing → States → ℕ → Type 0
-Listed listed left now = (rest : List Standing) × EachState (λ values. ⊤) (λ values p. Contains rest (standing values p)) left × (now + length rest ≤ length listed)
+-- this many points were taken out of a list: `rest` has those that are left
+abbrev pub Listed : List Point → States → ℕ → Type 0
+Listed listed left now = (rest : List Point) × EachState (λ values. ⊤) (λ values p. Contains rest (point values p)) left × (now + length rest ≤ length listed)
 
-pub listed_first : (listed : List Standing) (states : States) (now : ℕ) → now ≡ 0 → EachState (λ values. ⊤) (λ values p. Contains listed (standing values p)) states → Listed listed states now
+pub listed_first : (listed : List Point) (states : States) (now : ℕ) → now ≡ 0 → EachState (λ values. ⊤) (λ values p. Contains listed (point values p)) states → Listed listed states now
 listed_first listed states now none each = (listed, each, omega arith)
 
-pub listed_next : (listed : List Standing) (left left' : States) (values taken places : List ℕ) (high now new : ℕ) → places_at left values ≡ Some taken
+pub listed_next : (listed : List Point) (left left' : States) (values taken places : List ℕ) (high now new : ℕ) → places_at left values ≡ Some taken
     → ((q : List ℕ) → places_at left' q ≡ cond (bytes_eq values q) None (places_at left q)) → ((p : ℕ) → Contains places p → Contains taken p)
     → IsRising 0 places high → new ≤ now + length places → Listed listed left now → Listed listed left' new
 listed_next listed left left' values taken places high now new was less up risen more before =
@@ -94,12 +94,12 @@ listed_next listed left left' values taken places high now new was less up risen
       fewer.0,
       λ q found_places found. let there = left_was left left' values taken was less q found_places found in (
         tt,
-        λ p has. fewer.2 (standing q p) ((before.1 q found_places there.0).1 p has) (λ x at same. there.1 (ap (λ (s : Standing). s.values) same)),
+        λ p has. fewer.2 (point q p) ((before.1 q found_places there.0).1 p has) (λ x at same. there.1 (ap (λ (s : Point). s.values) same)),
       ),
       omega (arith, before.2, fewer.1),
     )
 
-pub listed_end : (listed : List Standing) (left : States) (now : ℕ) → Listed listed left now → now ≤ length listed
+pub listed_end : (listed : List Point) (left : States) (now : ℕ) → Listed listed left now → now ≤ length listed
 listed_end listed left now h = omega (arith, h.2)
 
 -- an answer whatever was told
@@ -115,33 +115,33 @@ part_tried P old new taken false same h = λ m. absurd (false≢true (h.1 (some_
 
 -- what was spent, where the states that follow are still to be tried unless there are none
 abbrev pub Owing : ℕ → ℕ → List (List ℕ) → States → States → ℕ → ℕ → Type 0
-Owing each owed lists left behind old now = (((q : List ℕ) → places_at behind q ≡ None) × Counted each lists left old now) ⊎ Counted each lists left old (now + owed)
+Owing each owed lists left following old now = (((q : List ℕ) → places_at following q ≡ None) × Counted each lists left old now) ⊎ Counted each lists left old (now + owed)
 
 module _ (each owed : ℕ) (lists : List (List ℕ)) where
-  pub owing_first : (states behind : States) (R : List ℕ → ℕ → Type 0) (old : ℕ) → ((q : List ℕ) → places_at behind q ≡ None) → EachState (Contains lists) R states → Owing each owed lists states behind old old
-  owing_first states behind R old none have = inl (none, counted_first each lists states R old have)
+  pub owing_first : (states following : States) (R : List ℕ → ℕ → Type 0) (old : ℕ) → ((q : List ℕ) → places_at following q ≡ None) → EachState (Contains lists) R states → Owing each owed lists states following old old
+  owing_first states following R old none have = inl (none, counted_first each lists states R old have)
 
-  pub owing_walked : (upto : ℕ) (left left' behind : States) (values places : List ℕ) (old now new : ℕ) → upto + owed ≡ each → places_at left values ≡ Some places
-      → ((q : List ℕ) → places_at left' q ≡ cond (bytes_eq values q) None (places_at left q)) → new ≤ now + upto → Owing each owed lists left behind old now → Counted each lists left' old (new + owed)
-  owing_walked upto left left' behind values places old now new is was less more before =
+  pub owing_walked : (upto : ℕ) (left left' following : States) (values places : List ℕ) (old now new : ℕ) → upto + owed ≡ each → places_at left values ≡ Some places
+      → ((q : List ℕ) → places_at left' q ≡ cond (bytes_eq values q) None (places_at left q)) → new ≤ now + upto → Owing each owed lists left following old now → Counted each lists left' old (new + owed)
+  owing_walked upto left left' following values places old now new is was less more before =
       let alone : new + owed ≤ now + each = omega arith in
       let also : new + owed ≤ now + owed + each = omega arith in
       ⊎_elim
-      (λ (h : ((q : List ℕ) → places_at behind q ≡ None) × Counted each lists left old now). counted_next each lists left left' values places old now (new + owed) was less alone h.1)
+      (λ (h : ((q : List ℕ) → places_at following q ≡ None) × Counted each lists left old now). counted_next each lists left left' values places old now (new + owed) was less alone h.1)
       (λ (h : Counted each lists left old (now + owed)). counted_next each lists left left' values places old (now + owed) (new + owed) was less also h)
       before
 
-  pub owing_parted : (left behind : States) (old now new : ℕ) → new ≤ now + owed → (new ≡ now) ⊎ ((q : List ℕ) → places_at behind q ≡ None) → Counted each lists left old (now + owed) → Owing each owed lists left behind old new
-  owing_parted left behind old now new more which h = ⊎_elim
+  pub owing_parted : (left following : States) (old now new : ℕ) → new ≤ now + owed → (new ≡ now) ⊎ ((q : List ℕ) → places_at following q ≡ None) → Counted each lists left old (now + owed) → Owing each owed lists left following old new
+  owing_parted left following old now new more which h = ⊎_elim
       (λ (same : new ≡ now). inr (subst (λ (n : ℕ). Counted each lists left old (n + owed)) (sym same) h))
-      (λ (none : (q : List ℕ) → places_at behind q ≡ None). inl (none, (h.0, h.1, omega (arith, h.2))))
+      (λ (none : (q : List ℕ) → places_at following q ≡ None). inl (none, (h.0, h.1, omega (arith, h.2))))
       which
 
   pub owing_spent : (left : States) (old now : ℕ) → Counted each lists left old (now + owed) → now + owed ≤ old + length lists * each
   owing_spent left old now h = omega (arith, h.2)
 
-  pub owing_end : (left behind : States) (old now new : ℕ) → new ≤ now + owed → (((q : List ℕ) → places_at behind q ≡ None) → new ≤ now) → Owing each owed lists left behind old now → new ≤ old + length lists * each
-  owing_end left behind old now new more none_more h = ⊎_elim
-      (λ (both : ((q : List ℕ) → places_at behind q ≡ None) × Counted each lists left old now). let spent = none_more both.0 in omega (arith, both.1.2))
+  pub owing_end : (left following : States) (old now new : ℕ) → new ≤ now + owed → (((q : List ℕ) → places_at following q ≡ None) → new ≤ now) → Owing each owed lists left following old now → new ≤ old + length lists * each
+  owing_end left following old now new more none_more h = ⊎_elim
+      (λ (both : ((q : List ℕ) → places_at following q ≡ None) × Counted each lists left old now). let spent = none_more both.0 in omega (arith, both.1.2))
       (λ (rest : Counted each lists left old (now + owed)). omega (arith, rest.2))
       h

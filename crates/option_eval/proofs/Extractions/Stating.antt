@@ -89,7 +89,7 @@ module _ (old new : States) (values : List ℕ) (place : ℕ)
       (unwrap_or (places_at old values) [] ++ place ∷ [], refl, Contains-append_left (unwrap_or (places_at old values) []) (place ∷ []) p (subst (λ (xs : List ℕ). Contains xs p) (sym before) has))
   stays_in false q places is found p has = (places, found, has)
 
-  -- a standing of some kind, in a state after one more was added: it was there, or is the one that was added
+  -- a point of some kind, in a state after one more was added: it was there, or is the one that was added
   pub some_added : (P : List ℕ → ℕ → Type 0) → SomeState P new → SomeState P old ⊎ P values place
   some_added P (q, places, found, p, has, holds) = ⊎_elim
       (λ (before : (before : List ℕ) × (places_at old q ≡ Some before) × Contains before p). inl (q, before.0, before.1, p, before.2, holds))
@@ -105,7 +105,7 @@ module _ (old new : States) (values : List ℕ) (place : ℕ)
   some_new P holds =
       (values, unwrap_or (places_at old values) [] ++ place ∷ [], added values ∙ ap (λ (b : Bool). cond b (Some (unwrap_or (places_at old values) [] ++ place ∷ [])) (places_at old values)) (own_values values), place, Contains-push (unwrap_or (places_at old values) []) place, holds)
 
-  -- kinds that hold of each standing hold of each one after one more was added
+  -- kinds that hold of each point hold of each one after one more was added
   pub each_added : (K : List ℕ → Type 0) (R : List ℕ → ℕ → Type 0) → EachState K R old → K values → R values place → EachState K R new
   each_added K R each key here q places found = (
     key_of (bytes_eq values q) refl (sym (added q) ∙ found),
@@ -136,21 +136,21 @@ module _ (old new : States) (values taken : List ℕ) (was : places_at old value
       inl (same, cc)
   taken_or_left false q places is found = inr found
 
-  -- a standing of some kind, in a state before some were taken out: it was among these, or is still there
+  -- a point of some kind, in a state before some were taken out: it was among these, or is still there
   pub some_taken : (P : List ℕ → ℕ → Type 0) → SomeState P old → ((p : ℕ) × Contains taken p × P values p) ⊎ SomeState P new
   some_taken P (q, places, found, p, has, holds) = ⊎_elim
       (λ (both : (values ≡ q) × (taken ≡ places)). inl (p, subst (λ (xs : List ℕ). Contains xs p) (sym both.1) has, subst (λ (x : List ℕ). P x p) (sym both.0) holds))
       (λ (there : cond (bytes_eq values q) None (places_at old q) ≡ Some places). inr (q, places, left q ∙ there, p, has, holds))
       (taken_or_left (bytes_eq values q) q places refl found)
 
--- where there is no state there is no standing of any kind
+-- where there is no state there is no point of any kind
 pub some_nowhere : (P : List ℕ → ℕ → Type 0) (states : States) → ((q : List ℕ) → places_at states q ≡ None) → ¬ SomeState P states
 some_nowhere P states none (q, places, found, p, has, holds) = let h = none q in absurd (cc)
 
 pub each_nowhere : (K : List ℕ → Type 0) (R : List ℕ → ℕ → Type 0) (states : States) → ((q : List ℕ) → places_at states q ≡ None) → EachState K R states
 each_nowhere K R states none q places found = let h = none q in absurd (cc)
 
--- standings that are among others
+-- points that are among others
 pub some_among : (from to : States) → AreAmong from to → (P : List ℕ → ℕ → Type 0) → SomeState P from → SomeState P to
 some_among from to among P (values, places, found, p, has, holds) = let there = among values places found in (values, there.0, there.1, p, there.2 p has, holds)
 
@@ -177,7 +177,7 @@ nowhere_among from to among none q = step (places_at from q) refl
 pub same_own : (states : States) → AreSame states states
 same_own states = (λ values places found. (places, found, λ p has. has), λ values places found. (places, found, λ p has. has))
 
--- each standing is of weaker kinds, too
+-- each point is of weaker kinds, too
 pub each_weaker : (states : States) (K L : List ℕ → Type 0) (R S : List ℕ → ℕ → Type 0) → ((values : List ℕ) → K values → L values) → ((values : List ℕ) (p : ℕ) → R values p → S values p) → EachState K R states → EachState L S states
 each_weaker states K L R S key here each values places found =
     let at = each values places found in

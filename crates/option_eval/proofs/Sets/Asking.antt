@@ -8,7 +8,7 @@ use Rattle.std.specs.List.Sorted.{IsPermutation}
 use Rattle.std.proofs.lemmas.List.Sorted.{Contains-permutation, IsPermutation-sym}
 use Rattle.std.proofs.lemmas.List.Elements.{Contains-push, Contains-push_cases, Contains-append_left}
 use Rattle.option_eval.specs.Sets.{IsRising, IsAscending, Gathers, IsLedTo, LeadsOnlyTo, with_if}
-use Rattle.option_eval.proofs.Sets.Rising.{contains_cases, contains_first, contains_behind, got_of_contains, rising_push, rising_high, rising_length}
+use Rattle.option_eval.proofs.Sets.Rising.{contains_cases, contains_first, contains_after, got_of_contains, rising_push, rising_high, rising_length}
 
 -- the part after the first
 pub later_of : (place : ℕ) (later : List ℕ) → take (length (place ∷ later) - 1) (drop 1 (place ∷ later)) ≡ later
@@ -38,23 +38,23 @@ pub kept_next : (P : ℕ → Type 0) (places rest next new : List ℕ) (holds : 
 kept_next P places [] next new holds some before is added = absurd (omega arith)
 kept_next P places (place ∷ later) next new true some before is added = record {
   sound = λ q has. ⊎_elim (λ (old : Contains next q). before.sound q old) (λ (same : place ≡ q). (subst (λ (x : ℕ). Contains places x) same (before.within place (contains_first place later)), subst P same (is.0 refl))) (Contains-push_cases next place q (subst (λ (xs : List ℕ). Contains xs q) added has));
-  within = λ p has. before.within p (contains_behind place later p (subst (λ (xs : List ℕ). Contains xs p) (later_of place later) has));
+  within = λ p has. before.within p (contains_after place later p (subst (λ (xs : List ℕ). Contains xs p) (later_of place later) has));
   complete = λ p has held. ⊎_elim
       (λ (old : Contains next p). inl (subst (λ (xs : List ℕ). Contains xs p) (sym added) (Contains-append_left next (place ∷ []) p old)))
       (λ (left : Contains (place ∷ later) p). ⊎_elim
       (λ (same : p ≡ place). inl (subst (λ (xs : List ℕ). Contains xs p) (sym added) (subst (λ (x : ℕ). Contains (next ++ place ∷ []) x) (sym same) (Contains-push next place))))
-      (λ (behind : Contains later p). inr (subst (λ (xs : List ℕ). Contains xs p) (sym (later_of place later)) behind))
+      (λ (after : Contains later p). inr (subst (λ (xs : List ℕ). Contains xs p) (sym (later_of place later)) after))
       (contains_cases place later p left))
       (before.complete p has held);
 }
 kept_next P places (place ∷ later) next new false some before is added = record {
   sound = λ q has. before.sound q (subst (λ (xs : List ℕ). Contains xs q) added has);
-  within = λ p has. before.within p (contains_behind place later p (subst (λ (xs : List ℕ). Contains xs p) (later_of place later) has));
+  within = λ p has. before.within p (contains_after place later p (subst (λ (xs : List ℕ). Contains xs p) (later_of place later) has));
   complete = λ p has held. ⊎_elim
       (λ (old : Contains next p). inl (subst (λ (xs : List ℕ). Contains xs p) (sym added) old))
       (λ (left : Contains (place ∷ later) p). ⊎_elim
       (λ (same : p ≡ place). absurd (false≢true (is.1 (subst P same held))))
-      (λ (behind : Contains later p). inr (subst (λ (xs : List ℕ). Contains xs p) (sym (later_of place later)) behind))
+      (λ (after : Contains later p). inr (subst (λ (xs : List ℕ). Contains xs p) (sym (later_of place later)) after))
       (contains_cases place later p left))
       (before.complete p has held);
 }
@@ -94,23 +94,23 @@ led_next leads places (place ∷ later) led new (Some there) some before only ad
   sound = λ q has. ⊎_elim (λ (old : Contains led q). before.sound q old)
       (λ (same : there ≡ q). (place, before.within place (contains_first place later), subst (leads place) same only.0))
       (Contains-push_cases led there q (subst (λ (xs : List ℕ). Contains xs q) added has));
-  within = λ p has. before.within p (contains_behind place later p (subst (λ (xs : List ℕ). Contains xs p) (later_of place later) has));
+  within = λ p has. before.within p (contains_after place later p (subst (λ (xs : List ℕ). Contains xs p) (later_of place later) has));
   complete = λ p q has goes. ⊎_elim
       (λ (old : Contains led q). inl (subst (λ (xs : List ℕ). Contains xs q) (sym added) (Contains-append_left led (there ∷ []) q old)))
       (λ (left : Contains (place ∷ later) p). ⊎_elim
       (λ (same : p ≡ place). inl (subst (λ (xs : List ℕ). Contains xs q) (sym added) (subst (λ (x : ℕ). Contains (led ++ there ∷ []) x) (sym (only.1 q (subst (λ (x : ℕ). leads x q) same goes))) (Contains-push led there))))
-      (λ (behind : Contains later p). inr (subst (λ (xs : List ℕ). Contains xs p) (sym (later_of place later)) behind))
+      (λ (after : Contains later p). inr (subst (λ (xs : List ℕ). Contains xs p) (sym (later_of place later)) after))
       (contains_cases place later p left))
       (before.complete p q has goes);
 }
 led_next leads places (place ∷ later) led new None some before only added = record {
   sound = λ q has. before.sound q (subst (λ (xs : List ℕ). Contains xs q) added has);
-  within = λ p has. before.within p (contains_behind place later p (subst (λ (xs : List ℕ). Contains xs p) (later_of place later) has));
+  within = λ p has. before.within p (contains_after place later p (subst (λ (xs : List ℕ). Contains xs p) (later_of place later) has));
   complete = λ p q has goes. ⊎_elim
       (λ (old : Contains led q). inl (subst (λ (xs : List ℕ). Contains xs q) (sym added) old))
       (λ (left : Contains (place ∷ later) p). ⊎_elim
       (λ (same : p ≡ place). absurd (only q (subst (λ (x : ℕ). leads x q) same goes)))
-      (λ (behind : Contains later p). inr (subst (λ (xs : List ℕ). Contains xs p) (sym (later_of place later)) behind))
+      (λ (after : Contains later p). inr (subst (λ (xs : List ℕ). Contains xs p) (sym (later_of place later)) after))
       (contains_cases place later p left))
       (before.complete p q has goes);
 }
@@ -137,7 +137,7 @@ contains_head (place ∷ later) some = contains_first place later
 
 pub contains_later : (rest : List ℕ) (p : ℕ) → 1 ≤ length rest → Contains (take (length rest - 1) (drop 1 rest)) p → Contains rest p
 contains_later [] p some has = absurd (omega arith)
-contains_later (place ∷ later) p some has = contains_behind place later p (subst (λ (xs : List ℕ). Contains xs p) (later_of place later) has)
+contains_later (place ∷ later) p some has = contains_after place later p (subst (λ (xs : List ℕ). Contains xs p) (later_of place later) has)
 
 pub length_later : (rest : List ℕ) → 1 ≤ length rest → length (take (length rest - 1) (drop 1 rest)) + 1 ≡ length rest
 length_later [] some = absurd (omega arith)
@@ -179,12 +179,12 @@ deduped_next sorted (place ∷ later) next new low true some h order risen is ad
     let over : low ≤ place = grind (arith, nat_tests) in (
       record {
         sound = λ q has. ⊎_elim (λ (old : Contains next q). h.sound q old) (λ (same : place ≡ q). subst (λ (x : ℕ). Contains sorted x) same (h.within place (contains_first place later))) (Contains-push_cases next place q (subst (λ (xs : List ℕ). Contains xs q) added has));
-        within = λ q has. h.within q (contains_behind place later q (subst (λ (xs : List ℕ). Contains xs q) (later_of place later) has));
+        within = λ q has. h.within q (contains_after place later q (subst (λ (xs : List ℕ). Contains xs q) (later_of place later) has));
         complete = λ q has. ⊎_elim
             (λ (old : Contains next q). inl (subst (λ (xs : List ℕ). Contains xs q) (sym added) (Contains-append_left next (place ∷ []) q old)))
             (λ (left : Contains (place ∷ later) q). ⊎_elim
             (λ (same : q ≡ place). inl (subst (λ (xs : List ℕ). Contains xs q) (sym added) (subst (λ (x : ℕ). Contains (next ++ place ∷ []) x) (sym same) (Contains-push next place))))
-            (λ (behind : Contains later q). inr (subst (λ (xs : List ℕ). Contains xs q) (sym (later_of place later)) behind))
+            (λ (after : Contains later q). inr (subst (λ (xs : List ℕ). Contains xs q) (sym (later_of place later)) after))
             (contains_cases place later q left))
             (h.complete q has);
         latest = inr (subst (λ (xs : List ℕ). Contains xs (place + 1 - 1)) (sym added) (subst (λ (x : ℕ). Contains (next ++ place ∷ []) x) (back place) (Contains-push next place)));
@@ -201,12 +201,12 @@ deduped_next sorted (place ∷ later) next new low false some h order risen is a
     let has_last : Contains next place = ⊎_elim (λ (zero_is : low ≡ 0). absurd (omega arith)) (λ (last : Contains next (low - 1)). let same : low - 1 ≡ place = omega arith in subst (λ (x : ℕ). Contains next x) same last) h.latest in (
       record {
         sound = λ q has. h.sound q (subst (λ (xs : List ℕ). Contains xs q) added has);
-        within = λ q has. h.within q (contains_behind place later q (subst (λ (xs : List ℕ). Contains xs q) (later_of place later) has));
+        within = λ q has. h.within q (contains_after place later q (subst (λ (xs : List ℕ). Contains xs q) (later_of place later) has));
         complete = λ q has. ⊎_elim
             (λ (old : Contains next q). inl (subst (λ (xs : List ℕ). Contains xs q) (sym added) old))
             (λ (left : Contains (place ∷ later) q). ⊎_elim
             (λ (same : q ≡ place). inl (subst (λ (xs : List ℕ). Contains xs q) (sym added) (subst (λ (x : ℕ). Contains next x) (sym same) has_last)))
-            (λ (behind : Contains later q). inr (subst (λ (xs : List ℕ). Contains xs q) (sym (later_of place later)) behind))
+            (λ (after : Contains later q). inr (subst (λ (xs : List ℕ). Contains xs q) (sym (later_of place later)) after))
             (contains_cases place later q left))
             (h.complete q has);
         latest = inr (subst (λ (xs : List ℕ). Contains xs (place + 1 - 1)) (sym added) (subst (λ (x : ℕ). Contains next x) (back place) has_last));
@@ -233,7 +233,7 @@ asked_is true places asked is p has = subst (λ (xs : List ℕ). Contains xs p) 
 asked_is false [] asked is p has = absurd (omega (arith, has.1, ap length is))
 asked_is false (x ∷ places) asked is p has = ⊎_elim
     (λ (same : p ≡ x). subst (λ (y : ℕ). Contains (x ∷ places) y) (sym same) (contains_first x places))
-    (λ (behind : Contains [] p). absurd (omega (arith, behind.1)))
+    (λ (after : Contains [] p). absurd (omega (arith, after.1)))
     (contains_cases x [] p (subst (λ (xs : List ℕ). Contains xs p) is has))
 
 pub length-asked : (relative : Bool) (places asked : List ℕ) → asked ≡ cond relative places (take 1 places) → length asked ≤ length places

@@ -5,9 +5,9 @@ use Rattle.std.proofs.lemmas.Int.{ints}
 use Rattle.memchr.specs.Find.{IsFirst}
 use Rattle.rule_types.specs.declared.option.Content.{Content}
 use Rattle.rule_types.specs.declared.option.Opt.TheVariants as opt
-use Rattle.option_eval.specs.Numbers.{Standing, number_if}
-use Rattle.option_eval.specs.Places.{Means, Sought, StandsAt, Leads, is_only, sought, at_place}
-use Rattle.option_eval.specs.Sets.{Gathers, IsWithin, Occurs, IsHitFrom, IsLedTo, LeadsFrom, standing, reach_from, reach_room, folds_case, content_origin}
+use Rattle.option_eval.specs.Numbers.{Point, number_if}
+use Rattle.option_eval.specs.Places.{Means, Sought, IsFoundAt, Leads, is_only, sought, at_place}
+use Rattle.option_eval.specs.Sets.{Gathers, IsWithin, Occurs, IsHitFrom, IsLedTo, LeadsFrom, point, reach_from, reach_room, folds_case, content_origin}
 use Rattle.option_eval.specs.declared.reach.Reach.{Reach}
 use Rattle.option_eval.proofs.Sets.Rising.{contains_cases, contains_first, got_of_contains}
 use Rattle.option_eval.specs.Absent.{IsReached}
@@ -21,27 +21,27 @@ sought_of only nocase origin from room =
 
 module _ (nocase relative : Bool) (place : ℕ) (from : ℤ) (reach : Reach) (payload bytes : List ℕ) (i : ℕ) where
   within_of : (only : Bool) (room : Option ℤ) → reach.from ≡ cond only (pos 0) from → reach.room ≡ cond only None room
-      → StandsAt bytes payload (sought_of only nocase (cond relative place 0) from room) i
+      → IsFoundAt bytes payload (sought_of only nocase (cond relative place 0) from room) i
       → IsWithin reach (length bytes) (cond (not only && relative) place 0) i × Occurs (only || nocase) payload bytes i
   within_of true room from_is room_is h = (record { low = rw from_is (omega (arith, ints)); high = rw room_is tt }, h.occurs)
   within_of false None from_is room_is h = (record { low = rw from_is h.from; high = rw room_is tt }, h.occurs)
   within_of false (Some room) from_is room_is h = (record { low = rw from_is h.from; high = rw (room_is, from_is) h.until }, h.occurs)
 
-  stands_of : (only : Bool) (room : Option ℤ) → reach.from ≡ cond only (pos 0) from → reach.room ≡ cond only None room
+  is_found_of : (only : Bool) (room : Option ℤ) → reach.from ≡ cond only (pos 0) from → reach.room ≡ cond only None room
       → IsWithin reach (length bytes) (cond (not only && relative) place 0) i → Occurs (only || nocase) payload bytes i
-      → StandsAt bytes payload (sought_of only nocase (cond relative place 0) from room) i
-  stands_of true room from_is room_is h here = record { from = omega (arith, ints); until = tt; occurs = here }
-  stands_of false None from_is room_is h here = record { from = rw from_is at h.low; until = tt; occurs = here }
-  stands_of false (Some room) from_is room_is h here = record { from = rw from_is at h.low; until = rw (room_is, from_is) at h.high; occurs = here }
+      → IsFoundAt bytes payload (sought_of only nocase (cond relative place 0) from room) i
+  is_found_of true room from_is room_is h here = record { from = omega (arith, ints); until = tt; occurs = here }
+  is_found_of false None from_is room_is h here = record { from = rw from_is at h.low; until = tt; occurs = here }
+  is_found_of false (Some room) from_is room_is h here = record { from = rw from_is at h.low; until = rw (room_is, from_is) at h.high; occurs = here }
 
 module _ (content : Content) (values : List ℕ) (place : ℕ) (payload : List ℕ) (reach : Reach) (from_is : reach.from ≡ reach_from content values) (room_is : reach.room ≡ reach_room content values) (i : ℕ) where
-  pub stands_within : StandsAt content.bytes payload (sought content (standing values place)) i → IsWithin reach (length content.bytes) (content_origin content place) i × Occurs (folds_case content) payload content.bytes i
-  stands_within h =
+  pub is_found_within : IsFoundAt content.bytes payload (sought content (point values place)) i → IsWithin reach (length content.bytes) (content_origin content place) i × Occurs (folds_case content) payload content.bytes i
+  is_found_within h =
       within_of content.nocase content.relative place (unwrap_or (number_if values content.from) (pos 0)) reach payload content.bytes i (is_only content.fast) (number_if values content.room) from_is room_is h
 
-  pub within_stands : IsWithin reach (length content.bytes) (content_origin content place) i → Occurs (folds_case content) payload content.bytes i → StandsAt content.bytes payload (sought content (standing values place)) i
-  within_stands h here =
-      stands_of content.nocase content.relative place (unwrap_or (number_if values content.from) (pos 0)) reach payload content.bytes i (is_only content.fast) (number_if values content.room) from_is room_is h here
+  pub within_is_found : IsWithin reach (length content.bytes) (content_origin content place) i → Occurs (folds_case content) payload content.bytes i → IsFoundAt content.bytes payload (sought content (point values place)) i
+  within_is_found h here =
+      is_found_of content.nocase content.relative place (unwrap_or (number_if values content.from) (pos 0)) reach payload content.bytes i (is_only content.fast) (number_if values content.room) from_is room_is h here
 
 -- what a search of the window answers
 pub window_answer : (nocase : Bool) (payload bytes : List ℕ) (reach : Reach) (place bound least most low : ℕ) (r : Option ℕ) (answer : Bool)
@@ -88,16 +88,16 @@ cond_false false x y is = refl
 
 module _ (means : Means) (payload values : List ℕ) (content : Content) (plain : (content.negated ≡ false) × (is_only content.fast ≡ false)) (p q : ℕ) where
   -- a content that isn't negated leads to the end of where it occurs
-  pub content_leads : LeadsFrom means payload values (opt.Content content) p q → (i : ℕ) × StandsAt content.bytes payload (sought content (standing values p)) i × (q ≡ i + length content.bytes)
+  pub content_leads : LeadsFrom means payload values (opt.Content content) p q → (i : ℕ) × IsFoundAt content.bytes payload (sought content (point values p)) i × (q ≡ i + length content.bytes)
   unfolding Leads
   content_leads h =
       let led = match_false content.negated _ _ plain.0 h in
-      (led.0, led.1, ap (λ (s : Standing). s.place) (led.2 ∙ cond_false (is_only content.fast) (standing values p) (at_place (standing values p) (led.0 + length content.bytes)) plain.1))
+      (led.0, led.1, ap (λ (s : Point). s.place) (led.2 ∙ cond_false (is_only content.fast) (point values p) (at_place (point values p) (led.0 + length content.bytes)) plain.1))
 
-  pub leads_content : (i : ℕ) → StandsAt content.bytes payload (sought content (standing values p)) i → q ≡ i + length content.bytes → LeadsFrom means payload values (opt.Content content) p q
+  pub leads_content : (i : ℕ) → IsFoundAt content.bytes payload (sought content (point values p)) i → q ≡ i + length content.bytes → LeadsFrom means payload values (opt.Content content) p q
   unfolding Leads
   leads_content i here is =
-      false_match content.negated _ _ plain.0 (i, here, ap (standing values) is ∙ sym (cond_false (is_only content.fast) (standing values p) (at_place (standing values p) (i + length content.bytes)) plain.1))
+      false_match content.negated _ _ plain.0 (i, here, ap (point values) is ∙ sym (cond_false (is_only content.fast) (point values p) (at_place (point values p) (i + length content.bytes)) plain.1))
 
 -- what a content is asked from
 asked_has : (relative : Bool) (places asked : List ℕ) (p : ℕ) → MatchBool relative (asked ≡ places) (asked ≡ 0 ∷ []) → Contains places p → Contains asked (cond relative p 0)
@@ -112,7 +112,7 @@ asked_place : (relative : Bool) (places asked : List ℕ) (p : ℕ) → 0 < leng
 asked_place true places asked p some is has = (p, subst (λ (xs : List ℕ). Contains xs p) is has, refl)
 asked_place false places asked p some is has =
     let from = some_place places some in
-    (from.0, from.1, ⊎_elim (λ (zero_is : p ≡ 0). sym zero_is) (λ (behind : Contains [] p). absurd (omega (arith, behind.1))) (contains_cases 0 [] p (subst (λ (xs : List ℕ). Contains xs p) is has)))
+    (from.0, from.1, ⊎_elim (λ (zero_is : p ≡ 0). sym zero_is) (λ (after : Contains [] p). absurd (omega (arith, after.1))) (contains_cases 0 [] p (subst (λ (xs : List ℕ). Contains xs p) is has)))
 
 origin_is : (only relative : Bool) (p : ℕ) → only ≡ false → cond (not only && relative) p 0 ≡ cond relative p 0
 origin_is true relative p is = absurd (false≢true (sym is))
@@ -125,7 +125,7 @@ module _ (every : Bool) (means : Means) (payload values : List ℕ) (content : C
     sound = λ q has. absurd (omega (arith, has.1));
     complete = λ q led.
         let here = content_leads means payload values content plain led.0 q led.2 in
-        absurd (omega (arith, occurs_fits (sought content (standing values led.0)).nocase payload content.bytes here.0 here.1.occurs));
+        absurd (omega (arith, occurs_fits (sought content (point values led.0)).nocase payload content.bytes here.0 here.1.occurs));
   }
 
   -- the sweep finds where the content leads
@@ -142,11 +142,11 @@ module _ (every : Bool) (means : Means) (payload values : List ℕ) (content : C
             let from = asked_place content.relative places asked hit.0 some asks hit.2 in
             let at = origin_is (is_only content.fast) content.relative from.0 plain.1 ∙ from.2 in
             let reached = subst (λ (x : ℕ). IsWithin reach (length content.bytes) x hit.1) (sym at) hit.3 in
-            let here = within_stands content values from.0 payload reach from_is room_is hit.1 reached hit.4 in
+            let here = within_is_found content values from.0 payload reach from_is room_is hit.1 reached hit.4 in
             (from.0, from.1, leads_content means payload values content plain from.0 q hit.1 here hit.5);
         complete = λ q led.
             let here = content_leads means payload values content plain led.0 q led.2 in
-            let reached = stands_within content values led.0 payload reach from_is room_is here.0 here.1 in
+            let reached = is_found_within content values led.0 payload reach from_is room_is here.0 here.1 in
             let at = origin_is (is_only content.fast) content.relative led.0 plain.1 in
             f.complete q (cond content.relative led.0 0, here.0, asked_has content.relative places asked led.0 asks led.1, subst (λ (x : ℕ). IsWithin reach (length content.bytes) x here.0) at reached.0, reached.1, here.2);
       }
@@ -172,12 +172,12 @@ module _ (means : Means) (payload values : List ℕ) (content : Content) (negate
   pub absent_leads : ¬ IsReached (folds_case content) payload content.bytes reach p → LeadsFrom means payload values (opt.Content content) p p
   unfolding Leads
   absent_leads none = true_match content.negated _ _ negated
-      ((λ i here. let at = stands_within content values p payload reach from_is room_is i here in none (i, subst (λ (x : ℕ). IsWithin reach (length content.bytes) x i) origin_here at.0, at.1)), refl)
+      ((λ i here. let at = is_found_within content values p payload reach from_is room_is i here in none (i, subst (λ (x : ℕ). IsWithin reach (length content.bytes) x i) origin_here at.0, at.1)), refl)
 
   pub leads_absent : LeadsFrom means payload values (opt.Content content) p p → ¬ IsReached (folds_case content) payload content.bytes reach p
   unfolding Leads
   leads_absent led = λ reached.
-      (match_true content.negated _ _ negated led).0 reached.0 (within_stands content values p payload reach from_is room_is reached.0 (subst (λ (x : ℕ). IsWithin reach (length content.bytes) x reached.0) (sym origin_here) reached.1) reached.2)
+      (match_true content.negated _ _ negated led).0 reached.0 (within_is_found content values p payload reach from_is room_is reached.0 (subst (λ (x : ℕ). IsWithin reach (length content.bytes) x reached.0) (sym origin_here) reached.1) reached.2)
 
 -- a negated content, where the places within whose reach it occurs nowhere were gathered
 module _ (every : Bool) (means : Means) (payload values : List ℕ) (content : Content) (negated : content.negated ≡ true) (relative : (not (is_only content.fast) && content.relative) ≡ true)

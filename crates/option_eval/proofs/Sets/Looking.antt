@@ -18,7 +18,7 @@ module _ (occurs : ℕ → Type 0) (low end from : ℕ) (seen : Seen) (from_is :
   sees_same why = record {
     found = λ i over under here noted. ⊎_elim (λ (h : low < seen.last). h) (λ (h : end ≤ from). let known = noted (omega arith) in omega arith) why;
     noted = λ i over here noted. noted;
-    stands = λ some. inl refl;
+    is_found = λ some. inl refl;
   }
 
   -- the bytes occur nowhere there
@@ -32,7 +32,7 @@ module _ (occurs : ℕ → Type 0) (low end from : ℕ) (seen : Seen) (from_is :
         (λ (old : i < seen.done). let known = noted old in omega arith)
         (λ (fresh : seen.done ≤ i). absurd (none i (omega arith) (omega arith) here))
         (cases_lt i seen.done);
-    stands = λ some. inl last_is;
+    is_found = λ some. inl last_is;
   }
 
   -- the bytes occur first at a place there
@@ -40,19 +40,19 @@ module _ (occurs : ℕ → Type 0) (low end from : ℕ) (seen : Seen) (from_is :
   sees_some new start done_is last_is over under here = record {
     found = λ i from_low below at noted. omega arith;
     noted = λ i from_low at noted below. omega arith;
-    stands = λ some. let same : start ≡ new.last - 1 = omega arith in inr (subst occurs same here, omega arith);
+    is_found = λ some. let same : start ≡ new.last - 1 = omega arith in inr (subst occurs same here, omega arith);
   }
 
 module _ (nocase : Bool) (payload bytes : List ℕ) (reach : Reach) where
   -- what is seen serves the places that are left
   pub record Serves (rest : List ℕ) (seen : Seen) : Type 0 where
     pub noted : (p i : ℕ) → Contains rest p → (pos p +ℤ reach.from) ≤ℤ pos i → Occurs nocase payload bytes i → IsNoted seen i
-    pub stands : 0 < seen.last → Occurs nocase payload bytes (seen.last - 1) × ((p : ℕ) → Contains rest p → IfSome reach.room (λ room. pos (seen.last - 1 + length bytes) ≤ℤ ((pos p +ℤ reach.from) +ℤ room)))
+    pub is_found : 0 < seen.last → Occurs nocase payload bytes (seen.last - 1) × ((p : ℕ) → Contains rest p → IfSome reach.room (λ room. pos (seen.last - 1 + length bytes) ≤ℤ ((pos p +ℤ reach.from) +ℤ room)))
 
   pub serves_none : (rest : List ℕ) (seen : Seen) → seen.done ≡ 0 → seen.last ≡ 0 → Serves rest seen
   serves_none rest seen done_is last_is = record {
     noted = λ p i has over here below. absurd (omega arith);
-    stands = λ some. absurd (omega arith);
+    is_found = λ some. absurd (omega arith);
   }
 
   -- a later place has as much room
@@ -72,19 +72,19 @@ module _ (nocase : Bool) (payload bytes : List ℕ) (reach : Reach) where
     low_of : (p i : ℕ) → Contains rest p → (pos p +ℤ reach.from) ≤ℤ pos i → Occurs nocase payload bytes i → low ≤ i
     low_of p i has over here = let first = least p has in (low_is i (under_bound i here)).0 (omega (arith, ints))
 
-    last_stands : 0 < new.last → Occurs nocase payload bytes (new.last - 1) × IfSome reach.room (λ room. pos (new.last - 1 + length bytes) ≤ℤ ((pos (get_or rest 0 0) +ℤ reach.from) +ℤ room))
-    last_stands some_last = ⊎_elim
+    last_is_found : 0 < new.last → Occurs nocase payload bytes (new.last - 1) × IfSome reach.room (λ room. pos (new.last - 1 + length bytes) ≤ℤ ((pos (get_or rest 0 0) +ℤ reach.from) +ℤ room))
+    last_is_found some_last = ⊎_elim
         (λ (same : new.last ≡ seen.last).
-        let old = before.stands (omega arith) in
+        let old = before.is_found (omega arith) in
         let at : seen.last - 1 ≡ new.last - 1 = omega arith in
         (subst (λ (i : ℕ). Occurs nocase payload bytes i) at old.0, subst (λ (i : ℕ). IfSome reach.room (λ room. pos (i + length bytes) ≤ℤ ((pos (get_or rest 0 0) +ℤ reach.from) +ℤ room))) at (old.1 (get_or rest 0 0) (contains_head rest some))))
         (λ (fresh : Occurs nocase payload bytes (new.last - 1) × (new.last - 1 < end)). (fresh.0, (end_is (new.last - 1) (under_bound (new.last - 1) fresh.0)).1 fresh.1))
-        (looked.stands some_last)
+        (looked.is_found some_last)
 
     pub serves_next : Serves (take (length rest - 1) (drop 1 rest)) new
     serves_next = record {
       noted = λ p i has over here. let had = contains_later rest p some has in looked.noted i (low_of p i had over here) here (before.noted p i had over here);
-      stands = λ some_last. let last = last_stands some_last in (last.0, λ p has. room_later reach.room (get_or rest 0 0) p (new.last - 1 + length bytes) (least p (contains_later rest p some has)) last.1);
+      is_found = λ some_last. let last = last_is_found some_last in (last.0, λ p has. room_later reach.room (get_or rest 0 0) p (new.last - 1 + length bytes) (least p (contains_later rest p some has)) last.1);
     }
 
     -- what was seen tells whether the bytes are reached from the first of them
@@ -103,7 +103,7 @@ module _ (nocase : Bool) (payload bytes : List ℕ) (reach : Reach) where
       λ yes. absurd (cc),
       λ none.
           let past : low < new.last = grind (arith, nat_tests) in
-          let last = last_stands (omega arith) in
+          let last = last_is_found (omega arith) in
           let below = under_bound (new.last - 1) last.0 in
           absurd (none (new.last - 1, record { low = (low_is (new.last - 1) below).1 (omega arith); high = last.1 }, last.0)),
     )

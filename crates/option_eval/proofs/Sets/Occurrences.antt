@@ -95,12 +95,12 @@ module _ (payload bytes : List ℕ) (at : ℕ) (fits : at + length bytes ≤ len
       ∙ ap (take (at + length bytes - at)) (drop-map to_ascii_lowercase at payload)
       ∙ take-map to_ascii_lowercase (at + length bytes - at) (drop at payload)
 
-  pub folded_stands : str_to_ascii_lowercase bytes ≡ str_to_ascii_lowercase (take (at + length bytes - at) (drop at payload)) → Occurs true payload bytes at
-  folded_stands same =
+  pub folded_is_found : str_to_ascii_lowercase bytes ≡ str_to_ascii_lowercase (take (at + length bytes - at) (drop at payload)) → Occurs true payload bytes at
+  folded_is_found same =
       OccursAt-from_part (str_to_ascii_lowercase payload) (str_to_ascii_lowercase bytes) at (omega (arith, length-map bytes to_ascii_lowercase, length-map payload to_ascii_lowercase)) (same_part ∙ sym same)
 
-  pub stands_folded : Occurs true payload bytes at → str_to_ascii_lowercase bytes ≡ str_to_ascii_lowercase (take (at + length bytes - at) (drop at payload))
-  stands_folded here =
+  pub is_found_folded : Occurs true payload bytes at → str_to_ascii_lowercase bytes ≡ str_to_ascii_lowercase (take (at + length bytes - at) (drop at payload))
+  is_found_folded here =
       sym (OccursAt-part (str_to_ascii_lowercase payload) (str_to_ascii_lowercase bytes) at here) ∙ same_part
 
 -- a letter's two cases fold to the same, and no other byte does
@@ -126,8 +126,8 @@ nowhere_folded payload bytes lower upper is-lower is-upper some low high h =
 
 -- at no place of one stretch, nor of the next
 pub nowhere_joined : (P : ℕ → Type 0) (low mid high : ℕ) → Nowhere P low mid → Nowhere P mid high → Nowhere P low high
-nowhere_joined P low mid high before behind =
-    λ i from below here. ⊎_elim (λ (under : i < mid). before i from under here) (λ (over : mid ≤ i). behind i over below here) (cases_lt i mid)
+nowhere_joined P low mid high before after =
+    λ i from below here. ⊎_elim (λ (under : i < mid). before i from under here) (λ (over : mid ≤ i). after i over below here) (cases_lt i mid)
 
 -- the finder's bytes are the content's
 pub found_exact : (payload bytes finder : List ℕ) (low end stop : ℕ) (r : Option ℕ) → finder ≡ bytes → stop + 1 ≡ end + length bytes

@@ -26,18 +26,18 @@ contains_cases x xs p (suc k, within, is) = inr (k, omega arith, is)
 pub contains_first : (x : ℕ) (xs : List ℕ) → Contains (x ∷ xs) x
 contains_first x xs = (0, omega arith, refl)
 
-pub contains_behind : (x : ℕ) (xs : List ℕ) (p : ℕ) → Contains xs p → Contains (x ∷ xs) p
-contains_behind x xs p h = (suc h.0, omega (arith, h.1), h.2)
+pub contains_after : (x : ℕ) (xs : List ℕ) (p : ℕ) → Contains xs p → Contains (x ∷ xs) p
+contains_after x xs p h = (suc h.0, omega (arith, h.1), h.2)
 
 pub rising_least : (xs : List ℕ) (low high p : ℕ) → IsRising low xs high → Contains xs p → low ≤ p
 rising_least [] low high p h has = omega (arith, has.1)
 rising_least (x ∷ xs) low high p h has =
-    ⊎_elim (λ (is : p ≡ x). omega (arith, h.0)) (λ (behind : Contains xs p). omega (arith, h.0, rising_least xs (x + 1) high p h.1 behind)) (contains_cases x xs p has)
+    ⊎_elim (λ (is : p ≡ x). omega (arith, h.0)) (λ (after : Contains xs p). omega (arith, h.0, rising_least xs (x + 1) high p h.1 after)) (contains_cases x xs p has)
 
 pub rising_most : (xs : List ℕ) (low high p : ℕ) → IsRising low xs high → Contains xs p → p < high
 rising_most [] low high p h has = absurd (omega (arith, has.1))
 rising_most (x ∷ xs) low high p h has =
-    ⊎_elim (λ (is : p ≡ x). omega (arith, rising_length xs (x + 1) high h.1)) (λ (behind : Contains xs p). rising_most xs (x + 1) high p h.1 behind) (contains_cases x xs p has)
+    ⊎_elim (λ (is : p ≡ x). omega (arith, rising_length xs (x + 1) high h.1)) (λ (after : Contains xs p). rising_most xs (x + 1) high p h.1 after) (contains_cases x xs p has)
 
 -- what a set has a larger one has too
 pub got_kept : (every : Bool) (old new : List ℕ) (q : ℕ) → ((p : ℕ) → Contains old p → Contains new p) → IsGot every old q → IsGot every new q

@@ -10,7 +10,7 @@ use Rattle.memchr.specs.Find.{NoneBefore, Nowhere}
 use Rattle.edge_io.specs.Matching.{folded}
 use Rattle.option_eval.specs.Sets.{IsRising, IsGot, Adds, Gathers, Occurs, IsHitIn, IsHitFrom, IsWithin}
 use Rattle.option_eval.specs.declared.reach.Reach.{Reach}
-use Rattle.option_eval.proofs.Sets.Rising.{contains_cases, contains_first, contains_behind, rising_least, got_kept, rising_push, rising_low, rising_high}
+use Rattle.option_eval.proofs.Sets.Rising.{contains_cases, contains_first, contains_after, rising_least, got_kept, rising_push, rising_low, rising_high}
 
 -- where a window goes on: after a place, or at its end where one place is enough
 abbrev pub on_from : Bool → ℕ → ℕ → ℕ
@@ -154,12 +154,12 @@ module _ (every nocase : Bool) (payload bytes : List ℕ) where
           let over = (least_is i below).0 mine.low in
           let under = (most_is i below).0 mine.high in
           inl (omega arith, omega arith))
-          (λ (behind : Contains later p).
-          let order : place + 1 ≤ p = rising_least later (place + 1) high p rising.1 behind in
+          (λ (after : Contains later p).
+          let order : place + 1 ≤ p = rising_least later (place + 1) high p rising.1 after in
           let low_enough = reached.low in
           let over : (pos place +ℤ reach.from) ≤ℤ pos i = omega (arith, ints) in
           let least_under = (least_is i below).0 over in
-          ⊎_elim (λ (under : i < end). inl (omega arith, under)) (λ (past : end ≤ i). inr (behind, past)) (cases_lt i end))
+          ⊎_elim (λ (under : i < end). inl (omega arith, under)) (λ (past : end ≤ i). inr (after, past)) (cases_lt i end))
           (contains_cases place later p has)
 
       sound_in : (apart : Bool) → apart ≡ nat_lt done low → (q : ℕ) → IsHitIn nocase payload bytes from (cond apart done from) q → IsHitFrom nocase payload bytes reach places q
@@ -191,7 +191,7 @@ module _ (every nocase : Bool) (payload bytes : List ℕ) where
       pub swept_more : (rest : List ℕ) → (rest ≡ later) ⊎ (((every ≡ false) × (0 < length new)) ⊎ (bound ≤ end)) → ((p : ℕ) → Contains rest p → Contains later p) → Swept rest (cond (nat_lt done low) low from) end new
       swept_more rest asks fewer = record {
         sound = λ q has. ⊎_elim (λ (old : Contains next q). before.sound q old) (λ (hit : IsHitIn nocase payload bytes from (cond (nat_lt done low) done from) q). sound_in (nat_lt done low) refl q hit) (added.sound q has);
-        within = λ p has. before.within p (contains_behind place later p (fewer p has));
+        within = λ p has. before.within p (contains_after place later p (fewer p has));
         order = order_in (nat_lt done low);
         reached = λ i over under here. reached_in (nat_lt done low) refl i over under here;
         complete = λ p i has reached here. ⊎_elim

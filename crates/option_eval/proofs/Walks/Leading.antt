@@ -11,9 +11,9 @@ use Rattle.rule_types.specs.declared.option.Opt.{Opt}
 use Rattle.rule_types.specs.declared.option.Opt.TheVariants as opt
 use Rattle.option_eval.specs.Kinds.{is_test}
 use Rattle.option_eval.specs.RuleSet.{IsMade}
-use Rattle.option_eval.specs.Numbers.{Standing, Fetched, fetched, number_of}
-use Rattle.option_eval.specs.Places.{Means, Leads, Compares, Unless, byte_jump_len, is_only, at_place, StandsAt, sought}
-use Rattle.option_eval.specs.Sets.{LeadsFrom, LeadsOnlyTo, PlaceIn, StandsFrom, standing}
+use Rattle.option_eval.specs.Numbers.{Point, Fetched, fetched, number_of}
+use Rattle.option_eval.specs.Places.{Means, Leads, Compares, Unless, byte_jump_len, is_only, at_place, IsFoundAt, sought}
+use Rattle.option_eval.specs.Sets.{LeadsFrom, LeadsOnlyTo, PlaceIn, IsFoundFrom, point}
 
 -- a fact or its opposite
 unless_same : (negated holds answer : Bool) (P : Type 0) → answer ≡ cond negated (not holds) holds → (IsTrue holds → P) × (P → IsTrue holds) → (IsTrue answer → Unless negated P) × (Unless negated P → IsTrue answer)
@@ -23,11 +23,11 @@ unless_same false holds answer P is h = (λ yes. h.0 (sym is ∙ yes), λ p. is 
 
 module _ (means : Means) (payload values : List ℕ) (place : ℕ) where
   module _ (fetch : Fetch) (negated : Bool) (how : Cmp) (value : Num) where
-    pub byte_test_none : (q : ℕ) → None ≡ fetched payload fetch (standing values place) → ¬ LeadsFrom means payload values (opt.ByteTest fetch negated how value) place q
+    pub byte_test_none : (q : ℕ) → None ≡ fetched payload fetch (point values place) → ¬ LeadsFrom means payload values (opt.ByteTest fetch negated how value) place q
     unfolding Leads
     byte_test_none q none h = let e = h.1 in cc
 
-    pub byte_test_some : (read : Fetched) (holds answer : Bool) → Some read ≡ fetched payload fetch (standing values place) → answer ≡ cond negated (not holds) holds
+    pub byte_test_some : (read : Fetched) (holds answer : Bool) → Some read ≡ fetched payload fetch (point values place) → answer ≡ cond negated (not holds) holds
         → (IsTrue holds → Compares how read.number (number_of values value)) × (Compares how read.number (number_of values value) → IsTrue holds)
         → (IsTrue answer → LeadsFrom means payload values (opt.ByteTest fetch negated how value) place place) × (LeadsFrom means payload values (opt.ByteTest fetch negated how value) place place → IsTrue answer)
     unfolding Leads
@@ -52,11 +52,11 @@ module _ (means : Means) (payload values : List ℕ) (place : ℕ) where
     -- a content that is negated, or sought by the fast pattern alone
     abbrev Stays : Bool → Bool → Type 0
     Stays negated only = MatchBool negated
-        (((i : ℕ) → ¬ StandsAt content.bytes payload (sought content (standing values place)) i) × (standing values place ≡ standing values place))
-        ((i : ℕ) × StandsAt content.bytes payload (sought content (standing values place)) i × (standing values place ≡ cond only (standing values place) (at_place (standing values place) (i + length content.bytes))))
+        (((i : ℕ) → ¬ IsFoundAt content.bytes payload (sought content (point values place)) i) × (point values place ≡ point values place))
+        ((i : ℕ) × IsFoundAt content.bytes payload (sought content (point values place)) i × (point values place ≡ cond only (point values place) (at_place (point values place) (i + length content.bytes))))
 
     stays : (negated only holds answer : Bool) → (negated || only) ≡ true → answer ≡ cond negated (not holds) holds
-        → (IsTrue holds → StandsFrom payload content values place) × (StandsFrom payload content values place → IsTrue holds)
+        → (IsTrue holds → IsFoundFrom payload content values place) × (IsFoundFrom payload content values place → IsTrue holds)
         → (IsTrue answer → Stays negated only) × (Stays negated only → IsTrue answer)
     stays true only true answer test is h = (λ yes. absurd (false≢true (sym is ∙ yes)), λ led. let s = h.0 refl in absurd (led.0 s.0 s.1))
     stays true only false answer test is h = (λ yes. (λ i here. false≢true (h.1 (i, here)), refl), λ led. is)
@@ -64,17 +64,17 @@ module _ (means : Means) (payload values : List ℕ) (place : ℕ) where
     stays false false holds answer test is h = absurd (false≢true test)
 
     pub content_stays : (holds answer : Bool) → (content.negated || is_only content.fast) ≡ true → answer ≡ cond content.negated (not holds) holds
-        → (IsTrue holds → StandsFrom payload content values place) × (StandsFrom payload content values place → IsTrue holds)
+        → (IsTrue holds → IsFoundFrom payload content values place) × (IsFoundFrom payload content values place → IsTrue holds)
         → (IsTrue answer → LeadsFrom means payload values (opt.Content content) place place) × (LeadsFrom means payload values (opt.Content content) place place → IsTrue answer)
     unfolding Leads
     content_stays holds answer test is h = stays content.negated (is_only content.fast) holds answer test is h
 
   module _ (fetch : Fetch) (times : ℕ) (align beginning : Bool) (post : ℤ) where
-    pub byte_jump_none : None ≡ fetched payload fetch (standing values place) → LeadsOnlyTo (LeadsFrom means payload values (opt.ByteJump fetch times align beginning post) place) None
+    pub byte_jump_none : None ≡ fetched payload fetch (point values place) → LeadsOnlyTo (LeadsFrom means payload values (opt.ByteJump fetch times align beginning post) place) None
     unfolding Leads
     byte_jump_none none q h = let e = h.1 in cc
 
-    pub byte_jump_some : (read : Fetched) (r : Option ℕ) → Some read ≡ fetched payload fetch (standing values place)
+    pub byte_jump_some : (read : Fetched) (r : Option ℕ) → Some read ≡ fetched payload fetch (point values place)
         → PlaceIn (pos ((cond beginning 0 read.stop) + byte_jump_len times align read.number) +ℤ post) (length payload) r
         → LeadsOnlyTo (LeadsFrom means payload values (opt.ByteJump fetch times align beginning post) place) r
     unfolding Leads
@@ -112,11 +112,11 @@ module _ (means : Means) (payload values : List ℕ) (place : ℕ) where
       λ q led.
           let e = led.1 in
           let same : led.0 ≡ span = cc in
-          ap (λ (s : Standing). s.place) led.2 ∙ ap (λ (s : Span). cond relative place 0 + s.end) same,
+          ap (λ (s : Point). s.place) led.2 ∙ ap (λ (s : Span). cond relative place 0 + s.end) same,
     )
 
 -- an option of another kind leads to the place before it
-pub stays_otherwise : (means : Means) (payload : List ℕ) (option : Opt) (before : Standing) → is_test option ≡ true
+pub stays_otherwise : (means : Means) (payload : List ℕ) (option : Opt) (before : Point) → is_test option ≡ true
     → ((content : Content) → option ≡ opt.Content content → ⊥)
     → ((text : List ℕ) (flags : PatternFlags) (relative negated : Bool) → option ≡ opt.Pcre text flags relative negated → ⊥)
     → ((fetch : Fetch) (negated : Bool) (how : Cmp) (value : Num) → option ≡ opt.ByteTest fetch negated how value → ⊥)

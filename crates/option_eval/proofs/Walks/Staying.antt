@@ -7,29 +7,29 @@ use Rattle.rule_types.specs.declared.option.Fetch.{Fetch}
 use Rattle.rule_types.specs.declared.option.Opt.{Opt}
 use Rattle.rule_types.specs.declared.option.Opt.TheVariants as opt
 use Rattle.option_eval.specs.Kinds.{is_relative, is_test, IsJump}
-use Rattle.option_eval.specs.Numbers.{Standing, fetched, origin, number_if, number_of}
-use Rattle.option_eval.specs.Places.{Means, Leads, StandsAt, Sought, Unless, is_only, sought, is_payload_option, is_extract, at_place}
-use Rattle.option_eval.specs.Sets.{LeadsFrom, standing}
+use Rattle.option_eval.specs.Numbers.{Point, fetched, origin, number_if, number_of}
+use Rattle.option_eval.specs.Places.{Means, Leads, IsFoundAt, Sought, Unless, is_only, sought, is_payload_option, is_extract, at_place}
+use Rattle.option_eval.specs.Sets.{LeadsFrom, point}
 
 -- a content that is negated, or sought by the fast pattern alone
-content_stay : (negated only : Bool) (A : Type 0) (B : ℕ → Type 0) (s t : Standing) (far : ℕ → Standing) → (negated || only) ≡ true → MatchBool negated (A × (t ≡ s)) ((i : ℕ) × B i × (t ≡ cond only s (far i))) → t ≡ s
+content_stay : (negated only : Bool) (A : Type 0) (B : ℕ → Type 0) (s t : Point) (far : ℕ → Point) → (negated || only) ≡ true → MatchBool negated (A × (t ≡ s)) ((i : ℕ) × B i × (t ≡ cond only s (far i))) → t ≡ s
 content_stay true only A B s t far test h = h.1
 content_stay false true A B s t far test h = h.2
 content_stay false false A B s t far test h = absurd (false≢true test)
 
-pattern_stay : (negated : Bool) (A B : Type 0) (s t : Standing) → negated ≡ true → MatchBool negated (A × (t ≡ s)) B → t ≡ s
+pattern_stay : (negated : Bool) (A B : Type 0) (s t : Point) → negated ≡ true → MatchBool negated (A × (t ≡ s)) B → t ≡ s
 pattern_stay true A B s t test h = h.1
 pattern_stay false A B s t test h = absurd (false≢true test)
 
-place_is : (values : List ℕ) (p q : ℕ) → standing values q ≡ standing values p → q ≡ p
-place_is values p q h = ap (λ (s : Standing). s.place) h
+place_is : (values : List ℕ) (p q : ℕ) → point values q ≡ point values p → q ≡ p
+place_is values p q h = ap (λ (s : Point). s.place) h
 
 -- a test stays at its place
 pub test_stays : (means : Means) (payload values : List ℕ) (option : Opt) → is_test option ≡ true → (p q : ℕ) → LeadsFrom means payload values option p q → q ≡ p
 unfolding Leads
 test_stays means payload values (opt.Content content) test p q led =
-    place_is values p q (content_stay content.negated (is_only content.fast) ((i : ℕ) → ¬ StandsAt content.bytes payload (sought content (standing values p)) i) (λ i. StandsAt content.bytes payload (sought content (standing values p)) i) (standing values p) (standing values q) (λ i. at_place (standing values p) (i + length content.bytes)) test led)
-test_stays means payload values (opt.Pcre text flags relative negated) test p q led = place_is values p q (pattern_stay negated _ _ (standing values p) (standing values q) test led)
+    place_is values p q (content_stay content.negated (is_only content.fast) ((i : ℕ) → ¬ IsFoundAt content.bytes payload (sought content (point values p)) i) (λ i. IsFoundAt content.bytes payload (sought content (point values p)) i) (point values p) (point values q) (λ i. at_place (point values p) (i + length content.bytes)) test led)
+test_stays means payload values (opt.Pcre text flags relative negated) test p q led = place_is values p q (pattern_stay negated _ _ (point values p) (point values q) test led)
 test_stays means payload values (opt.ByteTest fetch negated how value) test p q led = place_is values p q led.3
 test_stays means payload values (opt.IsDataAt at relative negated) test p q led = place_is values p q led.1
 test_stays means payload values (opt.ByteJump fetch times align beginning post) test p q led = absurd (false≢true test)
@@ -61,7 +61,7 @@ origin_free : (relative : Bool) (p p' : ℕ) → relative ≡ false → cond rel
 origin_free true p p' free = absurd (false≢true (sym free))
 origin_free false p p' free = refl
 
-pub fetched_free : (payload values : List ℕ) (fetch : Fetch) (p p' : ℕ) → fetch.relative ≡ false → fetched payload fetch (standing values p) ≡ fetched payload fetch (standing values p')
+pub fetched_free : (payload values : List ℕ) (fetch : Fetch) (p p' : ℕ) → fetch.relative ≡ false → fetched payload fetch (point values p) ≡ fetched payload fetch (point values p')
 unfolding fetched
 fetched_free payload values fetch p p' free = let same = origin_free fetch.relative p p' free in rw same refl
 
@@ -75,10 +75,10 @@ sought_parts true relative nocase p p' from room free = refl
 sought_parts false true nocase p p' from room free = absurd (false≢true (sym free))
 sought_parts false false nocase p p' from room free = refl
 
-pub sought_free : (content : Content) (values : List ℕ) (p p' : ℕ) → (not (is_only content.fast) && content.relative) ≡ false → sought content (standing values p) ≡ sought content (standing values p')
+pub sought_free : (content : Content) (values : List ℕ) (p p' : ℕ) → (not (is_only content.fast) && content.relative) ≡ false → sought content (point values p) ≡ sought content (point values p')
 sought_free content values p p' free = sought_parts (is_only content.fast) content.relative content.nocase p p' (unwrap_or (number_if values content.from) (pos 0)) (number_if values content.room) free
 
-content_free : (negated only : Bool) (A B : ℕ → Type 0) (s t : Standing) (far far' : ℕ → Standing) → ((i : ℕ) → A i → B i) → ((i : ℕ) → B i → A i) → (negated || only) ≡ true
+content_free : (negated only : Bool) (A B : ℕ → Type 0) (s t : Point) (far far' : ℕ → Point) → ((i : ℕ) → A i → B i) → ((i : ℕ) → B i → A i) → (negated || only) ≡ true
     → MatchBool negated (((i : ℕ) → ¬ A i) × (s ≡ s)) ((i : ℕ) × A i × (s ≡ cond only s (far i)))
     → MatchBool negated (((i : ℕ) → ¬ B i) × (t ≡ t)) ((i : ℕ) × B i × (t ≡ cond only t (far' i)))
 content_free true only A B s t far far' up down test h = (λ i here. h.0 i (down i here), refl)
@@ -86,8 +86,8 @@ content_free false true A B s t far far' up down test h = (h.0, up h.0 h.1, refl
 content_free false false A B s t far far' up down test h = absurd (false≢true test)
 
 pattern_free : (finds : List ℕ → Option Span) (relative negated : Bool) (payload values : List ℕ) (p p' : ℕ) (B : Type 0) (C : Type 0) → negated ≡ true → relative ≡ false
-    → MatchBool negated ((finds (drop (cond relative p 0) payload) ≡ None) × (standing values p ≡ standing values p)) B
-    → MatchBool negated ((finds (drop (cond relative p' 0) payload) ≡ None) × (standing values p' ≡ standing values p')) C
+    → MatchBool negated ((finds (drop (cond relative p 0) payload) ≡ None) × (point values p ≡ point values p)) B
+    → MatchBool negated ((finds (drop (cond relative p' 0) payload) ≡ None) × (point values p' ≡ point values p')) C
 pattern_free finds relative false payload values p p' B C test free h = absurd (false≢true test)
 pattern_free finds true true payload values p p' B C test free h = absurd (false≢true (sym free))
 pattern_free finds false true payload values p p' B C test free h = (h.0, refl)
@@ -96,10 +96,10 @@ pattern_free finds false true payload values p p' B C test free h = (h.0, refl)
 pub test_free : (means : Means) (payload values : List ℕ) (option : Opt) → is_test option ≡ true → is_relative option ≡ false → (p p' : ℕ) → LeadsFrom means payload values option p p → LeadsFrom means payload values option p' p'
 unfolding Leads
 test_free means payload values (opt.Content content) test free p p' led =
-    content_free content.negated (is_only content.fast) (λ i. StandsAt content.bytes payload (sought content (standing values p)) i) (λ i. StandsAt content.bytes payload (sought content (standing values p')) i)
-    (standing values p) (standing values p') (λ i. at_place (standing values p) (i + length content.bytes)) (λ i. at_place (standing values p') (i + length content.bytes))
-    (λ i here. subst (λ (how : Sought). StandsAt content.bytes payload how i) (sought_free content values p p' free) here)
-    (λ i here. subst (λ (how : Sought). StandsAt content.bytes payload how i) (sought_free content values p' p free) here)
+    content_free content.negated (is_only content.fast) (λ i. IsFoundAt content.bytes payload (sought content (point values p)) i) (λ i. IsFoundAt content.bytes payload (sought content (point values p')) i)
+    (point values p) (point values p') (λ i. at_place (point values p) (i + length content.bytes)) (λ i. at_place (point values p') (i + length content.bytes))
+    (λ i here. subst (λ (how : Sought). IsFoundAt content.bytes payload how i) (sought_free content values p p' free) here)
+    (λ i here. subst (λ (how : Sought). IsFoundAt content.bytes payload how i) (sought_free content values p' p free) here)
     test led
 test_free means payload values (opt.Pcre text flags relative negated) test free p p' led = pattern_free (means text flags) relative negated payload values p p' _ _ test free led
 test_free means payload values (opt.ByteTest fetch negated how value) test free p p' led = (led.0, fetched_free payload values fetch p' p free ∙ led.1, led.2, refl)
@@ -110,8 +110,8 @@ test_free means payload values (opt.ByteExtract fetch name times align) test fre
 test_free means payload values _ test free p p' led = refl
 
 jump_pattern : (finds : List ℕ → Option Span) (relative negated : Bool) (payload values : List ℕ) (p p' q : ℕ) (B : Type 0) (C : Type 0) → negated ≡ false → relative ≡ false
-    → MatchBool negated B ((span : Span) × (finds (drop (cond relative p 0) payload) ≡ Some span) × (standing values q ≡ at_place (standing values p) (cond relative p 0 + span.end)))
-    → MatchBool negated C ((span : Span) × (finds (drop (cond relative p' 0) payload) ≡ Some span) × (standing values q ≡ at_place (standing values p') (cond relative p' 0 + span.end)))
+    → MatchBool negated B ((span : Span) × (finds (drop (cond relative p 0) payload) ≡ Some span) × (point values q ≡ at_place (point values p) (cond relative p 0 + span.end)))
+    → MatchBool negated C ((span : Span) × (finds (drop (cond relative p' 0) payload) ≡ Some span) × (point values q ≡ at_place (point values p') (cond relative p' 0 + span.end)))
 jump_pattern finds relative true payload values p p' q B C plain free h = absurd (false≢true (sym plain))
 jump_pattern finds true false payload values p p' q B C plain free h = absurd (false≢true (sym free))
 jump_pattern finds false false payload values p p' q B C plain free h = (h.0, h.1, h.2)

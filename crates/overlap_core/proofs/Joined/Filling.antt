@@ -6,7 +6,7 @@ use Rattle.std.proofs.lemmas.Bool.{cases_lt}
 use Rattle.std.proofs.lemmas.List.{get_or-append-add, get_or_append_left, get_or-take, length-take-le}
 use Rattle.overlap_core.specs.Joined.{byte_in}
 use Rattle.overlap_core.specs.Pieces.{IsRow, Kept, kept_in, Piece, piece_end}
-use Rattle.overlap_core.proofs.Rows.Telling.{IsRow-lower, kept_in-ahead, kept_in-before_row, kept_in-behind, kept_in-here}
+use Rattle.overlap_core.proofs.Rows.Telling.{IsRow-lower, kept_in-ahead, kept_in-before_row, kept_in-after, kept_in-here}
 
 -- `done` of `len` places are passed, and `out` begins with their bytes
 pub record IsFilling (whole rest : List Piece) (floor done len : ℕ) (out : List ℕ) (top : ℕ) : Type 0 where
@@ -32,14 +32,14 @@ filling_more whole rest piece floor done len count later out more top now within
   row = IsRow-lower (piece_end piece) (floor + (done + count)) top rest (omega (arith, here, counted)) now.row.2;
   same = λ inside place from.
       let passed : count ≡ length piece.bytes = omega (arith, counted, inside, long) in
-      sym (kept_in-behind piece rest place (omega (arith, passed, here, from))) ∙ now.same within place (omega (arith, from));
+      sym (kept_in-after piece rest place (omega (arith, passed, here, from))) ∙ now.same within place (omega (arith, from));
   bytes = λ k below. elim (cases_lt k done) as (λ _. byte_in whole (floor + k) ≡ Some (get_or more k 0)) [
     | inl before ↦ now.bytes k before ∙ ap Some (sym (old k before))
-    | inr behind ↦
-        let at : done + (k - done) ≡ k = omega (arith, behind) in
-        let index : floor + k - piece.start ≡ k - done = omega (arith, here, behind) in
-        ap byte_of_kept (sym (now.same within (floor + k) (omega (arith, behind))) ∙ kept_in-here piece rest (floor + k) (omega (arith, here, behind)) (omega (arith, here, below, counted, behind)))
-        ∙ ap (λ n. Some (get_or piece.bytes n 0)) index ∙ ap Some (sym (new (k - done) (omega (arith, below, behind)))) ∙ ap (λ n. Some (get_or more n 0)) at
+    | inr after ↦
+        let at : done + (k - done) ≡ k = omega (arith, after) in
+        let index : floor + k - piece.start ≡ k - done = omega (arith, here, after) in
+        ap byte_of_kept (sym (now.same within (floor + k) (omega (arith, after))) ∙ kept_in-here piece rest (floor + k) (omega (arith, here, after)) (omega (arith, here, below, counted, after)))
+        ∙ ap (λ n. Some (get_or piece.bytes n 0)) index ∙ ap Some (sym (new (k - done) (omega (arith, below, after)))) ∙ ap (λ n. Some (get_or more n 0)) at
   ];
 }
 

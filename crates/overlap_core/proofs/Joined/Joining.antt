@@ -8,12 +8,12 @@ use Rattle.overlap_core.specs.declared.segment.Run.{Run}
 use Rattle.overlap_core.specs.Joined.{byte_in, end_of_run, with_run}
 use Rattle.overlap_core.specs.Pieces.{IsRow, Kept, kept_in, Piece, piece_end}
 use Rattle.overlap_core.specs.Runs.{AreBytes, AreRuns, IsFirstRun, NoByte}
-use Rattle.overlap_core.proofs.Rows.Telling.{IsRow-lower, kept_in-ahead, kept_in-before_row, kept_in-behind, kept_in-here}
+use Rattle.overlap_core.proofs.Rows.Telling.{IsRow-lower, kept_in-ahead, kept_in-before_row, kept_in-after, kept_in-here}
 
 NoByte-join : (byte : ℕ → Option ℕ) (low mid high : ℕ) → NoByte byte low mid → NoByte byte mid high → NoByte byte low high
-NoByte-join byte low mid high before behind = λ place from below. elim (cases_lt place mid) as (λ _. byte place ≡ None) [
+NoByte-join byte low mid high before beyond = λ place from below. elim (cases_lt place mid) as (λ _. byte place ≡ None) [
   | inl here ↦ before place from here
-  | inr there ↦ behind place there below
+  | inr there ↦ beyond place there below
 ]
 
 abbrev pub make_run : ℕ → List ℕ → Run
@@ -57,7 +57,7 @@ apart_none byte low from start run is order none after apart = elim (cases_lt (e
   | inl before ↦ after (end_of_run run) (omega arith) before
   | inr at ↦ elim (cases_lt (end_of_run run) start) as (λ _. byte (end_of_run run) ≡ None) [
     | inl below ↦ none (end_of_run run) at below
-    | inr behind ↦ absurd (apart (omega (arith, is.within, order, behind)))
+    | inr beyond ↦ absurd (apart (omega (arith, is.within, order, beyond)))
   ]
 ]
 
@@ -190,7 +190,7 @@ joining_more whole rest piece runs more floor below top now under is =
       row = IsRow-lower (piece_end piece) (piece.start + length bytes) top rest (omega (arith, long)) now.row.2;
       same = λ inside place from.
           let whole_piece : length bytes ≡ length piece.bytes = omega (arith, long, inside) in
-          sym (kept_in-behind piece rest place (omega (arith, whole_piece, from))) ∙ now.same before place (omega (arith, now.row.0, from));
+          sym (kept_in-after piece rest place (omega (arith, whole_piece, from))) ∙ now.same before place (omega (arith, now.row.0, from));
       are = subst (AreRuns (byte_in whole) floor (piece.start + length bytes)) (sym is)
           (with_run-are (byte_in whole) floor now.from piece.start bytes runs (omega (arith, now.order, now.row.0)) now.are now.row.0 none (omega (arith, long, now.row.1, under)) holds);
     }

@@ -41,7 +41,7 @@ one_start : (byte : ℕ → Option ℕ) (low high : ℕ) (run other : Run) → I
 one_start byte low high run other is that =
     elim (cases_lt run.start other.start) as (λ _. run.start ≡ other.start) [
       | inl before ↦ absurd (not_before byte low high run other is that before)
-      | inr behind ↦ elim (cases_lt other.start run.start) as (λ _. run.start ≡ other.start) [
+      | inr after ↦ elim (cases_lt other.start run.start) as (λ _. run.start ≡ other.start) [
         | inl before ↦ absurd (not_before byte low high other run that is before)
         | inr ahead ↦ omega arith
       ]

@@ -10,7 +10,7 @@ use Rattle.overlap_core.specs.Overlap.{bounds_of, covers, end_of, wins}
 use Rattle.overlap_core.specs.Pieces.{HoldChosen, IsRow, Kept, kept_at, kept_in, kept_of, Piece, piece_end}
 use Rattle.overlap_core.specs.Rows.{BeginBelow, BeginFrom, gap_piece, IsCutAt, laid, overlaid, part_of}
 use Rattle.overlap_core.proofs.Segments.Arrivals.{kept_after, kept_after-snoc, stronger_kept}
-use Rattle.overlap_core.proofs.Rows.Telling.{end-below, front-row, IsRow-append, IsRow-higher, IsRow-lower, kept_in-ahead, kept_in-before_row, kept_in-behind, kept_in-behind_row, kept_in-front, kept_in-here, kept_in-rest, rest-cut, rest-row}
+use Rattle.overlap_core.proofs.Rows.Telling.{end-below, front-row, IsRow-append, IsRow-higher, IsRow-lower, kept_in-ahead, kept_in-before_row, kept_in-after, kept_in-after_row, kept_in-front, kept_in-here, kept_in-rest, rest-cut, rest-row}
 
 length-part : (new : Segment) (low high : ℕ) → new.start ≤ low → low ≤ high → high ≤ end_of new → length (part_of new low high).bytes ≡ high - low
 length-part new low high from order to = length-take-le (high - low) (drop (low - new.start) new.bytes) (omega (arith, length-drop (low - new.start) new.bytes))
@@ -35,11 +35,11 @@ gap-in new low high place pieces from to here below =
     ∙ kept_in-here (part_of new low high) pieces place here (omega (arith, long)) ∙ ap Some (kept_of-part new low high place from here below)
 
 gap-out : (new : Segment) (low high place : ℕ) (pieces : List Piece) → new.start ≤ low → high ≤ end_of new → high ≤ place → kept_in (gap_piece new low high ++ pieces) place ≡ kept_in pieces place
-gap-out new low high place pieces from to behind = elim (cases_lt low high) as (λ _. kept_in (gap_piece new low high ++ pieces) place ≡ kept_in pieces place) [
+gap-out new low high place pieces from to beyond = elim (cases_lt low high) as (λ _. kept_in (gap_piece new low high ++ pieces) place ≡ kept_in pieces place) [
   | inl some ↦
       let test : nat_lt low high ≡ true = grind (arith, nat_tests) in
       let long = length-part new low high from (omega arith) to in
-      ap (λ b. kept_in (cond b (part_of new low high ∷ []) [] ++ pieces) place) test ∙ kept_in-behind (part_of new low high) pieces place (omega (arith, long, some, behind))
+      ap (λ b. kept_in (cond b (part_of new low high ∷ []) [] ++ pieces) place) test ∙ kept_in-after (part_of new low high) pieces place (omega (arith, long, some, beyond))
   | inr none ↦
       let test : nat_lt low high ≡ false = grind (arith, nat_tests) in
       ap (λ b. kept_in (cond b (part_of new low high ∷ []) [] ++ pieces) place) test
@@ -108,10 +108,10 @@ overlaid-is preference new piece from some cut = elim (cases_lt piece.start (end
   | inl below ↦
       subst (IsOverlaid preference new piece) (sym (overlaid-within preference new piece (wins preference piece.whole (bounds_of new)) from (cut below) refl))
       (overlaid_by preference new piece (wins preference piece.whole (bounds_of new)) from some (cut below) refl)
-  | inr behind ↦
+  | inr beyond ↦
       let same : IsOverlaid preference new piece piece =
       (refl, refl, λ place here below. let uncovered : covers new place ≡ false = grind (arith, nat_tests) in sym (uncovered-kept preference new (Some (kept_of place piece)) place uncovered)) in
-      subst (IsOverlaid preference new piece) (sym (overlaid-outside preference new piece (omega (arith, behind, some)))) same
+      subst (IsOverlaid preference new piece) (sym (overlaid-outside preference new piece (omega (arith, beyond, some)))) same
 ]
 
 -- the laid pieces are a row
@@ -136,7 +136,7 @@ laid-tells preference new low top [] place from row cut here =
     ap (λ ps. kept_in ps place) (sym (append_none (gap_piece new low (end_of new))))
     ∙ (elim (cases_lt place (end_of new)) as (λ _. kept_in (gap_piece new low (end_of new) ++ []) place ≡ kept_after preference place None new) [
       | inl below ↦ let covered : covers new place ≡ true = grind (arith, nat_tests) in gap-in new low (end_of new) place [] from (omega arith) here below ∙ sym (covered_new preference new place covered)
-      | inr behind ↦ let uncovered : covers new place ≡ false = grind (arith, nat_tests) in gap-out new low (end_of new) place [] from (omega arith) behind ∙ sym (uncovered-kept preference new None place uncovered)
+      | inr beyond ↦ let uncovered : covers new place ≡ false = grind (arith, nat_tests) in gap-out new low (end_of new) place [] from (omega arith) beyond ∙ sym (uncovered-kept preference new None place uncovered)
     ])
   where
     append_none : (ps : List Piece) → ps ++ [] ≡ ps
@@ -154,10 +154,10 @@ laid-tells preference new low top (piece ∷ rest) place from row cut here =
             | inl below ↦
                 let covered : covers new place ≡ true = grind (arith, nat_tests) in
                 gap-in new low until place (over ∷ later) from (omega arith) here (omega (arith, ahead, below)) ∙ sym (covered_new preference new place covered) ∙ ap (λ k. kept_after preference place k new) (sym none)
-            | inr behind ↦
+            | inr beyond ↦
                 let uncovered : covers new place ≡ false = grind (arith, nat_tests) in
                 let later_row = laid-row preference new (piece_end piece) top rest (omega (arith, from, row.0)) row.2 cut.1 in
-                gap-out new low until place (over ∷ later) from (omega arith) (omega (arith, behind))
+                gap-out new low until place (over ∷ later) from (omega arith) (omega (arith, beyond))
                 ∙ kept_in-ahead over later place (omega (arith, is.0, ahead)) ∙ kept_in-before_row (piece_end piece) (max top (end_of new)) later place later_row (omega (arith, ahead))
                 ∙ sym (uncovered-kept preference new None place uncovered) ∙ ap (λ k. kept_after preference place k new) (sym none)
           ]
@@ -166,9 +166,9 @@ laid-tells preference new low top (piece ∷ rest) place from row cut here =
           elim (cases_lt place (piece_end piece)) as (λ _. kept_in (gap_piece new low until ++ (over ∷ later)) place ≡ kept_after preference place (kept_in (piece ∷ rest) place) new) [
             | inl within ↦
                 out ∙ kept_in-here over later place (omega (arith, is.0, after)) (omega (arith, is.0, is.1, within)) ∙ is.2 place after within ∙ ap (λ k. kept_after preference place k new) (sym (kept_in-here piece rest place after within))
-            | inr behind ↦
-                out ∙ kept_in-behind over later place (omega (arith, is.0, is.1, behind)) ∙ laid-tells preference new (piece_end piece) top rest place (omega (arith, from, row.0)) row.2 cut.1 behind
-                ∙ ap (λ k. kept_after preference place k new) (sym (kept_in-behind piece rest place behind))
+            | inr beyond ↦
+                out ∙ kept_in-after over later place (omega (arith, is.0, is.1, beyond)) ∙ laid-tells preference new (piece_end piece) top rest place (omega (arith, from, row.0)) row.2 cut.1 beyond
+                ∙ ap (λ k. kept_after preference place k new) (sym (kept_in-after piece rest place beyond))
           ]
     ]
 
@@ -185,17 +185,17 @@ pub whole-tells : (preference : Preference) (new : Segment) (floor top : ℕ) (f
 whole-tells preference new floor top front rest place row below from begins ends here =
     let low = max floor new.start in
     let before = front-row low floor top front rest row below begins (omega arith) in
-    let behind = rest-row low floor top front rest row from in
+    let beyond = rest-row low floor top front rest row from in
     let cut = rest-cut (end_of new) front rest ends in
     elim (cases_lt place low) as (λ _. kept_in (front ++ laid preference new low rest) place ≡ kept_after preference place (kept_in (front ++ rest) place) new) [
       | inl ahead ↦
           let uncovered : covers new place ≡ false = grind (arith, nat_tests) in
-          let laid_row = laid-row preference new low (max low top) rest (omega arith) behind cut in
+          let laid_row = laid-row preference new low (max low top) rest (omega arith) beyond cut in
           kept_in-front front (laid preference new low rest) place (kept_in-before_row low (max (max low top) (end_of new)) (laid preference new low rest) place laid_row ahead)
-          ∙ sym (kept_in-front front rest place (kept_in-before_row low (max low top) rest place behind ahead)) ∙ sym (uncovered-kept preference new (kept_in (front ++ rest) place) place uncovered)
+          ∙ sym (kept_in-front front rest place (kept_in-before_row low (max low top) rest place beyond ahead)) ∙ sym (uncovered-kept preference new (kept_in (front ++ rest) place) place uncovered)
       | inr after ↦
-          let none = kept_in-behind_row floor low front place before after in
-          kept_in-rest front (laid preference new low rest) place none ∙ laid-tells preference new low (max low top) rest place (omega arith) behind cut after ∙ ap (λ k. kept_after preference place k new) (sym (kept_in-rest front rest place none))
+          let none = kept_in-after_row floor low front place before after in
+          kept_in-rest front (laid preference new low rest) place none ∙ laid-tells preference new low (max low top) rest place (omega arith) beyond cut after ∙ ap (λ k. kept_after preference place k new) (sym (kept_in-rest front rest place none))
     ]
 
 pub whole-holds : (preference : Preference) (new : Segment) (segments : List Segment) (floor : ℕ) (old laid_over : List Piece) → HoldChosen preference segments floor old

@@ -2,13 +2,13 @@
 use Rattle.std.proofs.Common.{◌≡◌, ℕ, List, ◌∷◌, [], ◌++◌, Result, Ok, Err, OnOk, OnErr, length, subst, sym, ◌∙◌}
 use Rattle.piece_list.specs.Pieces.{Pieces}
 use Rattle.overlap_core.specs.Pieces.{IsRow, Piece}
-use Rattle.overlap_core.specs.Rows.{BeginBelow, BeginFrom, cut_row, IsCutAt, IsRecut, parts, StandsAt}
-use Rattle.overlap_core.proofs.Rows.Standing.{cut_whole}
+use Rattle.overlap_core.specs.Rows.{BeginBelow, BeginFrom, cut_row, IsCutAt, IsRecut, parts, Between}
+use Rattle.overlap_core.proofs.Rows.Places.{cut_whole}
 use Rattle.overlap_core.proofs.Rows.Telling.{cut_row-cut, cut_row-keeps, cut_row-recut, cut_row-row, recut-refl}
 
 pub recut_of : {X E : Type 0} (at low high : ℕ) (answer : Result X E) (old moved new : Pieces Piece) → IsRow low old.list high → moved.list ≡ old.list
     → ((front rest : List Piece) → old.list ≡ front ++ rest → BeginBelow at front → BeginFrom at rest → moved.place ≡ length front)
-    → OnOk answer ((front rest : List Piece) (last : Piece) → StandsAt moved (front ++ last ∷ []) rest → new.list ≡ front ++ (parts at last ++ rest)) → OnOk answer (moved.place ≡ 0 → new.list ≡ moved.list)
+    → OnOk answer ((front rest : List Piece) (last : Piece) → Between moved (front ++ last ∷ []) rest → new.list ≡ front ++ (parts at last ++ rest)) → OnOk answer (moved.place ≡ 0 → new.list ≡ moved.list)
     → OnErr answer (new.list ≡ moved.list) → IsRecut low high old.list new.list
 recut_of at low high (Ok x) old moved new row list place ok first err = subst (λ ps. IsRecut low high old.list ps) (sym (cut_whole at low high old moved new row list place ok first)) (cut_row-recut at low high old.list row)
 recut_of at low high (Err e) old moved new row list place ok first err = subst (λ ps. IsRecut low high old.list ps) (sym (err ∙ list)) (recut-refl low high old.list row)

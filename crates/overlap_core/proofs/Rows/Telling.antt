@@ -6,7 +6,7 @@ use Rattle.std.proofs.lemmas.List.{length-take-le, get_or-take, get_or-drop}
 use Rattle.overlap_core.specs.declared.segment.Bounds.{Bounds}
 use Rattle.overlap_core.specs.Pieces.{has_place, IsRow, Kept, kept_in, kept_of, Piece, piece_end}
 use Rattle.overlap_core.specs.Rows.{BeginBelow, BeginFrom, cut_row, IsCutAt, IsRecut, left_part, parts, raised, right_part}
-use Rattle.overlap_core.proofs.Rows.Standing.{parts-before, parts-behind, parts-inside}
+use Rattle.overlap_core.proofs.Rows.Places.{parts-before, parts-after, parts-inside}
 
 pub IsRow-lower : (low lower high : ℕ) (pieces : List Piece) → lower ≤ low → IsRow low pieces high → IsRow lower pieces high
 IsRow-lower low lower high [] order row = omega (arith, row)
@@ -23,8 +23,8 @@ kept_in-here piece pieces place from to = let holds : has_place piece place ≡ 
 pub kept_in-ahead : (piece : Piece) (pieces : List Piece) (place : ℕ) → place < piece.start → kept_in (piece ∷ pieces) place ≡ kept_in pieces place
 kept_in-ahead piece pieces place ahead = let fails : has_place piece place ≡ false = grind (arith, nat_tests) in ap (λ b. cond b (Some (kept_of place piece)) (kept_in pieces place)) fails
 
-pub kept_in-behind : (piece : Piece) (pieces : List Piece) (place : ℕ) → piece_end piece ≤ place → kept_in (piece ∷ pieces) place ≡ kept_in pieces place
-kept_in-behind piece pieces place behind = let fails : has_place piece place ≡ false = grind (arith, nat_tests) in ap (λ b. cond b (Some (kept_of place piece)) (kept_in pieces place)) fails
+pub kept_in-after : (piece : Piece) (pieces : List Piece) (place : ℕ) → piece_end piece ≤ place → kept_in (piece ∷ pieces) place ≡ kept_in pieces place
+kept_in-after piece pieces place beyond = let fails : has_place piece place ≡ false = grind (arith, nat_tests) in ap (λ b. cond b (Some (kept_of place piece)) (kept_in pieces place)) fails
 
 -- a row tells nothing of places before it and after it
 pub kept_in-before_row : (low high : ℕ) (pieces : List Piece) (place : ℕ) → IsRow low pieces high → place < low → kept_in pieces place ≡ None
@@ -36,15 +36,15 @@ pub end-below : (low high : ℕ) (pieces : List Piece) → IsRow low pieces high
 end-below low high [] row = row
 end-below low high (piece ∷ pieces) row = let later = end-below (piece_end piece) high pieces row.2 in omega (arith, later, row.0)
 
-pub kept_in-behind_row : (low high : ℕ) (pieces : List Piece) (place : ℕ) → IsRow low pieces high → high ≤ place → kept_in pieces place ≡ None
-kept_in-behind_row low high [] place row behind = refl
-kept_in-behind_row low high (piece ∷ pieces) place row behind =
-    kept_in-behind piece pieces place (let later = end-below (piece_end piece) high pieces row.2 in omega (arith, later)) ∙ kept_in-behind_row (piece_end piece) high pieces place row.2 behind
+pub kept_in-after_row : (low high : ℕ) (pieces : List Piece) (place : ℕ) → IsRow low pieces high → high ≤ place → kept_in pieces place ≡ None
+kept_in-after_row low high [] place row beyond = refl
+kept_in-after_row low high (piece ∷ pieces) place row beyond =
+    kept_in-after piece pieces place (let later = end-below (piece_end piece) high pieces row.2 in omega (arith, later)) ∙ kept_in-after_row (piece_end piece) high pieces place row.2 beyond
 
 -- two rows, one after the other
 pub IsRow-append : (low mid high : ℕ) (front rest : List Piece) → IsRow low front mid → IsRow mid rest high → IsRow low (front ++ rest) high
-IsRow-append low mid high [] rest before behind = IsRow-lower mid low high rest before behind
-IsRow-append low mid high (piece ∷ front) rest before behind = (before.0, before.1, IsRow-append (piece_end piece) mid high front rest before.2 behind)
+IsRow-append low mid high [] rest before beyond = IsRow-lower mid low high rest before beyond
+IsRow-append low mid high (piece ∷ front) rest before beyond = (before.0, before.1, IsRow-append (piece_end piece) mid high front rest before.2 beyond)
 
 pub kept_in-front : (front rest : List Piece) (place : ℕ) → kept_in rest place ≡ None → kept_in (front ++ rest) place ≡ kept_in front place
 kept_in-front [] rest place none = none
@@ -96,10 +96,10 @@ halves_tell at piece pieces place from to =
             kept_in-here (left_part at piece) (right_part at piece ∷ pieces) place after (omega (arith, left)) ∙ ap Some (kept_of-left at piece place (omega arith)) ∙ sym (kept_in-here piece pieces place after (omega arith))
         | inr above ↦ elim (cases_lt place (piece_end piece)) as (λ _. kept_in (left_part at piece ∷ right_part at piece ∷ pieces) place ≡ kept_in (piece ∷ pieces) place) [
           | inl within ↦
-              kept_in-behind (left_part at piece) (right_part at piece ∷ pieces) place (omega (arith, left)) ∙ kept_in-here (right_part at piece) pieces place above (omega (arith, right))
+              kept_in-after (left_part at piece) (right_part at piece ∷ pieces) place (omega (arith, left)) ∙ kept_in-here (right_part at piece) pieces place above (omega (arith, right))
               ∙ ap Some (kept_of-right at piece place (omega arith) above) ∙ sym (kept_in-here piece pieces place after within)
-          | inr behind ↦
-              kept_in-behind (left_part at piece) (right_part at piece ∷ pieces) place (omega (arith, left)) ∙ kept_in-behind (right_part at piece) pieces place (omega (arith, right)) ∙ sym (kept_in-behind piece pieces place behind)
+          | inr beyond ↦
+              kept_in-after (left_part at piece) (right_part at piece ∷ pieces) place (omega (arith, left)) ∙ kept_in-after (right_part at piece) pieces place (omega (arith, right)) ∙ sym (kept_in-after piece pieces place beyond)
         ]
       ]
     ]
@@ -111,7 +111,7 @@ data_inside at piece = elim (cases_lt piece.start at) as (λ _. ((piece.start < 
     | inl to ↦ inl (from, to)
     | inr before ↦ inr (parts-before at piece before)
   ]
-  | inr behind ↦ inr (parts-behind at piece behind)
+  | inr beyond ↦ inr (parts-after at piece beyond)
 ]
 
 -- a cut changes nothing that is told
@@ -151,7 +151,7 @@ cut_row-cut at (piece ∷ pieces) = elim (cases_lt piece.start at) as (λ _. IsC
         subst (λ ps. IsCutAt at (ps ++ cut_row at pieces)) (sym (parts-inside at piece from to)) halves
     | inr before ↦ let same : IsCutAt at (piece ∷ cut_row at pieces) = (λ _. before, cut_row-cut at pieces) in subst (λ ps. IsCutAt at (ps ++ cut_row at pieces)) (sym (parts-before at piece before)) same
   ]
-  | inr behind ↦ let same : IsCutAt at (piece ∷ cut_row at pieces) = (λ below. absurd (omega (arith, below, behind)), cut_row-cut at pieces) in subst (λ ps. IsCutAt at (ps ++ cut_row at pieces)) (sym (parts-behind at piece behind)) same
+  | inr beyond ↦ let same : IsCutAt at (piece ∷ cut_row at pieces) = (λ below. absurd (omega (arith, below, beyond)), cut_row-cut at pieces) in subst (λ ps. IsCutAt at (ps ++ cut_row at pieces)) (sym (parts-after at piece beyond)) same
 ]
 
 -- pieces that are cut at one place stay cut there when they are cut at another
@@ -223,7 +223,7 @@ raised-tells below (piece ∷ pieces) place from = elim (cases_lt below (piece_e
             ∙ (elim (cases_lt place (piece_end piece)) as (λ _. kept_in (right_part below piece ∷ pieces) place ≡ kept_in (piece ∷ pieces) place) [
               | inl within ↦
                   kept_in-here (right_part below piece) pieces place from (omega (arith, right, before, reaches, within)) ∙ ap Some (kept_of-right below piece place (omega (arith, before)) from) ∙ sym (kept_in-here piece pieces place (omega (arith, before, from)) within)
-              | inr behind ↦ kept_in-behind (right_part below piece) pieces place (omega (arith, right, before, reaches, behind)) ∙ sym (kept_in-behind piece pieces place behind)
+              | inr beyond ↦ kept_in-after (right_part below piece) pieces place (omega (arith, right, before, reaches, beyond)) ∙ sym (kept_in-after piece pieces place beyond)
             ])
         | inr at ↦
             let test : nat_lt piece.start below ≡ false = grind (arith, nat_tests) in
@@ -232,7 +232,7 @@ raised-tells below (piece ∷ pieces) place from = elim (cases_lt below (piece_e
   | inr gone ↦
       let test : nat_le (piece_end piece) below ≡ true = grind (arith, nat_tests) in
       ap (λ b. kept_in (cond b (raised below pieces) (cond (nat_lt piece.start below) (right_part below piece ∷ pieces) (piece ∷ pieces))) place) test
-      ∙ raised-tells below pieces place from ∙ sym (kept_in-behind piece pieces place (omega (arith, gone, from)))
+      ∙ raised-tells below pieces place from ∙ sym (kept_in-after piece pieces place (omega (arith, gone, from)))
 ]
 
 pub recut-refl : (low high : ℕ) (pieces : List Piece) → IsRow low pieces high → IsRecut low high pieces pieces

@@ -12,7 +12,7 @@ use Rattle.edge_io.specs.declared.policy.Preference.{Preference}
 use Rattle.edge_io.specs.declared.policy.Preference.TheVariants.{First, Last}
 use Rattle.overlap_core.specs.Segments.{Segment}
 use Rattle.overlap_core.specs.Agreeing.{SegmentsAgree}
-use Rattle.overlap_core.specs.Overlap.{bounds_of, byte_at, chosen_byte, chosen_segment, covers, end_of, is_covered, standing, stronger, wins}
+use Rattle.overlap_core.specs.Overlap.{bounds_of, byte_at, chosen_byte, chosen_segment, covers, end_of, is_covered, winner, stronger, wins}
 use Rattle.overlap_core.specs.Runs.{AreBytes}
 use Rattle.overlap_core.proofs.Segments.Arrivals.{chosen_byte-is_some, chosen_segment-uncovered, chosen_segment-none}
 use Rattle.overlap_core.proofs.Segments.Covered.{chosen_byte-uncovered}
@@ -29,9 +29,9 @@ fold-holds P preference first [] this those = this
 fold-holds P preference first (next ∷ later) this those =
     fold-holds P preference (stronger preference first next) later (stronger-holds P preference first next this (All-head P next later those)) (All-tail P next later those)
 
-standing-holds : (P : Segment → Type 0) (preference : Preference) (segments : List Segment) (segment : Segment) → All P segments → standing preference segments ≡ Some segment → P segment
-standing-holds P preference [] segment all is = cc
-standing-holds P preference (first ∷ later) segment all is =
+winner-holds : (P : Segment → Type 0) (preference : Preference) (segments : List Segment) (segment : Segment) → All P segments → winner preference segments ≡ Some segment → P segment
+winner-holds P preference [] segment all is = cc
+winner-holds P preference (first ∷ later) segment all is =
     let same : fold (stronger preference) first later ≡ segment = cc in
     subst P same (fold-holds P preference first later (All-head P first later all) (All-tail P first later all))
 
@@ -48,7 +48,7 @@ all-one segments place = λ k d below. (
 chosen_segment-one : (preference : Preference) (segments : List Segment) (place : ℕ) (segment : Segment) → chosen_segment preference segments place ≡ Some segment → IsOneAt segments place segment
 unfolding chosen_segment
 chosen_segment-one preference segments place segment is =
-    standing-holds (IsOneAt segments place) preference (filter (λ segment. covers segment place) segments) segment (all-one segments place) is
+    winner-holds (IsOneAt segments place) preference (filter (λ segment. covers segment place) segments) segment (all-one segments place) is
 
 came : (preference : Preference) (segments : List Segment) (place byte : ℕ) (found : Option Segment) → chosen_segment preference segments place ≡ found → option_map (byte_at place) found ≡ Some byte
     → (segment : Segment) × Contains segments segment × IsTrue (covers segment place) × (byte_at place segment ≡ byte)

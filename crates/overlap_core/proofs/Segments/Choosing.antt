@@ -6,8 +6,8 @@ use Rattle.std.proofs.lemmas.List.Folds.{Any-from_list_any}
 use Rattle.edge_io.specs.declared.policy.Preference.{Preference}
 use Rattle.edge_io.specs.declared.policy.Preference.TheVariants.{First, Last}
 use Rattle.overlap_core.specs.Segments.{Segment}
-use Rattle.overlap_core.specs.Overlap.{byte_at, chosen_byte, chosen_segment, covered_end, covers, end_of, is_covered, standing, stronger}
-use Rattle.overlap_core.proofs.Segments.Arrivals.{chosen_byte-is_some, chosen_segment-covered, chosen_segment-uncovered, standing_after}
+use Rattle.overlap_core.specs.Overlap.{byte_at, chosen_byte, chosen_segment, covered_end, covers, end_of, is_covered, winner, stronger}
+use Rattle.overlap_core.proofs.Segments.Arrivals.{chosen_byte-is_some, chosen_segment-covered, chosen_segment-uncovered, winner_after}
 use Rattle.overlap_core.proofs.Segments.Covered.{is_covered-snoc}
 use Rattle.overlap_core.proofs.Segments.Ends.{covered_end-is_greatest}
 
@@ -26,20 +26,20 @@ fold-first : (first : Segment) (later : List Segment) → fold (stronger First) 
 fold-first first [] = refl
 fold-first first (segment ∷ later) = fold-first first later
 
-standing-first : (test : Segment → Bool) (segments : List Segment) → standing First (filter test segments) ≡ find test segments
-standing-first test [] = refl
-standing-first test (segment ∷ later) =
-    elim (test segment) as (λ b. standing First (cond b (segment ∷ filter test later) (filter test later)) ≡ cond b (Some segment) (find test later)) [
+winner-first : (test : Segment → Bool) (segments : List Segment) → winner First (filter test segments) ≡ find test segments
+winner-first test [] = refl
+winner-first test (segment ∷ later) =
+    elim (test segment) as (λ b. winner First (cond b (segment ∷ filter test later) (filter test later)) ≡ cond b (Some segment) (find test later)) [
       | true ↦ ap Some (fold-first segment (filter test later))
-      | false ↦ standing-first test later
+      | false ↦ winner-first test later
     ]
 
 -- under First the first segment that covers a place is chosen there
 pub chosen_segment-first : (segments : List Segment) (place : ℕ) → chosen_segment First segments place ≡ find (λ segment. covers segment place) segments
 unfolding chosen_segment
-chosen_segment-first segments place = standing-first (λ segment. covers segment place) segments
+chosen_segment-first segments place = winner-first (λ segment. covers segment place) segments
 
-after_last : (old : Option Segment) (new : Segment) → standing_after Last old new ≡ new
+after_last : (old : Option Segment) (new : Segment) → winner_after Last old new ≡ new
 after_last None new = refl
 after_last (Some old) new = refl
 

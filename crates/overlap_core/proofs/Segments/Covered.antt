@@ -50,15 +50,15 @@ covered_here new place from below = grind (arith, nat_tests)
 uncovered_before : (new : Segment) (place : ℕ) → place < new.start → covers new place ≡ false
 uncovered_before new place below = grind (arith, nat_tests)
 
-uncovered_behind : (new : Segment) (place : ℕ) → end_of new ≤ place → covers new place ≡ false
-uncovered_behind new place behind = grind (arith, nat_tests)
+uncovered_after : (new : Segment) (place : ℕ) → end_of new ≤ place → covers new place ≡ false
+uncovered_after new place after = grind (arith, nat_tests)
 
 -- a segment that ends at or before `low` changes nothing
-pub IsFirstCovered-behind : (segments : List Segment) (new : Segment) (low high first : ℕ) → IsFirstCovered segments low high first → end_of new ≤ low → IsFirstCovered (segments ++ new ∷ []) low high first
-IsFirstCovered-behind segments new low high first is behind = record {
+pub IsFirstCovered-after : (segments : List Segment) (new : Segment) (low high first : ℕ) → IsFirstCovered segments low high first → end_of new ≤ low → IsFirstCovered (segments ++ new ∷ []) low high first
+IsFirstCovered-after segments new low high first is after = record {
   from = is.from;
   to = is.to;
-  before = λ place from below. is_covered-snoc segments new place ∙ ap (λ b. b || covers new place) (is.before place from below) ∙ uncovered_behind new place (omega arith);
+  before = λ place from below. is_covered-snoc segments new place ∙ ap (λ b. b || covers new place) (is.before place from below) ∙ uncovered_after new place (omega arith);
   here = λ below. is_covered-snoc segments new first ∙ ap (λ b. b || covers new first) (is.here below);
 }
 

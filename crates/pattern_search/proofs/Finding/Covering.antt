@@ -16,7 +16,7 @@ use Rattle.pattern_search.proofs.States.Growing.{word_of-more, word_of-length}
 use Rattle.pattern_search.proofs.Finding.Occurring.{ended-here, ended-infix, infix-ended}
 use Rattle.pattern_search.proofs.Finding.Hitting.{numbers-same, numbers-none}
 use Rattle.pattern_search.specs.declared.sieve.Sieve.{Sieve}
-use Rattle.pattern_search.specs.Sieving.{Sifts, Stands, Skips}
+use Rattle.pattern_search.specs.Sieving.{Sifts, EndsBefore, Skips}
 use Rattle.pattern_search.proofs.Finding.Making.{word-in}
 use Rattle.pattern_search.proofs.Finding.Walking.{ended-tells, ended-from, count-words, word_of-none, walks-more}
 
@@ -103,7 +103,7 @@ closed-drop words closed (suc count) state h k =
 -- a word that begins at a place after the beginning of a walk, and doesn't end within it, is that of a long state there
 pending : (words : List (List ℕ)) → IsClosed words → (letters bytes : List ℕ) (from count state at end : ℕ) → IsAt words (word_of letters (take count (drop from bytes))) (word_at words at) → state < length words → end ≤ length bytes
     → from + count < end → from + length (word_at words state) ≤ end → end < from + count + length (word_at words state) → begins (word_at words state) (word_of letters (take end bytes)) ≡ true → from + count + length (word_at words state) ≤ end + length (word_at words at)
-pending words closed letters bytes from count state at end is h k late behind unended b =
+pending words closed letters bytes from count state at end is h k late after unended b =
     let word = word_at words state in
     let more = end - (from + count) in
     let read = word_of letters (take count (drop from bytes)) in
@@ -183,18 +183,18 @@ covers-walked automaton bytes from count to at old new old_hits new_hits within 
               let word = word_at pats place in
               w.marked place h ∙ ⊎_elim
               (λ before. or_left (is_marked old place) (is_ended pats read place) (is.whole place end h some k before b))
-              (λ behind. or_right (is_marked old place) (is_ended pats read place) (⊎_elim
+              (λ after. or_right (is_marked old place) (is_ended pats read place) (⊎_elim
               (λ late.
               let own = finds.are.word place h in
               let e : length (word_at words (slice_index finds.ends place)) ≡ length word = ap length own in
-              let unended = pending words finds.closed letters bytes from count (slice_index finds.ends place) w.state end w.is (finds.are.within place h) k late (omega (arith, e, behind)) (omega (arith, e, low, back)) (ap (λ x. begins x (word_of letters (take end bytes))) own ∙ b) in
+              let unended = pending words finds.closed letters bytes from count (slice_index finds.ends place) w.state end w.is (finds.are.within place h) k late (omega (arith, e, after)) (omega (arith, e, low, back)) (ap (λ x. begins x (word_of letters (take end bytes))) own ∙ b) in
               absurd (⊎_elim (λ all. omega arith) (λ short. omega (arith, unended, e, low, back)) deep))
               (λ early.
               let part = end - from in
-              let split : end ≡ from + part = omega (arith, behind, some) in
+              let split : end ≡ from + part = omega (arith, after, some) in
               let there = word_of-part letters bytes from part in
               let long : length (word_of letters (take part (drop from bytes))) ≡ part = word_of-length letters (take part (drop from bytes)) ∙ length-take-le part (drop from bytes) (omega (arith, length-drop from bytes)) in
-              let b2 = begins-short word (word_of letters (take part (drop from bytes))) (word_of letters (take from bytes)) (sym (ap (begins word) (ap (λ (n : ℕ). word_of letters (take n bytes)) split ∙ there)) ∙ b) (omega (arith, long, behind)) in
+              let b2 = begins-short word (word_of letters (take part (drop from bytes))) (word_of letters (take from bytes)) (sym (ap (begins word) (ap (λ (n : ℕ). word_of letters (take n bytes)) split ∙ there)) ∙ b) (omega (arith, long, after)) in
               ended-from pats read place some (end-ended letters (drop from bytes) word part count (omega arith) (omega (arith, length-drop from bytes)) b2))
               (cases_lt (from + count) end)))
               (cases_lt end (from + length word));
@@ -235,12 +235,12 @@ covers-skipped automaton sieve bytes from to seen hits own short skips covers = 
         whole = λ place end h some k low b.
             let word = word-in letters patterns place (omega (arith, count)) in
             let long : length (word_at (words_in letters patterns) place) ≡ length (word_at patterns place) = ap length word ∙ word_of-length letters (word_at patterns place) in
-            let stands : Stands letters (word_at patterns place) bytes end = record {
+            let holds : EndsBefore letters (word_at patterns place) bytes end = record {
               some = omega (arith, some, long);
               within = k;
               is = sym (ap (λ w. begins w (word_of letters (take end bytes))) word) ∙ b;
             } in
-            let back = skips.none letters patterns finds.told sifts short place end (omega (arith, count)) stands (omega (arith, long, low)) in
+            let back = skips.none letters patterns finds.told sifts short place end (omega (arith, count)) holds (omega (arith, long, low)) in
             is.whole place end h some k (omega (arith, back, long)) b;
         closed = is.closed;
         listed = is.listed;

@@ -74,7 +74,7 @@ advance-some old new letters pattern depth end letter next ends h is has = recor
 -- all patterns
 module _ (letters : List ℕ) (patterns : List (List ℕ)) where
   pub between-none : (words : List (List ℕ)) (ends : List ℕ) (depth : ℕ) → AreAt words letters patterns ends depth → AreBetween words letters patterns ends depth 0
-  between-none words ends depth are = record { count = are.count; before = λ place h k. absurd (omega arith); behind = λ place h k. are.each place k }
+  between-none words ends depth are = record { count = are.count; before = λ place h k. absurd (omega arith); after = λ place h k. are.each place k }
 
   pub between-all : (words : List (List ℕ)) (ends : List ℕ) (depth done : ℕ) → length patterns ≤ done → AreBetween words letters patterns ends depth done → AreAt words letters patterns ends (depth + 1)
   between-all words ends depth done h are = record { count = are.count; each = λ place k. are.before place (omega arith) k }
@@ -96,9 +96,9 @@ module _ (letters : List ℕ) (patterns : List (List ℕ)) where
             let Q : ℕ → Type 0 = λ n. EndsAt more letters (take (depth + 1) (word_at patterns place)) n in
             subst Q (sym (get_or-set_other ends done place next 0 ne)) (ends-on words more letters (take (depth + 1) (word_at patterns place)) (slice_index ends place) goes.extends (are.before place (omega arith) k)))
             (cases_eq place done);
-        behind = λ place above k.
+        after = λ place above k.
             let Q : ℕ → Type 0 = λ n. EndsAt more letters (take depth (word_at patterns place)) n in
-            subst Q (sym (get_or-set_other ends done place next 0 (λ e. omega arith))) (ends-on words more letters (take depth (word_at patterns place)) (slice_index ends place) goes.extends (are.behind place (omega arith) k));
+            subst Q (sym (get_or-set_other ends done place next 0 (λ e. omega arith))) (ends-on words more letters (take depth (word_at patterns place)) (slice_index ends place) goes.extends (are.after place (omega arith) k));
       }
 
   pub at-none : (trie : Trie) → IsTrie trie 0 → AreAt (words_of trie.steps.items) letters patterns (replicate (length patterns) 0) 0

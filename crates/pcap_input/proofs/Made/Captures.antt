@@ -6,17 +6,17 @@ use Rattle.byteorder.specs.Numbers.{little_number-reads_back}
 use Rattle.pcap_input.specs.declared.capture.Record.{Record}
 use Rattle.pcap_input.specs.declared.capture.CaptureFault.{CaptureFault}
 use Rattle.pcap_input.specs.Cut.{Cut, Clean, IsWhole}
-use Rattle.pcap_input.specs.Savefile.{Stands, captured_length, head_behind, head_of, head_with, most_records, number_at, next_of, place_behind, records_left, record_of}
+use Rattle.pcap_input.specs.Savefile.{Follows, captured_length, head_after, head_of, head_with, most_records, number_at, next_of, place_after, records_left, record_of}
 use Rattle.pcap_input.specs.Frames.{ip_fields, ip_header, tcp_fields, tcp_header, udp_header, frame, tcp_frame, udp_frame}
 use Rattle.pcap_input.specs.Generated.{capture_of, draw, first_traffic, frames, generated, has_payload, header_bytes, letters, made, made_cut, made_datagram, made_head, made_of_session, made_segment, marked, payload_at, payload_drawn, record_bytes, record_fields, records_from, step, text_drawn, with_state}
-use Rattle.pcap_input.proofs.Laws.{bytes_stand, head_of-append, next_of_header, next_of_nothing}
+use Rattle.pcap_input.proofs.Laws.{bytes_follow, head_of-append, next_of_header, next_of_nothing}
 use Rattle.pcap_input.proofs.Made.Making.{text-short}
-use Rattle.pcap_input.proofs.Records.{records_left-ends, records_left-stands}
+use Rattle.pcap_input.proofs.Records.{records_left-ends, records_left-follows}
 
 -- ---- the head of a made capture
 
 head_of_header : head_of header_bytes ≡ Ok made_head
-unfolding head_of head_behind head_with number_at
+unfolding head_of head_after head_with number_at
 head_of_header = refl
 
 -- a capture that is made begins with a file header
@@ -84,14 +84,14 @@ fields_long : (millis size : ℕ) → length (record_fields millis size) ≡ 16
 unfolding record_fields
 fields_long millis size = refl
 
-record_stands : (number place millis : ℕ) (bytes more : List ℕ) → number < 4294967295 → length bytes < 1000
-    → next_of made_head number place (record_bytes millis bytes ++ more) ≡ Stands (record_of made_head number (record_fields millis (length bytes)) bytes) more
+record_follows : (number place millis : ℕ) (bytes more : List ℕ) → number < 4294967295 → length bytes < 1000
+    → next_of made_head number place (record_bytes millis bytes ++ more) ≡ Follows (record_of made_head number (record_fields millis (length bytes)) bytes) more
 unfolding record_bytes
-record_stands number place millis bytes more few short =
+record_follows number place millis bytes more few short =
     let fields = record_fields millis (length bytes) in
     ap (next_of made_head number place) (append_assoc fields bytes more)
     ∙ next_of_header made_head number place fields (bytes ++ more) (fields_long millis (length bytes)) few
-    ∙ bytes_stand made_head number place fields bytes more (captured millis (length bytes) (omega arith)) (omega arith)
+    ∙ bytes_follow made_head number place fields bytes more (captured millis (length bytes) (omega arith)) (omega arith)
 
 records_whole : (count number place millis : ℕ) (traffic : _) → number + count ≤ 4294967295 → IsWhole count (records_left made_head number place (records_from millis (frames count traffic)))
 unfolding frames records_from
@@ -100,10 +100,10 @@ records_whole zero number place millis traffic few =
     record { count_is = ap (λ (cut : Cut Record CaptureFault). length cut.records) none; clean = ap (λ (cut : Cut Record CaptureFault). cut.ending) none }
 records_whole (suc count) number place millis traffic few =
     let bytes = (made traffic).frame in
-    let more = records_from (millis + 1) (frames count (made traffic).behind) in
+    let more = records_from (millis + 1) (frames count (made traffic).after) in
     let first = record_of made_head number (record_fields millis (length bytes)) bytes in
-    let is = records_left-stands made_head number place (record_bytes millis bytes ++ more) first more (record_stands number place millis bytes more (omega arith) (made_short traffic)) in
-    let later = records_whole count (number + 1) (place_behind place first) (millis + 1) (made traffic).behind (omega arith) in
+    let is = records_left-follows made_head number place (record_bytes millis bytes ++ more) first more (record_follows number place millis bytes more (omega arith) (made_short traffic)) in
+    let later = records_whole count (number + 1) (place_after place first) (millis + 1) (made traffic).after (omega arith) in
     record {
       count_is = ap (λ (cut : Cut Record CaptureFault). length cut.records) is ∙ ap suc later.count_is;
       clean = ap (λ (cut : Cut Record CaptureFault). cut.ending) is ∙ later.clean;
@@ -114,5 +114,5 @@ pub made_cut-whole : (seed count : ℕ) → count ≤ most_records → IsWhole c
 unfolding generated capture_of
 made_cut-whole seed count few =
     let frames_are = frames count (first_traffic seed) in
-    let behind : drop 24 (generated seed count) ≡ records_from 0 frames_are = drop_at header_bytes (records_from 0 frames_are) 24 refl in
-    subst (λ (rest : List ℕ). IsWhole count (records_left made_head 0 24 rest)) (sym behind) (records_whole count 0 24 0 (first_traffic seed) (omega arith))
+    let after : drop 24 (generated seed count) ≡ records_from 0 frames_are = drop_at header_bytes (records_from 0 frames_are) 24 refl in
+    subst (λ (rest : List ℕ). IsWhole count (records_left made_head 0 24 rest)) (sym after) (records_whole count 0 24 0 (first_traffic seed) (omega arith))

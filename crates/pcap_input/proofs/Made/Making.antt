@@ -8,7 +8,7 @@ use Rattle.pcap_input.specs.declared.frames.Segment.{Segment}
 use Rattle.pcap_input.specs.declared.traffic.Session.{Session}
 use Rattle.pcap_input.specs.declared.traffic.Traffic.{Traffic}
 use Rattle.pcap_input.specs.Frames.{tcp_frame, udp_frame}
-use Rattle.pcap_input.specs.Generated.{step, steps, draw, letters, first_session, first_traffic, segment_at, session_behind, session_at, payload_at, state_behind, text_drawn, with_state, Made, made_of_session, made_segment, made_datagram, made, IsMade, frames, header_bytes, record_bytes, records_from, capture_of, generated}
+use Rattle.pcap_input.specs.Generated.{step, steps, draw, letters, first_session, first_traffic, segment_at, session_after, session_at, payload_at, state_after, text_drawn, with_state, Made, made_of_session, made_segment, made_datagram, made, IsMade, frames, header_bytes, record_bytes, records_from, capture_of, generated}
 
 -- a letter more
 pub letters-step : (left rest state : ℕ) (front whole : List ℕ) → left ≡ rest + 1 → front ++ letters left state ≡ whole → (front ++ (97 + draw 26 state) ∷ []) ++ letters rest (step state) ≡ whole
@@ -72,9 +72,9 @@ pub segment-made : (traffic : Traffic) (number first after : ℕ) (session next 
     → first ≡ step traffic.draws.state
     → session ≡ session_at traffic.sessions number
     → payload ≡ payload_at session.turn first
-    → after ≡ state_behind session.turn first
+    → after ≡ state_after session.turn first
     → sessions ≡ traffic.sessions
-    → next ≡ session_behind session.client session.server session.turn
+    → next ≡ session_after session.client session.server session.turn
     → segment ≡ segment_at number session.client session.server session.turn
     → frame ≡ tcp_frame segment payload
     → IsMade (made_segment traffic) frame (record { draws = record { state = after }; sessions = set sessions number next })
@@ -83,26 +83,26 @@ segment-made traffic number first after session next sessions segment payload fr
     rw (frame_is, segment_is, next_is, sessions_are, payload_is, after_is, session_is, first_is, number_is) refl
 
 -- one in four is a datagram
-pub made-datagram : (traffic behind : Traffic) (drawn first : ℕ) (frame : List ℕ)
+pub made-datagram : (traffic following : Traffic) (drawn first : ℕ) (frame : List ℕ)
     → drawn ≡ draw 4 traffic.draws.state
     → first ≡ step traffic.draws.state
     → drawn ≡ 0
-    → IsMade (made_datagram (with_state traffic first)) frame behind
-    → IsMade (made traffic) frame behind
+    → IsMade (made_datagram (with_state traffic first)) frame following
+    → IsMade (made traffic) frame following
 unfolding made
-made-datagram traffic behind drawn first frame drawn_is first_is none is =
+made-datagram traffic following drawn first frame drawn_is first_is none is =
     let zero_drawn : (draw 4 traffic.draws.state == 0) ≡ true = eq-eqb _ _ (sym drawn_is ∙ none) in
     rw zero_drawn (ap (λ s. made_datagram (with_state traffic s)) (sym first_is) ∙ is)
 
 -- the frames that are no datagrams are segments
-pub made-segment : (traffic behind : Traffic) (drawn first : ℕ) (frame : List ℕ)
+pub made-segment : (traffic following : Traffic) (drawn first : ℕ) (frame : List ℕ)
     → drawn ≡ draw 4 traffic.draws.state
     → first ≡ step traffic.draws.state
     → (drawn ≡ 0 → ⊥)
-    → IsMade (made_segment (with_state traffic first)) frame behind
-    → IsMade (made traffic) frame behind
+    → IsMade (made_segment (with_state traffic first)) frame following
+    → IsMade (made traffic) frame following
 unfolding made
-made-segment traffic behind drawn first frame drawn_is first_is some is =
+made-segment traffic following drawn first frame drawn_is first_is some is =
     let other_drawn : (draw 4 traffic.draws.state == 0) ≡ false = ne_eqb _ _ (λ none. some (drawn_is ∙ none)) in
     rw other_drawn (ap (λ s. made_segment (with_state traffic s)) (sym first_is) ∙ is)
 
@@ -115,15 +115,15 @@ records-first seed count traffic bytes bytes_are traffic_is =
     rw (bytes_are, traffic_is, whole) refl
 
 -- a record more
-pub records-step : (left rest millis : ℕ) (traffic behind : Traffic) (frame bytes whole : List ℕ)
+pub records-step : (left rest millis : ℕ) (traffic following : Traffic) (frame bytes whole : List ℕ)
     → left ≡ rest + 1
-    → IsMade (made traffic) frame behind
+    → IsMade (made traffic) frame following
     → bytes ++ records_from millis (frames left traffic) ≡ whole
-    → (bytes ++ record_bytes millis frame) ++ records_from (millis + 1) (frames rest behind) ≡ whole
+    → (bytes ++ record_bytes millis frame) ++ records_from (millis + 1) (frames rest following) ≡ whole
 unfolding frames records_from
-records-step left rest millis traffic behind frame bytes whole next is_made is =
-    append_assoc bytes (record_bytes millis frame) (records_from (millis + 1) (frames rest behind))
-    ∙ ap (λ (m : Made). bytes ++ (record_bytes millis m.frame ++ records_from (millis + 1) (frames rest m.behind))) (sym is_made)
+records-step left rest millis traffic following frame bytes whole next is_made is =
+    append_assoc bytes (record_bytes millis frame) (records_from (millis + 1) (frames rest following))
+    ∙ ap (λ (m : Made). bytes ++ (record_bytes millis m.frame ++ records_from (millis + 1) (frames rest m.after))) (sym is_made)
     ∙ sym (ap (λ n. bytes ++ records_from millis (frames n traffic)) (next ∙ add-one rest))
     ∙ is
 

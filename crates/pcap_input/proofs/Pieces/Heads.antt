@@ -8,7 +8,7 @@ use Rattle.edge_io.specs.Files.{Files, IsOpened}
 use Rattle.pcap_input.specs.declared.capture.CaptureHead.{CaptureHead}
 use Rattle.pcap_input.specs.declared.capture.CaptureFault.{CaptureFault}
 use Rattle.pcap_input.specs.declared.capture.CaptureFault.TheVariants.{NotPcap, LinkType, Truncated, TooLong, TooMany, Failed, NoMemory}
-use Rattle.pcap_input.specs.Savefile.{number_at, head_with, head_behind, head_of}
+use Rattle.pcap_input.specs.Savefile.{number_at, head_with, head_after, head_of}
 use Rattle.pcap_input.specs.Reader.{IsOfHead, Tells}
 use Rattle.pcap_input.specs.Pieces.{Reads}
 use Rattle.pcap_input.proofs.Told.{split_told}
@@ -33,19 +33,19 @@ unfolding head_with
 head_with_refuses swapped nanos link_type =
     either (link_type == 1) _ _ tt (either (link_type == 101) _ _ tt (either (link_type == 113) _ _ tt tt))
 
-head_behind_refuses : (swapped nanos : Bool) (bytes : List ℕ) → IfErr (head_behind swapped nanos bytes) IsRefusedHead
-unfolding head_behind
-head_behind_refuses swapped nanos bytes =
+head_after_refuses : (swapped nanos : Bool) (bytes : List ℕ) → IfErr (head_after swapped nanos bytes) IsRefusedHead
+unfolding head_after
+head_after_refuses swapped nanos bytes =
     either (number_at swapped 4 2 bytes == 2) _ _ (head_with_refuses swapped nanos (number_at swapped 20 4 bytes % 65536)) tt
 
 head_of_refuses : (bytes : List ℕ) → IfErr (head_of bytes) IsRefusedHead
 unfolding head_of
 head_of_refuses bytes =
     either (nat_lt (length bytes) 24) _ _ refl
-    (either (number_at false 0 4 bytes == 0xa1b2_c3d4) _ _ (head_behind_refuses false false bytes)
-    (either (number_at false 0 4 bytes == 0xa1b2_3c4d) _ _ (head_behind_refuses false true bytes)
-    (either (number_at true 0 4 bytes == 0xa1b2_c3d4) _ _ (head_behind_refuses true false bytes)
-    (either (number_at true 0 4 bytes == 0xa1b2_3c4d) _ _ (head_behind_refuses true true bytes) tt))))
+    (either (number_at false 0 4 bytes == 0xa1b2_c3d4) _ _ (head_after_refuses false false bytes)
+    (either (number_at false 0 4 bytes == 0xa1b2_3c4d) _ _ (head_after_refuses false true bytes)
+    (either (number_at true 0 4 bytes == 0xa1b2_c3d4) _ _ (head_after_refuses true false bytes)
+    (either (number_at true 0 4 bytes == 0xa1b2_3c4d) _ _ (head_after_refuses true true bytes) tt))))
 
 refused_kind : (why : CaptureFault) → IsRefusedHead why → IsOfHead why
 refused_kind NotPcap is = tt

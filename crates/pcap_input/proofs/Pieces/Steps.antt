@@ -9,28 +9,28 @@ use Rattle.pcap_input.specs.declared.capture.CaptureFault.{CaptureFault}
 use Rattle.pcap_input.specs.declared.capture.CaptureFault.TheVariants.{NotPcap, LinkType, Truncated, TooLong, TooMany, Failed, NoMemory}
 use Rattle.edge_io.specs.declared.moment.Moment.{Moment}
 use Rattle.pcap_input.specs.Cut.{Clean, Refused}
-use Rattle.pcap_input.specs.Savefile.{number_at, moment_of, captured_length, record_of, Next, Ends, Stands, next_behind, next_of}
+use Rattle.pcap_input.specs.Savefile.{number_at, moment_of, captured_length, record_of, Next, Ends, Follows, next_after, next_of}
 use Rattle.pcap_input.specs.Reader.{reader_at, Gives, Shows, TakesRecord, TakesNone}
 use Rattle.pcap_input.specs.Pieces.{GivesOne, TakesBytes, TakesFewer, TakesLess}
 use Rattle.pcap_input.proofs.Told.{split_told, all_taken, none_taken}
-use Rattle.pcap_input.proofs.Laws.{bytes_stand, behind_too_long, behind_truncated, next_of_header, next_of_nothing, next_of_too_many, next_of_truncated}
+use Rattle.pcap_input.proofs.Laws.{bytes_follow, after_too_long, after_truncated, next_of_header, next_of_nothing, next_of_too_many, next_of_truncated}
 
 -- after a header that says too much, nothing is taken
 pub too_long_fewer : (head : CaptureHead) (number place : ℕ) (header : List ℕ) (old : Option (List ℕ)) → 262144 < captured_length head header
     → TakesFewer head number place header (TooLong place (captured_length head header)) old old
 too_long_fewer head number place header old long =
-    record { taken = []; took = none_taken old; shows = behind_too_long head number place header [] long }
+    record { taken = []; took = none_taken old; shows = after_too_long head number place header [] long }
 
 -- a read of captured bytes that stopped early, where the bytes are told
 pub less_gives : (head : CaptureHead) (number place len : ℕ) (header : List ℕ) (why : CaptureFault) (old new : Option (List ℕ))
     → captured_length head header ≡ len → len ≤ 262144 → TakesLess place len why old new
-    → (rest : List ℕ) → old ≡ Some rest → GivesOne (Err why) (next_behind head number place header rest)
+    → (rest : List ℕ) → old ≡ Some rest → GivesOne (Err why) (next_after head number place header rest)
 less_gives head number place len header NotPcap old new is short less rest told = absurd (less.stops)
 less_gives head number place len header (LinkType link_type) old new is short less rest told = absurd (less.stops)
 less_gives head number place len header (Truncated at) old new is short less rest told =
     let all = all_taken old new less.taken rest less.took less.stops.1 told in
     let fewer : length rest < captured_length head header = omega (arith, less.less, ap length all) in
-    rw (less.stops.0) (behind_truncated head number place header rest (omega arith) fewer)
+    rw (less.stops.0) (after_truncated head number place header rest (omega arith) fewer)
 less_gives head number place len header (TooLong at more) old new is short less rest told = absurd (less.stops)
 less_gives head number place len header TooMany old new is short less rest told = absurd (less.stops)
 less_gives head number place len header Failed old new is short less rest told = tt
@@ -39,17 +39,17 @@ less_gives head number place len header NoMemory old new is short less rest told
 -- a read of captured bytes that stopped early shows why
 pub less_shows : (head : CaptureHead) (number place len : ℕ) (header : List ℕ) (why : CaptureFault) (old new : Option (List ℕ))
     → captured_length head header ≡ len → len ≤ 262144 → (less : TakesLess place len why old new)
-    → Shows why (next_behind head number place header less.taken)
+    → Shows why (next_after head number place header less.taken)
 less_shows head number place len header NotPcap old new is short less = absurd (less.stops)
 less_shows head number place len header (LinkType link_type) old new is short less = absurd (less.stops)
 less_shows head number place len header (Truncated at) old new is short less =
-    rw (less.stops.0) (behind_truncated head number place header less.taken (omega arith) (omega (arith, less.less)))
+    rw (less.stops.0) (after_truncated head number place header less.taken (omega arith) (omega (arith, less.less)))
 less_shows head number place len header (TooLong at more) old new is short less = absurd (less.stops)
 less_shows head number place len header TooMany old new is short less = absurd (less.stops)
 less_shows head number place len header Failed old new is short less =
-    (Refused (Truncated place), behind_truncated head number place header less.taken (omega arith) (omega (arith, less.less)))
+    (Refused (Truncated place), after_truncated head number place header less.taken (omega arith) (omega (arith, less.less)))
 less_shows head number place len header NoMemory old new is short less =
-    (Refused (Truncated place), behind_truncated head number place header less.taken (omega arith) (omega (arith, less.less)))
+    (Refused (Truncated place), after_truncated head number place header less.taken (omega arith) (omega (arith, less.less)))
 
 pub less_fewer : (head : CaptureHead) (number place len : ℕ) (header : List ℕ) (why : CaptureFault) (old new : Option (List ℕ))
     → captured_length head header ≡ len → len ≤ 262144 → TakesLess place len why old new → TakesFewer head number place header why old new
@@ -59,10 +59,10 @@ less_fewer head number place len header why old new is short less =
 -- the answer, and what was taken, of a read that got all captured bytes
 pub whole_gives : (head : CaptureHead) (number place : ℕ) (header bytes : List ℕ) (given : Record) (old new : Option (List ℕ))
     → captured_length head header ≡ length bytes → length bytes ≤ 262144 → given ≡ record_of head number header bytes → old ≡ before bytes new
-    → (rest : List ℕ) → old ≡ Some rest → (left : List ℕ) × (next_behind head number place header rest ≡ Stands given left)
+    → (rest : List ℕ) → old ≡ Some rest → (left : List ℕ) × (next_after head number place header rest ≡ Follows given left)
 whole_gives head number place header bytes given old new is short made took rest told =
     let split = split_told old new bytes rest took told in
-    (split.rest, ap (next_behind head number place header) split.joined ∙ bytes_stand head number place header bytes split.rest is short ∙ ap (λ r. Stands r split.rest) (sym made))
+    (split.rest, ap (next_after head number place header) split.joined ∙ bytes_follow head number place header bytes split.rest is short ∙ ap (λ r. Follows r split.rest) (sym made))
 
 pub whole_takes : (head : CaptureHead) (number place : ℕ) (header bytes : List ℕ) (given : Record) (old new : Option (List ℕ))
     → captured_length head header ≡ length bytes → length bytes ≤ 262144 → given ≡ record_of head number header bytes → given.bytes ≡ bytes → old ≡ before bytes new
@@ -71,13 +71,13 @@ whole_takes head number place header bytes given old new is short made holds too
   taken = bytes;
   took = took;
   size = ap length (sym holds);
-  goes = λ more. bytes_stand head number place header bytes more is short ∙ ap (λ r. Stands r more) (sym made);
+  goes = λ more. bytes_follow head number place header bytes more is short ∙ ap (λ r. Follows r more) (sym made);
 }
 
--- after a header that was taken comes what `next_behind` says: the told answer
+-- after a header that was taken comes what `next_after` says: the told answer
 pub header_next : (head : CaptureHead) (number place : ℕ) (header : List ℕ) (old mid : Option (List ℕ))
     → length header ≡ 16 → number < 4294967295 → old ≡ before header mid → (rest : List ℕ) → old ≡ Some rest
-    → (bytes : List ℕ) × (mid ≡ Some bytes) × (next_of head number place rest ≡ next_behind head number place header bytes)
+    → (bytes : List ℕ) × (mid ≡ Some bytes) × (next_of head number place rest ≡ next_after head number place header bytes)
 header_next head number place header old mid whole few took rest told =
     let split = split_told old mid header rest took told in
     (split.rest, split.still, ap (next_of head number place) split.joined ∙ next_of_header head number place header split.rest whole few)
@@ -107,7 +107,7 @@ fewer_with_header head number place header why old mid new whole few took takes 
 -- the told answers of the two
 pub gives_with_header : (head : CaptureHead) (number place : ℕ) (header : List ℕ) (given : Record) (old mid : Option (List ℕ))
     → length header ≡ 16 → number < 4294967295 → old ≡ before header mid
-    → ((bytes : List ℕ) → mid ≡ Some bytes → GivesOne (Ok given) (next_behind head number place header bytes))
+    → ((bytes : List ℕ) → mid ≡ Some bytes → GivesOne (Ok given) (next_after head number place header bytes))
     → (rest : List ℕ) → old ≡ Some rest → Gives (Ok (Some given)) (next_of head number place rest)
 gives_with_header head number place header given old mid whole few took gives rest told =
     let next = header_next head number place header old mid whole few took rest told in
@@ -125,11 +125,11 @@ fault_gives NoMemory next gives = tt
 
 pub refuses_with_header : (head : CaptureHead) (number place : ℕ) (header : List ℕ) (why : CaptureFault) (old mid : Option (List ℕ))
     → length header ≡ 16 → number < 4294967295 → old ≡ before header mid
-    → ((bytes : List ℕ) → mid ≡ Some bytes → GivesOne (Err why) (next_behind head number place header bytes))
+    → ((bytes : List ℕ) → mid ≡ Some bytes → GivesOne (Err why) (next_after head number place header bytes))
     → (rest : List ℕ) → old ≡ Some rest → Gives (Err why) (next_of head number place rest)
 refuses_with_header head number place header why old mid whole few took gives rest told =
     let next = header_next head number place header old mid whole few took rest told in
-    let one : Gives (Err why) (next_behind head number place header next.0) = fault_gives why _ (gives next.0 next.1) in
+    let one : Gives (Err why) (next_after head number place header next.0) = fault_gives why _ (gives next.0 next.1) in
     rw (next.2) one
 
 -- no byte was there

@@ -13,7 +13,7 @@ use Rattle.pcapng_input.specs.declared.walk.Walk.{Walk}
 use Rattle.pcap_input.specs.Cut.{Clean}
 use Rattle.pcapng_input.specs.Blocks.{section_type, Stops, refused, truncated, bad_block, front_length, is_sized, order_of, new_section, content_of, closing, fronted, known, section_block, other_block, section_begun, begun, is_full, step_of}
 use Rattle.pcapng_input.specs.Steps.{HoldsNone, HasRoom}
-use Rattle.pcapng_input.proofs.Blocks.Stages.{IsBehind, IsRefused, CutsBelow}
+use Rattle.pcapng_input.proofs.Blocks.Stages.{IsAfter, IsRefused, CutsBelow}
 
 -- a fixed front that is refused, and one that tells something
 pub fronted-err : (walk : Walk) (block : Block) (front : List ℕ) (why : NgFault) → content_of walk block front ≡ Err why
@@ -40,7 +40,7 @@ known_cuts walk block is bytes fewer =
 
 -- the fixed front
 pub known_fronted : (walk : Walk) (block : Block) (front : List ℕ) → is_sized block ≡ true → length front ≡ front_length block.kind
-    → IsBehind (known walk block) front (fronted walk block front)
+    → IsAfter (known walk block) front (fronted walk block front)
 unfolding known
 known_fronted walk block front is size more =
     let test : nat_lt (length (front ++ more)) (front_length block.kind) ≡ false = grind (arith, nat_tests, length-append front more) in
@@ -65,7 +65,7 @@ section_none walk first magic size is more =
 
 -- a magic
 pub section_known : (walk : Walk) (first magic : List ℕ) (swapped : Bool) → length magic ≡ 4 → order_of magic ≡ Some swapped
-    → IsBehind (section_begun walk first) magic (known (new_section walk swapped) (section_block swapped first))
+    → IsAfter (section_begun walk first) magic (known (new_section walk swapped) (section_block swapped first))
 unfolding section_begun
 section_known walk first magic swapped size is more =
     let test : nat_lt (length (magic ++ more)) 4 ≡ false = grind (arith, nat_tests, length-append magic more) in
@@ -108,7 +108,7 @@ step_cut walk bytes some fewer room =
     rw (one, room, two) refl
 
 -- the first eight bytes
-pub step_begun : (walk : Walk) (first : List ℕ) → length first ≡ 8 → is_full walk ≡ false → IsBehind (step_of walk) first (begun walk first)
+pub step_begun : (walk : Walk) (first : List ℕ) → length first ≡ 8 → is_full walk ≡ false → IsAfter (step_of walk) first (begun walk first)
 unfolding step_of
 step_begun walk first size room more =
     let long : length (first ++ more) ≡ 8 + length more = omega (arith, length-append first more) in

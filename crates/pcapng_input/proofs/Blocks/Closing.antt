@@ -16,9 +16,9 @@ use Rattle.pcapng_input.specs.declared.resolution.Resolution.{Resolution}
 use Rattle.pcapng_input.specs.declared.walk.Walk.{Walk}
 use Rattle.pcapng_input.specs.declared.step.BlockRead.TheVariants as read
 use Rattle.pcapng_input.specs.Options.{resolution_told}
-use Rattle.pcapng_input.specs.Blocks.{Skips, Gives, refused, bad_block, inner_length, behind_block, behind_interface, behind_packet, record_of, given_by, closing}
+use Rattle.pcapng_input.specs.Blocks.{Skips, Gives, refused, bad_block, inner_length, after_block, after_interface, after_packet, record_of, given_by, closing}
 use Rattle.pcapng_input.specs.Steps.{TakesLess, TakesLast, HoldsNone, Shows}
-use Rattle.pcapng_input.proofs.Blocks.Taking.{took_behind, less_within}
+use Rattle.pcapng_input.proofs.Blocks.Taking.{took_after, less_within}
 use Rattle.pcapng_input.proofs.Blocks.Stages.{CutsBelow, shows_cut, shows_refused, shows_skipped, shows_given, shows_lacking}
 
 -- fewer bytes than the block has
@@ -55,7 +55,7 @@ pub whole : (walk : Walk) (block : Block) (told : Content) (same : Bool) (len : 
     → Whole walk block told same (front ++ last.passed) old new
 whole walk block told same len front old mid new took fits last = record {
   taken = (front ++ last.passed) ++ last.last;
-  took = took_behind front (last.passed ++ last.last) old mid new took last.took ∙ ap (λ (xs : List ℕ). before xs new) (sym (append_assoc front last.passed last.last));
+  took = took_after front (last.passed ++ last.last) old mid new took last.took ∙ ap (λ (xs : List ℕ). before xs new) (sym (append_assoc front last.passed last.last));
   is = λ more. closing_whole walk block told (front ++ last.passed) last.last more same (omega (arith, length-append front last.passed, last.size)) last.four last.tells;
 }
 
@@ -84,22 +84,22 @@ pub closing_skipped : (walk new_walk : Walk) (block : Block) (told : Content) (i
 closing_skipped walk new_walk block told inner old new all is =
     shows_skipped (closing walk block told) new_walk all.taken old new all.took (λ more. all.is more ∙ is more)
 
-pub closing_lacking : (walk new_walk behind : Walk) (block : Block) (told : Content) (inner : List ℕ) (old new : Option (List ℕ))
-    → Whole walk block told true inner old new → ((more : List ℕ) → given_by walk block told inner more ≡ Skips behind more)
+pub closing_lacking : (walk new_walk after : Walk) (block : Block) (told : Content) (inner : List ℕ) (old new : Option (List ℕ))
+    → Whole walk block told true inner old new → ((more : List ℕ) → given_by walk block told inner more ≡ Skips after more)
     → Shows (closing walk block told) new_walk (Err fault.NoMemory) old new
-closing_lacking walk new_walk behind block told inner old new all is =
-    let skips : closing walk block told all.taken ≡ Skips behind [] = ap (closing walk block told) (sym (append-nil all.taken)) ∙ all.is [] ∙ is [] in
+closing_lacking walk new_walk after block told inner old new all is =
+    let skips : closing walk block told all.taken ≡ Skips after [] = ap (closing walk block told) (sym (append-nil all.taken)) ∙ all.is [] ∙ is [] in
     shows_lacking (closing walk block told) new_walk all.taken old new all.took (subst HoldsNone (sym skips) refl)
 
 -- a block that is skipped
-pub given-skipped : (walk : Walk) (block : Block) (inner more : List ℕ) → given_by walk block content.Skipped inner more ≡ Skips (behind_block walk block) more
+pub given-skipped : (walk : Walk) (block : Block) (inner more : List ℕ) → given_by walk block content.Skipped inner more ≡ Skips (after_block walk block) more
 unfolding given_by
 given-skipped walk block inner more = refl
 
 -- an interface, or options that are none
 pub given-interface : (walk : Walk) (block : Block) (link snaplen : ℕ) (inner more : List ℕ) (resolution : Resolution) → resolution_told walk.section.swapped inner ≡ Some resolution
     → given_by walk block (content.Interface link snaplen) inner more
-    ≡ Skips (behind_interface walk block (record { link = link; snaplen = snaplen; resolution = resolution })) more
+    ≡ Skips (after_interface walk block (record { link = link; snaplen = snaplen; resolution = resolution })) more
 unfolding given_by
 given-interface walk block link snaplen inner more resolution is = rw (given_by, is) refl
 
@@ -110,7 +110,7 @@ given-no_resolution walk block link snaplen inner more is = rw (given_by, is) re
 
 -- a packet, whose captured bytes come first
 pub given-packet : (walk : Walk) (block : Block) (packet : Packet) (bytes passed more : List ℕ) → length bytes ≡ packet.captured
-    → given_by walk block (content.Packet packet) (bytes ++ passed) more ≡ Gives (record_of walk packet bytes) (behind_packet walk block packet) more
+    → given_by walk block (content.Packet packet) (bytes ++ passed) more ≡ Gives (record_of walk packet bytes) (after_packet walk block packet) more
 unfolding given_by
 given-packet walk block packet bytes passed more size =
     let front = take_at bytes passed packet.captured size in
@@ -118,7 +118,7 @@ given-packet walk block packet bytes passed more size =
 
 pub closing_packet : (walk : Walk) (block : Block) (packet : Packet) (bytes passed : List ℕ) (old new : Option (List ℕ)) → length bytes ≡ packet.captured
     → Whole walk block (content.Packet packet) true (bytes ++ passed) old new
-    → Shows (closing walk block (content.Packet packet)) (behind_packet walk block packet) (Ok (read.Record (record_of walk packet bytes))) old new
+    → Shows (closing walk block (content.Packet packet)) (after_packet walk block packet) (Ok (read.Record (record_of walk packet bytes))) old new
 closing_packet walk block packet bytes passed old new size all =
-    shows_given (closing walk block (content.Packet packet)) (behind_packet walk block packet) (record_of walk packet bytes) all.taken old new all.took
+    shows_given (closing walk block (content.Packet packet)) (after_packet walk block packet) (record_of walk packet bytes) all.taken old new all.took
     (λ more. all.is more ∙ given-packet walk block packet bytes passed more size)

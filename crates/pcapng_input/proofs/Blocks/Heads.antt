@@ -32,13 +32,13 @@ either : (test : Bool) (x y : Step) → IsHeadStep x → IsHeadStep y → IsHead
 either true x y one other = one
 either false x y one other = other
 
-closing_head : (walk : Walk) (swapped : Bool) (first behind : List ℕ) → walk.at ≡ 0 → IsHeadStep (closing walk (section_block swapped first) content.Skipped behind)
+closing_head : (walk : Walk) (swapped : Bool) (first after : List ℕ) → walk.at ≡ 0 → IsHeadStep (closing walk (section_block swapped first) content.Skipped after)
 unfolding closing given_by
-closing_head walk swapped first behind start =
+closing_head walk swapped first after start =
     let block = section_block swapped first in
-    either (nat_lt (length behind) (inner_length block + 4)) (truncated walk) _ start
-    (either (number_at walk.section.swapped 0 4 (drop (inner_length block) behind) == block.total)
-    (given_by walk block content.Skipped (take (inner_length block) behind) (drop (inner_length block + 4) behind)) (refused (bad_block walk)) tt start)
+    either (nat_lt (length after) (inner_length block + 4)) (truncated walk) _ start
+    (either (number_at walk.section.swapped 0 4 (drop (inner_length block) after) == block.total)
+    (given_by walk block content.Skipped (take (inner_length block) after) (drop (inner_length block + 4) after)) (refused (bad_block walk)) tt start)
 
 -- the fixed front of a section header tells nothing, or is bad
 section_told : (walk : Walk) (swapped : Bool) (first front : List ℕ) (one : Bool) → (number_at walk.section.swapped 0 2 front == 1) ≡ one
@@ -48,12 +48,12 @@ section_told walk swapped first front one is =
     let told : Bool → Result Content NgFault = λ b. if b then Ok content.Skipped else Err (bad_block walk) in
     ap told is
 
-fronted_by : (walk : Walk) (swapped : Bool) (first front behind : List ℕ) (one : Bool) → (number_at walk.section.swapped 0 2 front == 1) ≡ one → walk.at ≡ 0
-    → IsHeadStep (fronted walk (section_block swapped first) front behind)
-fronted_by walk swapped first front behind true is start =
-    subst IsHeadStep (sym (fronted-ok walk (section_block swapped first) front content.Skipped (section_told walk swapped first front true is) behind)) (closing_head walk swapped first behind start)
-fronted_by walk swapped first front behind false is start =
-    subst IsHeadStep (sym (fronted-err walk (section_block swapped first) front (bad_block walk) (section_told walk swapped first front false is) behind)) start
+fronted_by : (walk : Walk) (swapped : Bool) (first front after : List ℕ) (one : Bool) → (number_at walk.section.swapped 0 2 front == 1) ≡ one → walk.at ≡ 0
+    → IsHeadStep (fronted walk (section_block swapped first) front after)
+fronted_by walk swapped first front after true is start =
+    subst IsHeadStep (sym (fronted-ok walk (section_block swapped first) front content.Skipped (section_told walk swapped first front true is) after)) (closing_head walk swapped first after start)
+fronted_by walk swapped first front after false is start =
+    subst IsHeadStep (sym (fronted-err walk (section_block swapped first) front (bad_block walk) (section_told walk swapped first front false is) after)) start
 
 known_head : (walk : Walk) (swapped : Bool) (first body : List ℕ) → walk.at ≡ 0 → IsHeadStep (known walk (section_block swapped first) body)
 unfolding known
@@ -79,11 +79,11 @@ opening_by bytes false true false order short_is section_is cut_is order_is =
     let first = take 8 bytes in
     let eight : length first ≡ 8 = length-take-le 8 bytes (omega arith) in
     let begins : number_at false 0 4 first ≡ section_type = number_front 8 bytes (omega arith) ∙ grind (arith, nat_tests, section_is) in
-    let behind = drop 8 bytes in
-    let four : length (take 4 behind) ≡ 4 = length-take-le 4 behind (omega (arith, length-drop 8 bytes)) in
-    let joined : bytes ≡ first ++ (take 4 behind ++ drop 4 behind) =
-    sym (take-append-drop 8 bytes) ∙ ap (λ xs. first ++ xs) (sym (take-append-drop 4 behind)) in
-    subst (λ xs. IsHeadStep (opening xs)) (sym joined) (magic_by first (take 4 behind) (drop 4 behind) order eight begins four order_is)
+    let after = drop 8 bytes in
+    let four : length (take 4 after) ≡ 4 = length-take-le 4 after (omega (arith, length-drop 8 bytes)) in
+    let joined : bytes ≡ first ++ (take 4 after ++ drop 4 after) =
+    sym (take-append-drop 8 bytes) ∙ ap (λ xs. first ++ xs) (sym (take-append-drop 4 after)) in
+    subst (λ xs. IsHeadStep (opening xs)) (sym joined) (magic_by first (take 4 after) (drop 4 after) order eight begins four order_is)
   where
     magic_by : (front magic more : List ℕ) (told : Option Bool) → length front ≡ 8 → number_at false 0 4 front ≡ section_type → length magic ≡ 4 → order_of magic ≡ told
         → IsHeadStep (opening (front ++ (magic ++ more)))
@@ -109,10 +109,10 @@ shown_kind stage walk (Err (fault.LinkType at link)) old new heads shown = subst
 shown_kind stage walk (Err (fault.TooLong at len)) old new heads shown = subst IsHeadStep shown.shows.shown (heads shown.taken)
 shown_kind stage walk (Err fault.TooMany) old new heads shown = subst IsHeadStep shown.shows.shown (heads shown.taken)
 
-pub known_kind : (walk behind : Walk) (swapped : Bool) (first : List ℕ) (answer : Result BlockRead NgFault) (old new : Option (List ℕ))
-    → walk.at ≡ 0 → Shows (known walk (section_block swapped first)) behind answer old new → IsHeadAnswer answer
-known_kind walk behind swapped first answer old new start shown =
-    shown_kind (known walk (section_block swapped first)) behind answer old new (λ bytes. known_head walk swapped first bytes start) shown
+pub known_kind : (walk after : Walk) (swapped : Bool) (first : List ℕ) (answer : Result BlockRead NgFault) (old new : Option (List ℕ))
+    → walk.at ≡ 0 → Shows (known walk (section_block swapped first)) after answer old new → IsHeadAnswer answer
+known_kind walk after swapped first answer old new start shown =
+    shown_kind (known walk (section_block swapped first)) after answer old new (λ bytes. known_head walk swapped first bytes start) shown
 
 -- a piece of it that was cut short
 pub less_kind : (len : ℕ) (why : NgFault) (old new : Option (List ℕ)) → TakesLess 0 len why old new → IsOfHead why

@@ -7,7 +7,7 @@ use Rattle.pcap_input.specs.Savefile.{number_at}
 use Rattle.pcap_input.proofs.Laws.{number_at-append}
 use Rattle.pcapng_input.specs.declared.capture.NgFault.TheVariants as fault
 use Rattle.pcapng_input.specs.Blocks.{section_type, refused, truncated, order_of, first_walk, new_section, known, section_block, opening}
-use Rattle.pcapng_input.proofs.Blocks.Stages.{IsBehind, IsRefused, CutsBelow}
+use Rattle.pcapng_input.proofs.Blocks.Stages.{IsAfter, IsRefused, CutsBelow}
 use Rattle.pcapng_input.proofs.Blocks.Begins.{step_begun, begun_section, section_known}
 
 -- fewer bytes than a type
@@ -51,12 +51,12 @@ magic_none first magic size is four none more =
     let same = number_at-append false 0 4 first (magic ++ more) (omega arith) in
     let two : (number_at false 0 4 first == section_type) ≡ true = grind (arith, nat_tests, is) in
     let three : nat_lt (length all) 12 ≡ false = grind (arith, nat_tests) in
-    let behind : take 4 (drop 8 all) ≡ magic = ap (take 4) (drop_at first (magic ++ more) 8 size) ∙ take_at magic more 4 four in
-    rw (one, same, two, three, behind, none) refl
+    let after : take 4 (drop 8 all) ≡ magic = ap (take 4) (drop_at first (magic ++ more) 8 size) ∙ take_at magic more 4 four in
+    rw (one, same, two, three, after, none) refl
 
 -- a magic
 pub magic_known : (first magic : List ℕ) (swapped : Bool) → length first ≡ 8 → number_at false 0 4 first ≡ section_type → length magic ≡ 4 → order_of magic ≡ Some swapped
-    → IsBehind (λ more. opening (first ++ more)) magic (known (new_section first_walk swapped) (section_block swapped first))
+    → IsAfter (λ more. opening (first ++ more)) magic (known (new_section first_walk swapped) (section_block swapped first))
 unfolding opening
 magic_known first magic swapped size is four some more =
     let all = first ++ (magic ++ more) in
@@ -65,6 +65,6 @@ magic_known first magic swapped size is four some more =
     let same = number_at-append false 0 4 first (magic ++ more) (omega arith) in
     let two : (number_at false 0 4 first == section_type) ≡ true = grind (arith, nat_tests, is) in
     let three : nat_lt (length all) 12 ≡ false = grind (arith, nat_tests) in
-    let behind : take 4 (drop 8 all) ≡ magic = ap (take 4) (drop_at first (magic ++ more) 8 size) ∙ take_at magic more 4 four in
-    rw (one, same, two, three, behind, some)
+    let after : take 4 (drop 8 all) ≡ magic = ap (take 4) (drop_at first (magic ++ more) 8 size) ∙ take_at magic more 4 four in
+    rw (one, same, two, three, after, some)
     (step_begun first_walk first size refl (magic ++ more) ∙ begun_section first_walk first is (magic ++ more) ∙ section_known first_walk first magic swapped four some more)

@@ -16,7 +16,7 @@ use Rattle.pcapng_input.specs.declared.step.BlockRead.TheVariants as read
 use Rattle.pcapng_input.specs.Blocks.{section_type, Step, bad_block, front_length, is_sized, inner_length, order_of, first_walk, new_section, content_of, closing, known, section_block, other_block, section_begun, begun, is_full, step_of, opening}
 use Rattle.pcapng_input.specs.Steps.{TakesLess, TakesLast, HoldsNone, Shows}
 use Rattle.pcapng_input.proofs.Blocks.Taking.{nothing_rest}
-use Rattle.pcapng_input.proofs.Blocks.Stages.{shows_behind, shows_cut, shows_refused}
+use Rattle.pcapng_input.proofs.Blocks.Stages.{shows_after, shows_cut, shows_refused}
 use Rattle.pcapng_input.proofs.Blocks.Closing.{Whole, whole}
 use Rattle.pcapng_input.proofs.Blocks.Begins.{fronted-err, fronted-ok, known_bad, known_cuts, known_fronted, section_cuts, section_none, section_known, begun_section, begun_other, step_nothing, step_full, step_cut, step_begun, step_few}
 use Rattle.pcapng_input.proofs.Blocks.Openings.{opening_short, opening_other, opening_cut, magic_cuts, magic_none, magic_known}
@@ -32,7 +32,7 @@ whole_front walk block told same front old mid new took size last =
 -- one stage is another
 shows_same : (stage next : List ℕ → Step) (walk : Walk) (answer : Result BlockRead NgFault) (old new : Option (List ℕ))
     → ((more : List ℕ) → stage more ≡ next more) → Shows next walk answer old new → Shows stage walk answer old new
-shows_same stage next walk answer old new is shown = shows_behind stage next walk answer [] old old new is (none_taken old) shown
+shows_same stage next walk answer old new is shown = shows_after stage next walk answer [] old old new is (none_taken old) shown
 
 -- a block from its fixed front on
 pub known_unsized : (walk new_walk : Walk) (block : Block) (old : Option (List ℕ)) → is_sized block ≡ false → Shows (known walk block) new_walk (Err (bad_block walk)) old old
@@ -52,7 +52,7 @@ pub known_closing : (walk new_walk : Walk) (block : Block) (front : List ℕ) (t
     → length front ≡ front_length block.kind → content_of walk block front ≡ Ok told → old ≡ before front mid → Shows (closing walk block told) new_walk answer mid new
     → Shows (known walk block) new_walk answer old new
 known_closing walk new_walk block front told answer old mid new is size is_told took shown =
-    shows_behind (known walk block) (closing walk block told) new_walk answer front old mid new
+    shows_after (known walk block) (closing walk block told) new_walk answer front old mid new
     (λ more. known_fronted walk block front is size more ∙ fronted-ok walk block front told is_told more) took shown
 
 -- what a step shows of a known block it shows of an equal walk and block
@@ -72,7 +72,7 @@ section_refused walk new_walk first magic old new size is took = shows_refused (
 pub section_on : (walk new_walk : Walk) (first magic : List ℕ) (swapped : Bool) (answer : Result BlockRead NgFault) (old mid new : Option (List ℕ)) → length magic ≡ 4 → order_of magic ≡ Some swapped
     → old ≡ before magic mid → Shows (known (new_section walk swapped) (section_block swapped first)) new_walk answer mid new → Shows (section_begun walk first) new_walk answer old new
 section_on walk new_walk first magic swapped answer old mid new size is took shown =
-    shows_behind (section_begun walk first) (known (new_section walk swapped) (section_block swapped first)) new_walk answer magic old mid new (section_known walk first magic swapped size is) took shown
+    shows_after (section_begun walk first) (known (new_section walk swapped) (section_block swapped first)) new_walk answer magic old mid new (section_known walk first magic swapped size is) took shown
 
 -- a block after its first eight bytes
 pub begun_on_section : (walk new_walk : Walk) (first : List ℕ) (answer : Result BlockRead NgFault) (old new : Option (List ℕ)) → number_at false 0 4 first ≡ section_type
@@ -114,7 +114,7 @@ step_short walk new_walk taken old new some fewer room took nothing = record {
 pub step_on : (walk new_walk : Walk) (first : List ℕ) (answer : Result BlockRead NgFault) (old mid new : Option (List ℕ)) → length first ≡ 8 → is_full walk ≡ false → old ≡ before first mid
     → Shows (begun walk first) new_walk answer mid new → Shows (step_of walk) new_walk answer old new
 step_on walk new_walk first answer old mid new size room took shown =
-    shows_behind (step_of walk) (begun walk first) new_walk answer first old mid new (step_begun walk first size room) took shown
+    shows_after (step_of walk) (begun walk first) new_walk answer first old mid new (step_begun walk first size room) took shown
 
 -- the first block of a file
 few_by : (bytes : List ℕ) (begins : Bool) → (nat_le 4 (length bytes) && (number_at false 0 4 bytes == section_type)) ≡ begins → length bytes < 12 → HoldsNone (opening bytes)
@@ -155,19 +155,19 @@ first_cut new_walk taken old new long is fewer took nothing = record {
 pub first_less : (new_walk : Walk) (first : List ℕ) (why : NgFault) (old mid new : Option (List ℕ)) → length first ≡ 8 → number_at false 0 4 first ≡ section_type → old ≡ before first mid
     → TakesLess 0 4 why mid new → Shows opening new_walk (Err why) old new
 first_less new_walk first why old mid new size is took less =
-    shows_behind opening (λ more. opening (first ++ more)) new_walk (Err why) first old mid new (λ more. refl) took
+    shows_after opening (λ more. opening (first ++ more)) new_walk (Err why) first old mid new (λ more. refl) took
     (shows_cut (λ more. opening (first ++ more)) new_walk 0 4 why mid new (magic_cuts first size is) less)
 
 pub first_none : (new_walk : Walk) (first magic : List ℕ) (old mid new : Option (List ℕ)) → length first ≡ 8 → number_at false 0 4 first ≡ section_type → length magic ≡ 4 → order_of magic ≡ None
     → old ≡ before first mid → mid ≡ before magic new → Shows opening new_walk (Err fault.NotPcapng) old new
 first_none new_walk first magic old mid new size is four none took took_magic =
-    shows_behind opening (λ more. opening (first ++ more)) new_walk (Err fault.NotPcapng) first old mid new (λ more. refl) took
+    shows_after opening (λ more. opening (first ++ more)) new_walk (Err fault.NotPcapng) first old mid new (λ more. refl) took
     (shows_refused (λ more. opening (first ++ more)) new_walk fault.NotPcapng magic mid new took_magic (magic_none first magic size is four none))
 
-pub first_on : (new_walk : Walk) (first magic : List ℕ) (swapped : Bool) (answer : Result BlockRead NgFault) (old mid behind new : Option (List ℕ)) → length first ≡ 8 → number_at false 0 4 first ≡ section_type
-    → length magic ≡ 4 → order_of magic ≡ Some swapped → old ≡ before first mid → mid ≡ before magic behind
-    → Shows (known (new_section first_walk swapped) (section_block swapped first)) new_walk answer behind new → Shows opening new_walk answer old new
-first_on new_walk first magic swapped answer old mid behind new size is four some took took_magic shown =
-    shows_behind opening (λ more. opening (first ++ more)) new_walk answer first old mid new (λ more. refl) took
-    (shows_behind (λ more. opening (first ++ more)) (known (new_section first_walk swapped) (section_block swapped first)) new_walk answer magic mid behind new
+pub first_on : (new_walk : Walk) (first magic : List ℕ) (swapped : Bool) (answer : Result BlockRead NgFault) (old mid after new : Option (List ℕ)) → length first ≡ 8 → number_at false 0 4 first ≡ section_type
+    → length magic ≡ 4 → order_of magic ≡ Some swapped → old ≡ before first mid → mid ≡ before magic after
+    → Shows (known (new_section first_walk swapped) (section_block swapped first)) new_walk answer after new → Shows opening new_walk answer old new
+first_on new_walk first magic swapped answer old mid after new size is four some took took_magic shown =
+    shows_after opening (λ more. opening (first ++ more)) new_walk answer first old mid new (λ more. refl) took
+    (shows_after (λ more. opening (first ++ more)) (known (new_section first_walk swapped) (section_block swapped first)) new_walk answer magic mid after new
     (magic_known first magic swapped size is four some) took_magic shown)

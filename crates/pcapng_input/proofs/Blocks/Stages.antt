@@ -11,44 +11,44 @@ use Rattle.pcapng_input.specs.declared.step.BlockRead.{BlockRead}
 use Rattle.pcapng_input.specs.declared.step.BlockRead.TheVariants as read
 use Rattle.pcapng_input.specs.Blocks.{Step, Skips, Gives, refused}
 use Rattle.pcapng_input.specs.Steps.{TakesLess, HoldsNone, EndsBy, ShowsBy, Shows}
-use Rattle.pcapng_input.proofs.Blocks.Taking.{took_behind, nothing_rest}
+use Rattle.pcapng_input.proofs.Blocks.Taking.{took_after, nothing_rest}
 
 -- one stage after bytes is another
-abbrev pub IsBehind : (List ℕ → Step) → List ℕ → (List ℕ → Step) → Type 0
-IsBehind stage front next = (more : List ℕ) → stage (front ++ more) ≡ next more
+abbrev pub IsAfter : (List ℕ → Step) → List ℕ → (List ℕ → Step) → Type 0
+IsAfter stage front next = (more : List ℕ) → stage (front ++ more) ≡ next more
 
-ends_behind : (stage next : List ℕ → Step) (step : Step) (front taken : List ℕ) (new : Option (List ℕ))
-    → IsBehind stage front next → EndsBy next step taken new → EndsBy stage step (front ++ taken) new
-ends_behind stage next step front taken new is ends = record {
+ends_after : (stage next : List ℕ → Step) (step : Step) (front taken : List ℕ) (new : Option (List ℕ))
+    → IsAfter stage front next → EndsBy next step taken new → EndsBy stage step (front ++ taken) new
+ends_after stage next step front taken new is ends = record {
   shown = is taken ∙ ends.shown;
   told = λ rest still. ap stage (append_assoc front taken rest) ∙ is (taken ++ rest) ∙ ends.told rest still;
 }
 
-none_behind : (stage next : List ℕ → Step) (front taken : List ℕ) → IsBehind stage front next → HoldsNone (next taken) → HoldsNone (stage (front ++ taken))
-none_behind stage next front taken is none = subst HoldsNone (sym (is taken)) none
+none_after : (stage next : List ℕ → Step) (front taken : List ℕ) → IsAfter stage front next → HoldsNone (next taken) → HoldsNone (stage (front ++ taken))
+none_after stage next front taken is none = subst HoldsNone (sym (is taken)) none
 
-by_behind : (stage next : List ℕ → Step) (walk : Walk) (answer : Result BlockRead NgFault) (front taken : List ℕ) (new : Option (List ℕ))
-    → IsBehind stage front next → ShowsBy next walk answer taken new → ShowsBy stage walk answer (front ++ taken) new
-by_behind stage next walk (Ok read.End) front taken new is shows =
-    (ends_behind stage next _ front taken new is shows.0, λ more. ap stage (append_assoc front taken more) ∙ is (taken ++ more) ∙ shows.1 more)
-by_behind stage next walk (Ok read.Skipped) front taken new is shows = λ more. ap stage (append_assoc front taken more) ∙ is (taken ++ more) ∙ shows more
-by_behind stage next walk (Ok (read.Record given)) front taken new is shows = λ more. ap stage (append_assoc front taken more) ∙ is (taken ++ more) ∙ shows more
-by_behind stage next walk (Err fault.Failed) front taken new is shows = none_behind stage next front taken is shows
-by_behind stage next walk (Err fault.NoMemory) front taken new is shows = none_behind stage next front taken is shows
-by_behind stage next walk (Err fault.NotPcapng) front taken new is shows = ends_behind stage next _ front taken new is shows
-by_behind stage next walk (Err (fault.Truncated at)) front taken new is shows = ends_behind stage next _ front taken new is shows
-by_behind stage next walk (Err (fault.BadBlock at)) front taken new is shows = ends_behind stage next _ front taken new is shows
-by_behind stage next walk (Err (fault.LinkType at link)) front taken new is shows = ends_behind stage next _ front taken new is shows
-by_behind stage next walk (Err (fault.TooLong at len)) front taken new is shows = ends_behind stage next _ front taken new is shows
-by_behind stage next walk (Err fault.TooMany) front taken new is shows = ends_behind stage next _ front taken new is shows
+by_after : (stage next : List ℕ → Step) (walk : Walk) (answer : Result BlockRead NgFault) (front taken : List ℕ) (new : Option (List ℕ))
+    → IsAfter stage front next → ShowsBy next walk answer taken new → ShowsBy stage walk answer (front ++ taken) new
+by_after stage next walk (Ok read.End) front taken new is shows =
+    (ends_after stage next _ front taken new is shows.0, λ more. ap stage (append_assoc front taken more) ∙ is (taken ++ more) ∙ shows.1 more)
+by_after stage next walk (Ok read.Skipped) front taken new is shows = λ more. ap stage (append_assoc front taken more) ∙ is (taken ++ more) ∙ shows more
+by_after stage next walk (Ok (read.Record given)) front taken new is shows = λ more. ap stage (append_assoc front taken more) ∙ is (taken ++ more) ∙ shows more
+by_after stage next walk (Err fault.Failed) front taken new is shows = none_after stage next front taken is shows
+by_after stage next walk (Err fault.NoMemory) front taken new is shows = none_after stage next front taken is shows
+by_after stage next walk (Err fault.NotPcapng) front taken new is shows = ends_after stage next _ front taken new is shows
+by_after stage next walk (Err (fault.Truncated at)) front taken new is shows = ends_after stage next _ front taken new is shows
+by_after stage next walk (Err (fault.BadBlock at)) front taken new is shows = ends_after stage next _ front taken new is shows
+by_after stage next walk (Err (fault.LinkType at link)) front taken new is shows = ends_after stage next _ front taken new is shows
+by_after stage next walk (Err (fault.TooLong at len)) front taken new is shows = ends_after stage next _ front taken new is shows
+by_after stage next walk (Err fault.TooMany) front taken new is shows = ends_after stage next _ front taken new is shows
 
 -- what a step shows of the stage after bytes that were taken before it
-pub shows_behind : (stage next : List ℕ → Step) (walk : Walk) (answer : Result BlockRead NgFault) (front : List ℕ) (old mid new : Option (List ℕ))
-    → IsBehind stage front next → old ≡ before front mid → Shows next walk answer mid new → Shows stage walk answer old new
-shows_behind stage next walk answer front old mid new is took shown = record {
+pub shows_after : (stage next : List ℕ → Step) (walk : Walk) (answer : Result BlockRead NgFault) (front : List ℕ) (old mid new : Option (List ℕ))
+    → IsAfter stage front next → old ≡ before front mid → Shows next walk answer mid new → Shows stage walk answer old new
+shows_after stage next walk answer front old mid new is took shown = record {
   taken = front ++ shown.taken;
-  took = took_behind front shown.taken old mid new took shown.took;
-  shows = by_behind stage next walk answer front shown.taken new is shown.shows;
+  took = took_after front shown.taken old mid new took shown.took;
+  shows = by_after stage next walk answer front shown.taken new is shown.shows;
 }
 
 -- the stage is cut off where fewer bytes than a piece are left

@@ -11,15 +11,15 @@ use Rattle.pcapng_input.specs.declared.capture.NgFault.TheVariants as fault
 use Rattle.pcapng_input.specs.Steps.{TakesLess, TakesBytes, TakesLast}
 
 -- bytes after bytes
-pub took_behind : (front back : List ℕ) (old mid new : Option (List ℕ)) → old ≡ before front mid → mid ≡ before back new → old ≡ before (front ++ back) new
-took_behind front back old mid new one two = one ∙ ap (before front) two ∙ before-before front back new
+pub took_after : (front back : List ℕ) (old mid new : Option (List ℕ)) → old ≡ before front mid → mid ≡ before back new → old ≡ before (front ++ back) new
+took_after front back old mid new one two = one ∙ ap (before front) two ∙ before-before front back new
 
 -- a piece that was cut short, after bytes that were taken
-pub less_behind : (place len more : ℕ) (why : NgFault) (front : List ℕ) (old mid new : Option (List ℕ))
+pub less_after : (place len more : ℕ) (why : NgFault) (front : List ℕ) (old mid new : Option (List ℕ))
     → old ≡ before front mid → TakesLess place len why mid new → length front + len ≤ more → TakesLess place more why old new
-less_behind place len more why front old mid new took less fits = record {
+less_after place len more why front old mid new took less fits = record {
   taken = front ++ less.taken;
-  took = took_behind front less.taken old mid new took less.took;
+  took = took_after front less.taken old mid new took less.took;
   less = omega (arith, length-append front less.taken, less.less);
   cut = less.cut;
 }
@@ -40,17 +40,17 @@ bytes_start count left old same = record { taken = []; took = none_taken old; si
 pub bytes_more : (len total : ℕ) (piece : List ℕ) (old mid new : Option (List ℕ)) → TakesBytes len old mid → mid ≡ before piece new → len + length piece ≡ total → TakesBytes total old new
 bytes_more len total piece old mid new so_far took is = record {
   taken = so_far.taken ++ piece;
-  took = took_behind so_far.taken piece old mid new so_far.took took;
+  took = took_after so_far.taken piece old mid new so_far.took took;
   size = omega (arith, length-append so_far.taken piece, so_far.size);
 }
 
 -- a piece, and the four bytes after it
-pub last_behind : (swapped : Bool) (total len number : ℕ) (last : List ℕ) (old mid new : Option (List ℕ)) → TakesBytes len old mid → mid ≡ before last new
+pub last_after : (swapped : Bool) (total len number : ℕ) (last : List ℕ) (old mid new : Option (List ℕ)) → TakesBytes len old mid → mid ≡ before last new
     → length last ≡ 4 → number ≡ number_at swapped 0 4 last → TakesLast swapped total len (number == total) old new
-last_behind swapped total len number last old mid new passed took four is = record {
+last_after swapped total len number last old mid new passed took four is = record {
   passed = passed.taken;
   last = last;
-  took = took_behind passed.taken last old mid new passed.took took;
+  took = took_after passed.taken last old mid new passed.took took;
   size = passed.size;
   four = four;
   tells = ap (λ (n : ℕ). n == total) (sym is);

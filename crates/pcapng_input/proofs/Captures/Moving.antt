@@ -41,20 +41,20 @@ given_moves walk block content.Skipped count inner more some fewer = (omega arit
 given_moves walk block (content.Interface link snaplen) count inner more some fewer = interface_moves walk block link snaplen count inner more _ refl some fewer
 given_moves walk block (content.Packet packet) count inner more some fewer = (omega arith, fewer)
 
-closing_moves : (walk : Walk) (block : Block) (told : Content) (count : ℕ) (behind : List ℕ) → 0 < block.total → length behind < count → Moves walk.at count (closing walk block told behind)
+closing_moves : (walk : Walk) (block : Block) (told : Content) (count : ℕ) (after : List ℕ) → 0 < block.total → length after < count → Moves walk.at count (closing walk block told after)
 unfolding closing
-closing_moves walk block told count behind some fewer =
-    either walk.at count (nat_lt (length behind) (inner_length block + 4)) (truncated walk) _ (λ _. tt)
-    (λ _. either walk.at count (number_at walk.section.swapped 0 4 (drop (inner_length block) behind) == block.total)
-    (given_by walk block told (take (inner_length block) behind) (drop (inner_length block + 4) behind)) (refused (bad_block walk))
-    (λ _. given_moves walk block told count (take (inner_length block) behind) (drop (inner_length block + 4) behind) some (omega (arith, length-drop (inner_length block + 4) behind)))
+closing_moves walk block told count after some fewer =
+    either walk.at count (nat_lt (length after) (inner_length block + 4)) (truncated walk) _ (λ _. tt)
+    (λ _. either walk.at count (number_at walk.section.swapped 0 4 (drop (inner_length block) after) == block.total)
+    (given_by walk block told (take (inner_length block) after) (drop (inner_length block + 4) after)) (refused (bad_block walk))
+    (λ _. given_moves walk block told count (take (inner_length block) after) (drop (inner_length block + 4) after) some (omega (arith, length-drop (inner_length block + 4) after)))
     (λ _. tt))
 
-fronted_by : (walk : Walk) (block : Block) (front : List ℕ) (count : ℕ) (behind : List ℕ) (told : Result Content NgFault) → content_of walk block front ≡ told
-    → 0 < block.total → length behind < count → Moves walk.at count (fronted walk block front behind)
-fronted_by walk block front count behind (Err why) is some fewer = subst (Moves walk.at count) (sym (fronted-err walk block front why is behind)) tt
-fronted_by walk block front count behind (Ok told) is some fewer =
-    subst (Moves walk.at count) (sym (fronted-ok walk block front told is behind)) (closing_moves walk block told count behind some fewer)
+fronted_by : (walk : Walk) (block : Block) (front : List ℕ) (count : ℕ) (after : List ℕ) (told : Result Content NgFault) → content_of walk block front ≡ told
+    → 0 < block.total → length after < count → Moves walk.at count (fronted walk block front after)
+fronted_by walk block front count after (Err why) is some fewer = subst (Moves walk.at count) (sym (fronted-err walk block front why is after)) tt
+fronted_by walk block front count after (Ok told) is some fewer =
+    subst (Moves walk.at count) (sym (fronted-ok walk block front told is after)) (closing_moves walk block told count after some fewer)
 
 known_by : (walk : Walk) (block : Block) (count : ℕ) (body : List ℕ) (sized : Bool) → is_sized block ≡ sized → length body < count → Moves walk.at count (known walk block body)
 unfolding known
@@ -92,21 +92,21 @@ step_moves walk rest =
     (λ long. let enough : 8 ≤ length rest = grind (arith, nat_tests, long) in
     begun_moves walk (take 8 rest) (length rest) (drop 8 rest) (omega (arith, length-drop 8 rest)))))
 
-pub skips_on : (walk : Walk) (rest : List ℕ) (behind : Walk) (more : List ℕ) → step_of walk rest ≡ Skips behind more → (walk.at < behind.at) × (length more < length rest)
-skips_on walk rest behind more is = subst (Moves walk.at (length rest)) is (step_moves walk rest)
+pub skips_on : (walk : Walk) (rest : List ℕ) (after : Walk) (more : List ℕ) → step_of walk rest ≡ Skips after more → (walk.at < after.at) × (length more < length rest)
+skips_on walk rest after more is = subst (Moves walk.at (length rest)) is (step_moves walk rest)
 
-pub gives_on : (walk : Walk) (rest : List ℕ) (given : NgRecord) (behind : Walk) (more : List ℕ) → step_of walk rest ≡ Gives given behind more → (walk.at < behind.at) × (length more < length rest)
-gives_on walk rest given behind more is = subst (Moves walk.at (length rest)) is (step_moves walk rest)
+pub gives_on : (walk : Walk) (rest : List ℕ) (given : NgRecord) (after : Walk) (more : List ℕ) → step_of walk rest ≡ Gives given after more → (walk.at < after.at) × (length more < length rest)
+gives_on walk rest given after more is = subst (Moves walk.at (length rest)) is (step_moves walk rest)
 
 -- where a test that would end the capture is made before a block that is skipped, it doesn't hold
-not_ended : (test : Bool) (ending : Ending NgFault) (step : Step) (behind : Walk) (more : List ℕ) → (if test then Stops ending else step) ≡ Skips behind more → (test ≡ false) × (step ≡ Skips behind more)
-not_ended true ending step behind more is = cc
-not_ended false ending step behind more is = (refl, is)
+not_ended : (test : Bool) (ending : Ending NgFault) (step : Step) (after : Walk) (more : List ℕ) → (if test then Stops ending else step) ≡ Skips after more → (test ≡ false) × (step ≡ Skips after more)
+not_ended true ending step after more is = cc
+not_ended false ending step after more is = (refl, is)
 
 -- a block is skipped only below the last place
-pub skips_near : (walk : Walk) (rest : List ℕ) (behind : Walk) (more : List ℕ) → step_of walk rest ≡ Skips behind more → walk.at < last_place
+pub skips_near : (walk : Walk) (rest : List ℕ) (after : Walk) (more : List ℕ) → step_of walk rest ≡ Skips after more → walk.at < last_place
 unfolding step_of
-skips_near walk rest behind more is =
-    let one = not_ended (length rest == 0) Clean _ behind more is in
-    let two = not_ended (is_full walk) _ _ behind more one.1 in
+skips_near walk rest after more is =
+    let one = not_ended (length rest == 0) Clean _ after more is in
+    let two = not_ended (is_full walk) _ _ after more one.1 in
     grind (arith, nat_tests, two.0)

@@ -15,7 +15,7 @@ use Rattle.pcapng_input.specs.declared.walk.Walk.{Walk}
 use Rattle.pcapng_input.specs.Options.{resolution_told}
 use Rattle.pcap_input.specs.Savefile.{most_records}
 use Rattle.pcap_input.specs.Cut.{Ending, Clean, Refused}
-use Rattle.pcapng_input.specs.Blocks.{section_type, Step, Stops, Skips, Gives, refused, truncated, bad_block, front_length, is_sized, inner_length, order_of, first_walk, new_section, content_of, given_by, closing, fronted, known, section_block, other_block, section_begun, begun, is_full, step_of, opening, Ends, Stands, next_along, next_of}
+use Rattle.pcapng_input.specs.Blocks.{section_type, Step, Stops, Skips, Gives, refused, truncated, bad_block, front_length, is_sized, inner_length, order_of, first_walk, new_section, content_of, given_by, closing, fronted, known, section_block, other_block, section_begun, begun, is_full, step_of, opening, Ends, Follows, next_along, next_of}
 use Rattle.pcapng_input.proofs.Blocks.Begins.{fronted-err, fronted-ok, begun_section, number_front}
 
 -- the number of records after a step from this number
@@ -43,21 +43,21 @@ given_counts walk block content.Skipped inner more = refl
 given_counts walk block (content.Interface link snaplen) inner more = interface_counts walk block link snaplen inner more _ refl
 given_counts walk block (content.Packet packet) inner more = refl
 
-closing_counts : (walk : Walk) (block : Block) (told : Content) (behind : List ℕ)
-    → Counts walk.number (closing walk block told behind)
+closing_counts : (walk : Walk) (block : Block) (told : Content) (after : List ℕ)
+    → Counts walk.number (closing walk block told after)
 unfolding closing
-closing_counts walk block told behind =
-    either walk.number (nat_lt (length behind) (inner_length block + 4)) (truncated walk) _ tt
-    (either walk.number (number_at walk.section.swapped 0 4 (drop (inner_length block) behind) == block.total)
-    (given_by walk block told (take (inner_length block) behind) (drop (inner_length block + 4) behind))
+closing_counts walk block told after =
+    either walk.number (nat_lt (length after) (inner_length block + 4)) (truncated walk) _ tt
+    (either walk.number (number_at walk.section.swapped 0 4 (drop (inner_length block) after) == block.total)
+    (given_by walk block told (take (inner_length block) after) (drop (inner_length block + 4) after))
     (refused (bad_block walk))
-    (given_counts walk block told (take (inner_length block) behind) (drop (inner_length block + 4) behind)) tt)
+    (given_counts walk block told (take (inner_length block) after) (drop (inner_length block + 4) after)) tt)
 
-fronted_by : (walk : Walk) (block : Block) (front behind : List ℕ) (told : Result Content NgFault)
-    → content_of walk block front ≡ told → Counts walk.number (fronted walk block front behind)
-fronted_by walk block front behind (Err why) is = subst (Counts walk.number) (sym (fronted-err walk block front why is behind)) tt
-fronted_by walk block front behind (Ok told) is =
-    subst (Counts walk.number) (sym (fronted-ok walk block front told is behind)) (closing_counts walk block told behind)
+fronted_by : (walk : Walk) (block : Block) (front after : List ℕ) (told : Result Content NgFault)
+    → content_of walk block front ≡ told → Counts walk.number (fronted walk block front after)
+fronted_by walk block front after (Err why) is = subst (Counts walk.number) (sym (fronted-err walk block front why is after)) tt
+fronted_by walk block front after (Ok told) is =
+    subst (Counts walk.number) (sym (fronted-ok walk block front told is after)) (closing_counts walk block told after)
 
 known_counts : (walk : Walk) (block : Block) (body : List ℕ) → Counts walk.number (known walk block body)
 unfolding known
@@ -88,28 +88,28 @@ step_counts walk rest =
     (either walk.number (nat_lt (length rest) 8) (truncated walk) _ tt (begun_counts walk (take 8 rest) (drop 8 rest))))
 
 -- where a test that would end the capture is made before a record, it doesn't hold
-not_ended : (test : Bool) (ending : Ending NgFault) (step : Step) (given : NgRecord) (behind : Walk) (more : List ℕ)
-    → (if test then Stops ending else step) ≡ Gives given behind more → (test ≡ false) × (step ≡ Gives given behind more)
-not_ended true ending step given behind more is = cc
-not_ended false ending step given behind more is = (refl, is)
+not_ended : (test : Bool) (ending : Ending NgFault) (step : Step) (given : NgRecord) (after : Walk) (more : List ℕ)
+    → (if test then Stops ending else step) ≡ Gives given after more → (test ≡ false) × (step ≡ Gives given after more)
+not_ended true ending step given after more is = cc
+not_ended false ending step given after more is = (refl, is)
 
 -- a record is given only where fewer than the most were
-gives_few : (walk : Walk) (rest : List ℕ) (given : NgRecord) (behind : Walk) (more : List ℕ)
-    → step_of walk rest ≡ Gives given behind more → walk.number < most_records
+gives_few : (walk : Walk) (rest : List ℕ) (given : NgRecord) (after : Walk) (more : List ℕ)
+    → step_of walk rest ≡ Gives given after more → walk.number < most_records
 unfolding step_of
-gives_few walk rest given behind more is =
-    let one = not_ended (length rest == 0) Clean _ given behind more is in
-    let two = not_ended (is_full walk) _ _ given behind more one.1 in
+gives_few walk rest given after more is =
+    let one = not_ended (length rest == 0) Clean _ given after more is in
+    let two = not_ended (is_full walk) _ _ given after more one.1 in
     grind (arith, nat_tests, two.0)
 
 -- a record that is given adds one to the number, which was below the most
-pub record IsCounted (walk behind : Walk) : Type 0 where
-  pub one : behind.number ≡ walk.number + 1
+pub record IsCounted (walk after : Walk) : Type 0 where
+  pub one : after.number ≡ walk.number + 1
   pub few : walk.number < most_records
 
 -- a record adds one to a number, where it adds one to an equal number of another walk
-counted_from : (walk other behind : Walk) → other.number ≡ walk.number → IsCounted other behind → IsCounted walk behind
-counted_from walk other behind same counted = record {
+counted_from : (walk other after : Walk) → other.number ≡ walk.number → IsCounted other after → IsCounted walk after
+counted_from walk other after same counted = record {
   one = counted.one ∙ ap_suc other.number walk.number same;
   few = subst (λ (n : ℕ). n < most_records) same counted.few;
 }
@@ -117,127 +117,127 @@ counted_from walk other behind same counted = record {
     ap_suc : (a b : ℕ) → a ≡ b → a + 1 ≡ b + 1
     ap_suc a b is = omega (arith, is)
 
-counted_by : (most : ℕ) (walk : Walk) (rest : List ℕ) (given : NgRecord) (behind : Walk) (more : List ℕ) (step : Step)
+counted_by : (most : ℕ) (walk : Walk) (rest : List ℕ) (given : NgRecord) (after : Walk) (more : List ℕ) (step : Step)
     → step_of walk rest ≡ step
-    → ((w : Walk) (xs : List ℕ) → next_along most w xs ≡ Stands given behind more → IsCounted w behind)
-    → next_along (suc most) walk rest ≡ Stands given behind more → IsCounted walk behind
+    → ((w : Walk) (xs : List ℕ) → next_along most w xs ≡ Follows given after more → IsCounted w after)
+    → next_along (suc most) walk rest ≡ Follows given after more → IsCounted walk after
 unfolding next_along
-counted_by most walk rest given behind more (Stops ending) is on stands =
-    let ends : Ends ending ≡ Stands given behind more = rw (next_along, is) at stands in
+counted_by most walk rest given after more (Stops ending) is on holds =
+    let ends : Ends ending ≡ Follows given after more = rw (next_along, is) at holds in
     cc
-counted_by most walk rest given behind more (Skips w xs) is on stands =
-    let next : next_along most w xs ≡ Stands given behind more = rw (next_along, is) at stands in
+counted_by most walk rest given after more (Skips w xs) is on holds =
+    let next : next_along most w xs ≡ Follows given after more = rw (next_along, is) at holds in
     let same : w.number ≡ walk.number = subst (Counts walk.number) is (step_counts walk rest) in
-    counted_from walk w behind same (on w xs next)
-counted_by most walk rest given behind more (Gives first w xs) is on stands =
-    let found : Stands first w xs ≡ Stands given behind more = rw (next_along, is) at stands in
-    let walk_is : w ≡ behind = cc in
+    counted_from walk w after same (on w xs next)
+counted_by most walk rest given after more (Gives first w xs) is on holds =
+    let found : Follows first w xs ≡ Follows given after more = rw (next_along, is) at holds in
+    let walk_is : w ≡ after = cc in
     let counted : w.number ≡ walk.number + 1 = subst (Counts walk.number) is (step_counts walk rest) in
     subst (λ (v : Walk). IsCounted walk v) walk_is (record { one = counted; few = gives_few walk rest first w xs is })
 
-counted_along : (most : ℕ) (walk : Walk) (rest : List ℕ) (given : NgRecord) (behind : Walk) (more : List ℕ)
-    → next_along most walk rest ≡ Stands given behind more → IsCounted walk behind
+counted_along : (most : ℕ) (walk : Walk) (rest : List ℕ) (given : NgRecord) (after : Walk) (more : List ℕ)
+    → next_along most walk rest ≡ Follows given after more → IsCounted walk after
 unfolding next_along
-counted_along zero walk rest given behind more is = cc
-counted_along (suc most) walk rest given behind more is =
-    counted_by most walk rest given behind more (step_of walk rest) refl
-    (λ w xs next. counted_along most w xs given behind more next) is
+counted_along zero walk rest given after more is = cc
+counted_along (suc most) walk rest given after more is =
+    counted_by most walk rest given after more (step_of walk rest) refl
+    (λ w xs next. counted_along most w xs given after more next) is
 
-pub stands_counted : (walk : Walk) (rest : List ℕ) (given : NgRecord) (behind : Walk) (more : List ℕ)
-    → next_of walk rest ≡ Stands given behind more → IsCounted walk behind
+pub follows_counted : (walk : Walk) (rest : List ℕ) (given : NgRecord) (after : Walk) (more : List ℕ)
+    → next_of walk rest ≡ Follows given after more → IsCounted walk after
 unfolding next_of
-stands_counted walk rest given behind more is = counted_along (length rest + 1) walk rest given behind more is
+follows_counted walk rest given after more is = counted_along (length rest + 1) walk rest given after more is
 
 -- ---- the first block
 
 -- where the first block is skipped, a section header begins the file, and it is the block that is there
-pub record IsSection (bytes : List ℕ) (behind : Walk) (more : List ℕ) : Type 0 where
+pub record IsSection (bytes : List ℕ) (after : Walk) (more : List ℕ) : Type 0 where
   pub begins : number_at false 0 4 bytes ≡ section_type
-  pub step : step_of first_walk bytes ≡ Skips behind more
+  pub step : step_of first_walk bytes ≡ Skips after more
   pub long : 28 ≤ length bytes
-  pub none : behind.number ≡ 0
+  pub none : after.number ≡ 0
 
 -- what a test lets through that is skipped
-let_through : (test : Bool) (step : Step) (why : NgFault) (behind : Walk) (more : List ℕ)
-    → (if test then step else refused why) ≡ Skips behind more → (test ≡ true) × (step ≡ Skips behind more)
-let_through true step why behind more is = (refl, is)
-let_through false step why behind more is = cc
+let_through : (test : Bool) (step : Step) (why : NgFault) (after : Walk) (more : List ℕ)
+    → (if test then step else refused why) ≡ Skips after more → (test ≡ true) × (step ≡ Skips after more)
+let_through true step why after more is = (refl, is)
+let_through false step why after more is = cc
 
-not_cut : (test : Bool) (ending : Ending NgFault) (step : Step) (behind : Walk) (more : List ℕ)
-    → (if test then Stops ending else step) ≡ Skips behind more → (test ≡ false) × (step ≡ Skips behind more)
-not_cut true ending step behind more is = cc
-not_cut false ending step behind more is = (refl, is)
+not_cut : (test : Bool) (ending : Ending NgFault) (step : Step) (after : Walk) (more : List ℕ)
+    → (if test then Stops ending else step) ≡ Skips after more → (test ≡ false) × (step ≡ Skips after more)
+not_cut true ending step after more is = cc
+not_cut false ending step after more is = (refl, is)
 
 -- a section header that is whole has 28 bytes at least
-fronted_long : (walk : Walk) (block : Block) (front body : List ℕ) (behind : Walk) (more : List ℕ) (told : Result Content NgFault)
-    → content_of walk block front ≡ told → fronted walk block front body ≡ Skips behind more → 4 ≤ length body
+fronted_long : (walk : Walk) (block : Block) (front body : List ℕ) (after : Walk) (more : List ℕ) (told : Result Content NgFault)
+    → content_of walk block front ≡ told → fronted walk block front body ≡ Skips after more → 4 ≤ length body
 unfolding closing
-fronted_long walk block front body behind more (Err why) is skips =
-    let none : refused why ≡ Skips behind more = sym (fronted-err walk block front why is body) ∙ skips in
+fronted_long walk block front body after more (Err why) is skips =
+    let none : refused why ≡ Skips after more = sym (fronted-err walk block front why is body) ∙ skips in
     cc
-fronted_long walk block front body behind more (Ok told) is skips =
-    let closed : closing walk block told body ≡ Skips behind more = sym (fronted-ok walk block front told is body) ∙ skips in
-    let one = not_cut (nat_lt (length body) (inner_length block + 4)) (Refused (fault.Truncated walk.at)) _ behind more closed in
+fronted_long walk block front body after more (Ok told) is skips =
+    let closed : closing walk block told body ≡ Skips after more = sym (fronted-ok walk block front told is body) ∙ skips in
+    let one = not_cut (nat_lt (length body) (inner_length block + 4)) (Refused (fault.Truncated walk.at)) _ after more closed in
     grind (arith, nat_tests, one.0)
 
-known_long : (walk : Walk) (swapped : Bool) (first body : List ℕ) (behind : Walk) (more : List ℕ)
-    → known walk (section_block swapped first) body ≡ Skips behind more → 16 ≤ length body
+known_long : (walk : Walk) (swapped : Bool) (first body : List ℕ) (after : Walk) (more : List ℕ)
+    → known walk (section_block swapped first) body ≡ Skips after more → 16 ≤ length body
 unfolding known
-known_long walk swapped first body behind more is =
+known_long walk swapped first body after more is =
     let block = section_block swapped first in
-    let one = let_through (is_sized block) _ (bad_block walk) behind more is in
-    let two = not_cut (nat_lt (length body) 12) _ _ behind more one.1 in
+    let one = let_through (is_sized block) _ (bad_block walk) after more is in
+    let two = not_cut (nat_lt (length body) 12) _ _ after more one.1 in
     let enough : 12 ≤ length body = grind (arith, nat_tests, two.0) in
-    omega (arith, enough, length-drop 12 body, fronted_long walk block (take 12 body) (drop 12 body) behind more _ refl two.1)
+    omega (arith, enough, length-drop 12 body, fronted_long walk block (take 12 body) (drop 12 body) after more _ refl two.1)
 
-section_long : (walk : Walk) (first body : List ℕ) (behind : Walk) (more : List ℕ) (order : Option Bool)
-    → order_of (take 4 body) ≡ order → section_begun walk first body ≡ Skips behind more → 20 ≤ length body
+section_long : (walk : Walk) (first body : List ℕ) (after : Walk) (more : List ℕ) (order : Option Bool)
+    → order_of (take 4 body) ≡ order → section_begun walk first body ≡ Skips after more → 20 ≤ length body
 unfolding section_begun
-section_long walk first body behind more None is skips =
-    let one = not_cut (nat_lt (length body) 4) _ _ behind more skips in
-    let none : refused (bad_block walk) ≡ Skips behind more = rw is at one.1 in
+section_long walk first body after more None is skips =
+    let one = not_cut (nat_lt (length body) 4) _ _ after more skips in
+    let none : refused (bad_block walk) ≡ Skips after more = rw is at one.1 in
     cc
-section_long walk first body behind more (Some swapped) is skips =
-    let one = not_cut (nat_lt (length body) 4) _ _ behind more skips in
-    let on : known (new_section walk swapped) (section_block swapped first) (drop 4 body) ≡ Skips behind more = rw is at one.1 in
-    omega (arith, known_long (new_section walk swapped) swapped first (drop 4 body) behind more on, length-drop 4 body)
+section_long walk first body after more (Some swapped) is skips =
+    let one = not_cut (nat_lt (length body) 4) _ _ after more skips in
+    let on : known (new_section walk swapped) (section_block swapped first) (drop 4 body) ≡ Skips after more = rw is at one.1 in
+    omega (arith, known_long (new_section walk swapped) swapped first (drop 4 body) after more on, length-drop 4 body)
 
-begun_long : (walk : Walk) (bytes : List ℕ) (behind : Walk) (more : List ℕ) → number_at false 0 4 bytes ≡ section_type
-    → begun walk (take 8 bytes) (drop 8 bytes) ≡ Skips behind more → 28 ≤ length bytes
-begun_long walk bytes behind more is skips =
+begun_long : (walk : Walk) (bytes : List ℕ) (after : Walk) (more : List ℕ) → number_at false 0 4 bytes ≡ section_type
+    → begun walk (take 8 bytes) (drop 8 bytes) ≡ Skips after more → 28 ≤ length bytes
+begun_long walk bytes after more is skips =
     let own : number_at false 0 4 (take 8 bytes) ≡ section_type = number_front 8 bytes (omega arith) ∙ is in
-    let section : section_begun walk (take 8 bytes) (drop 8 bytes) ≡ Skips behind more =
+    let section : section_begun walk (take 8 bytes) (drop 8 bytes) ≡ Skips after more =
     sym (begun_section walk (take 8 bytes) own (drop 8 bytes)) ∙ skips in
-    omega (arith, length-drop 8 bytes, section_long walk (take 8 bytes) (drop 8 bytes) behind more _ refl section)
+    omega (arith, length-drop 8 bytes, section_long walk (take 8 bytes) (drop 8 bytes) after more _ refl section)
 
-step_long : (bytes : List ℕ) (behind : Walk) (more : List ℕ) → number_at false 0 4 bytes ≡ section_type
-    → step_of first_walk bytes ≡ Skips behind more → 28 ≤ length bytes
+step_long : (bytes : List ℕ) (after : Walk) (more : List ℕ) → number_at false 0 4 bytes ≡ section_type
+    → step_of first_walk bytes ≡ Skips after more → 28 ≤ length bytes
 unfolding step_of
-step_long bytes behind more is skips =
-    let one = not_cut (length bytes == 0) _ _ behind more skips in
-    let two = not_cut (nat_lt (length bytes) 8) (Refused (fault.Truncated 0)) _ behind more one.1 in
-    begun_long first_walk bytes behind more is two.1
+step_long bytes after more is skips =
+    let one = not_cut (length bytes == 0) _ _ after more skips in
+    let two = not_cut (nat_lt (length bytes) 8) (Refused (fault.Truncated 0)) _ after more one.1 in
+    begun_long first_walk bytes after more is two.1
 
 -- a byte-order magic was told
-opened_step : (bytes : List ℕ) (behind : Walk) (more : List ℕ) (order : Option Bool) → order_of (take 4 (drop 8 bytes)) ≡ order
+opened_step : (bytes : List ℕ) (after : Walk) (more : List ℕ) (order : Option Bool) → order_of (take 4 (drop 8 bytes)) ≡ order
     → elim (order_of (take 4 (drop 8 bytes))) [ None ↦ refused fault.NotPcapng | Some swapped ↦ step_of first_walk bytes ]
-    ≡ Skips behind more
-    → step_of first_walk bytes ≡ Skips behind more
-opened_step bytes behind more None is skips = let none : refused fault.NotPcapng ≡ Skips behind more = rw is at skips in cc
-opened_step bytes behind more (Some swapped) is skips = rw is at skips
+    ≡ Skips after more
+    → step_of first_walk bytes ≡ Skips after more
+opened_step bytes after more None is skips = let none : refused fault.NotPcapng ≡ Skips after more = rw is at skips in cc
+opened_step bytes after more (Some swapped) is skips = rw is at skips
 
-pub opening_section : (bytes : List ℕ) (behind : Walk) (more : List ℕ) → opening bytes ≡ Skips behind more
-    → IsSection bytes behind more
+pub opening_section : (bytes : List ℕ) (after : Walk) (more : List ℕ) → opening bytes ≡ Skips after more
+    → IsSection bytes after more
 unfolding opening
-opening_section bytes behind more is =
+opening_section bytes after more is =
     let is_section = nat_le 4 (length bytes) && (number_at false 0 4 bytes == section_type) in
-    let one = let_through is_section _ fault.NotPcapng behind more is in
+    let one = let_through is_section _ fault.NotPcapng after more is in
     let begins : number_at false 0 4 bytes ≡ section_type = grind (arith, nat_tests, one.0) in
-    let two = not_cut (nat_lt (length bytes) 12) _ _ behind more one.1 in
-    let step = opened_step bytes behind more _ refl two.1 in
+    let two = not_cut (nat_lt (length bytes) 12) _ _ after more one.1 in
+    let step = opened_step bytes after more _ refl two.1 in
     record {
       begins = begins;
       step = step;
-      long = step_long bytes behind more begins step;
+      long = step_long bytes after more begins step;
       none = subst (Counts 0) step (step_counts first_walk bytes);
     }

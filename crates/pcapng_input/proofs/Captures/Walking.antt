@@ -13,7 +13,7 @@ use Rattle.pcap_input.specs.Cut.{Ending, Clean, Refused}
 use Rattle.pcapng_input.specs.Blocks.{last_place, refused, step_of, Ends, next_of}
 use Rattle.pcapng_input.specs.Steps.{EndsBy, Shows, IsAtEnd}
 use Rattle.pcapng_input.specs.Reader.{Reading, Answers, TakesRecord, TakesBlocks, ShowsRefusal, TakesNone, GoesBy, Goes, HasPassed, IsNothing}
-use Rattle.pcapng_input.proofs.Blocks.Taking.{took_behind}
+use Rattle.pcapng_input.proofs.Blocks.Taking.{took_after}
 use Rattle.pcapng_input.proofs.Captures.Moving.{skips_on, skips_near}
 use Rattle.pcapng_input.proofs.Captures.Nexts.{next_of-stops, next_of-gives, next_of-skips, next_of-same, none_ends}
 
@@ -22,70 +22,70 @@ pub passed_start : (walk : Walk) (left : Option (List ℕ)) → HasPassed walk w
 passed_start walk left = record { taken = []; took = none_taken left; goes = λ more. refl }
 
 -- what comes next for the first walk, after what the two took
-on_behind : (first walk : Walk) (left_first left : Option (List ℕ)) (passed : HasPassed first walk left_first left) (taken more : List ℕ)
+on_after : (first walk : Walk) (left_first left : Option (List ℕ)) (passed : HasPassed first walk left_first left) (taken more : List ℕ)
     → next_of first ((passed.taken ++ taken) ++ more) ≡ next_of walk (taken ++ more)
-on_behind first walk left_first left passed taken more = ap (next_of first) (append_assoc passed.taken taken more) ∙ passed.goes (taken ++ more)
+on_after first walk left_first left passed taken more = ap (next_of first) (append_assoc passed.taken taken more) ∙ passed.goes (taken ++ more)
 
 -- a block was skipped
-pub passed_more : (first walk behind : Walk) (left_first left left_behind : Option (List ℕ))
-    → HasPassed first walk left_first left → Shows (step_of walk) behind (Ok read.Skipped) left left_behind → HasPassed first behind left_first left_behind
-passed_more first walk behind left_first left left_behind passed shown = record {
+pub passed_more : (first walk after : Walk) (left_first left left_after : Option (List ℕ))
+    → HasPassed first walk left_first left → Shows (step_of walk) after (Ok read.Skipped) left left_after → HasPassed first after left_first left_after
+passed_more first walk after left_first left left_after passed shown = record {
   taken = passed.taken ++ shown.taken;
-  took = took_behind passed.taken shown.taken left_first left left_behind passed.took shown.took;
-  goes = λ more. on_behind first walk left_first left passed shown.taken more ∙ next_of-skips walk (shown.taken ++ more) behind more (shown.shows more);
+  took = took_after passed.taken shown.taken left_first left left_after passed.took shown.took;
+  goes = λ more. on_after first walk left_first left passed shown.taken more ∙ next_of-skips walk (shown.taken ++ more) after more (shown.shows more);
 }
 
 -- a record was read
-pub goes_given : (first walk behind : Walk) (given : NgRecord) (left_first left left_behind : Option (List ℕ))
-    → HasPassed first walk left_first left → Shows (step_of walk) behind (Ok (read.Record given)) left left_behind → Goes first behind (Ok (Some given)) left_first left_behind
-goes_given first walk behind given left_first left left_behind passed shown = record {
+pub goes_given : (first walk after : Walk) (given : NgRecord) (left_first left left_after : Option (List ℕ))
+    → HasPassed first walk left_first left → Shows (step_of walk) after (Ok (read.Record given)) left left_after → Goes first after (Ok (Some given)) left_first left_after
+goes_given first walk after given left_first left left_after passed shown = record {
   taken = passed.taken ++ shown.taken;
-  took = took_behind passed.taken shown.taken left_first left left_behind passed.took shown.took;
-  goes = λ more. on_behind first walk left_first left passed shown.taken more ∙ next_of-gives walk (shown.taken ++ more) given behind more (shown.shows more);
+  took = took_after passed.taken shown.taken left_first left left_after passed.took shown.took;
+  goes = λ more. on_after first walk left_first left passed shown.taken more ∙ next_of-gives walk (shown.taken ++ more) given after more (shown.shows more);
 }
 
 -- no byte was left
-pub goes_ended : (first walk behind : Walk) (left_first left left_behind : Option (List ℕ))
-    → HasPassed first walk left_first left → Shows (step_of walk) behind (Ok read.End) left left_behind → Goes first behind (Ok None) left_first left_behind
-goes_ended first walk behind left_first left left_behind passed shown = record {
+pub goes_ended : (first walk after : Walk) (left_first left left_after : Option (List ℕ))
+    → HasPassed first walk left_first left → Shows (step_of walk) after (Ok read.End) left left_after → Goes first after (Ok None) left_first left_after
+goes_ended first walk after left_first left left_after passed shown = record {
   taken = passed.taken ++ shown.taken;
-  took = took_behind passed.taken shown.taken left_first left left_behind passed.took shown.took;
+  took = took_after passed.taken shown.taken left_first left left_after passed.took shown.took;
   goes = (
-    λ more. on_behind first walk left_first left passed shown.taken more ∙ next_of-same walk behind (shown.taken ++ more) more (shown.shows.1 more),
-    λ rest still. on_behind first walk left_first left passed shown.taken rest ∙ next_of-stops walk (shown.taken ++ rest) Clean (shown.shows.0.told rest still),
+    λ more. on_after first walk left_first left passed shown.taken more ∙ next_of-same walk after (shown.taken ++ more) more (shown.shows.1 more),
+    λ rest still. on_after first walk left_first left passed shown.taken rest ∙ next_of-stops walk (shown.taken ++ rest) Clean (shown.shows.0.told rest still),
   );
 }
 
 -- a refusal, by the bytes of the block that was refused
-refusal : (first walk : Walk) (why : NgFault) (left_first left left_behind : Option (List ℕ)) (passed : HasPassed first walk left_first left) (taken : List ℕ)
-    → EndsBy (step_of walk) (refused why) taken left_behind
-    → (next_of first (passed.taken ++ taken) ≡ Ends (Refused why)) × ((rest : List ℕ) → left_behind ≡ Some rest → next_of first ((passed.taken ++ taken) ++ rest) ≡ Ends (Refused why))
-refusal first walk why left_first left left_behind passed taken ends = (
+refusal : (first walk : Walk) (why : NgFault) (left_first left left_after : Option (List ℕ)) (passed : HasPassed first walk left_first left) (taken : List ℕ)
+    → EndsBy (step_of walk) (refused why) taken left_after
+    → (next_of first (passed.taken ++ taken) ≡ Ends (Refused why)) × ((rest : List ℕ) → left_after ≡ Some rest → next_of first ((passed.taken ++ taken) ++ rest) ≡ Ends (Refused why))
+refusal first walk why left_first left left_after passed taken ends = (
   passed.goes taken ∙ next_of-stops walk taken (Refused why) ends.shown,
-  λ rest still. on_behind first walk left_first left passed taken rest ∙ next_of-stops walk (taken ++ rest) (Refused why) (ends.told rest still),
+  λ rest still. on_after first walk left_first left passed taken rest ∙ next_of-stops walk (taken ++ rest) (Refused why) (ends.told rest still),
 )
 
-none_behind : (first walk : Walk) (left_first left : Option (List ℕ)) (passed : HasPassed first walk left_first left) (taken : List ℕ)
+none_after : (first walk : Walk) (left_first left : Option (List ℕ)) (passed : HasPassed first walk left_first left) (taken : List ℕ)
     → (ending : Ending NgFault) × (next_of walk taken ≡ Ends ending) → (ending : Ending NgFault) × (next_of first (passed.taken ++ taken) ≡ Ends ending)
-none_behind first walk left_first left passed taken ends = (ends.0, passed.goes taken ∙ ends.1)
+none_after first walk left_first left passed taken ends = (ends.0, passed.goes taken ∙ ends.1)
 
-refused_by : (first walk behind : Walk) (why : NgFault) (left_first left left_behind : Option (List ℕ)) (passed : HasPassed first walk left_first left)
-    (shown : Shows (step_of walk) behind (Err why) left left_behind) → GoesBy first behind (Err why) (passed.taken ++ shown.taken) left_behind
-refused_by first walk behind fault.NotPcapng left_first left left_behind passed shown = refusal first walk _ left_first left left_behind passed shown.taken shown.shows
-refused_by first walk behind (fault.Truncated at) left_first left left_behind passed shown = refusal first walk _ left_first left left_behind passed shown.taken shown.shows
-refused_by first walk behind (fault.BadBlock at) left_first left left_behind passed shown = refusal first walk _ left_first left left_behind passed shown.taken shown.shows
-refused_by first walk behind (fault.LinkType at link) left_first left left_behind passed shown = refusal first walk _ left_first left left_behind passed shown.taken shown.shows
-refused_by first walk behind (fault.TooLong at len) left_first left left_behind passed shown = refusal first walk _ left_first left left_behind passed shown.taken shown.shows
-refused_by first walk behind fault.TooMany left_first left left_behind passed shown = refusal first walk _ left_first left left_behind passed shown.taken shown.shows
-refused_by first walk behind fault.Failed left_first left left_behind passed shown = none_behind first walk left_first left passed shown.taken (none_ends walk shown.taken shown.shows)
-refused_by first walk behind fault.NoMemory left_first left left_behind passed shown = none_behind first walk left_first left passed shown.taken (none_ends walk shown.taken shown.shows)
+refused_by : (first walk after : Walk) (why : NgFault) (left_first left left_after : Option (List ℕ)) (passed : HasPassed first walk left_first left)
+    (shown : Shows (step_of walk) after (Err why) left left_after) → GoesBy first after (Err why) (passed.taken ++ shown.taken) left_after
+refused_by first walk after fault.NotPcapng left_first left left_after passed shown = refusal first walk _ left_first left left_after passed shown.taken shown.shows
+refused_by first walk after (fault.Truncated at) left_first left left_after passed shown = refusal first walk _ left_first left left_after passed shown.taken shown.shows
+refused_by first walk after (fault.BadBlock at) left_first left left_after passed shown = refusal first walk _ left_first left left_after passed shown.taken shown.shows
+refused_by first walk after (fault.LinkType at link) left_first left left_after passed shown = refusal first walk _ left_first left left_after passed shown.taken shown.shows
+refused_by first walk after (fault.TooLong at len) left_first left left_after passed shown = refusal first walk _ left_first left left_after passed shown.taken shown.shows
+refused_by first walk after fault.TooMany left_first left left_after passed shown = refusal first walk _ left_first left left_after passed shown.taken shown.shows
+refused_by first walk after fault.Failed left_first left left_after passed shown = none_after first walk left_first left passed shown.taken (none_ends walk shown.taken shown.shows)
+refused_by first walk after fault.NoMemory left_first left left_after passed shown = none_after first walk left_first left passed shown.taken (none_ends walk shown.taken shown.shows)
 
-pub goes_refused : (first walk behind : Walk) (why : NgFault) (left_first left left_behind : Option (List ℕ))
-    → HasPassed first walk left_first left → Shows (step_of walk) behind (Err why) left left_behind → Goes first behind (Err why) left_first left_behind
-goes_refused first walk behind why left_first left left_behind passed shown = record {
+pub goes_refused : (first walk after : Walk) (why : NgFault) (left_first left left_after : Option (List ℕ))
+    → HasPassed first walk left_first left → Shows (step_of walk) after (Err why) left left_after → Goes first after (Err why) left_first left_after
+goes_refused first walk after why left_first left left_after passed shown = record {
   taken = passed.taken ++ shown.taken;
-  took = took_behind passed.taken shown.taken left_first left left_behind passed.took shown.took;
-  goes = refused_by first walk behind why left_first left left_behind passed shown;
+  took = took_after passed.taken shown.taken left_first left left_after passed.took shown.took;
+  goes = refused_by first walk after why left_first left left_after passed shown;
 }
 
 -- where the bytes that were left are told, the answer is what comes next in them
@@ -133,9 +133,9 @@ goes_none old new why left_old left_new goes =
     record { taken = goes.taken; took = goes.took; shows = shows_by old.walk new why goes.taken left_new goes.goes }
 
 -- a block that is skipped lies below the last place, and the next one after it
-pub skipped_moves : (walk behind : Walk) (left left_behind : Option (List ℕ)) → Shows (step_of walk) behind (Ok read.Skipped) left left_behind → (walk.at < behind.at) × (walk.at < last_place)
-skipped_moves walk behind left left_behind shown =
-    ((skips_on walk (shown.taken ++ []) behind [] (shown.shows [])).0, skips_near walk (shown.taken ++ []) behind [] (shown.shows []))
+pub skipped_moves : (walk after : Walk) (left left_after : Option (List ℕ)) → Shows (step_of walk) after (Ok read.Skipped) left left_after → (walk.at < after.at) × (walk.at < last_place)
+skipped_moves walk after left left_after shown =
+    ((skips_on walk (shown.taken ++ []) after [] (shown.shows [])).0, skips_near walk (shown.taken ++ []) after [] (shown.shows []))
 
 -- where nothing is open, nothing was taken, and nothing is open
 pub still_unopened : (old new : Option Files) (left_old left_new : Option (List ℕ)) (taken : List ℕ) → new ≡ old → left_old ≡ before taken left_new → IsUnopened old left_old → IsUnopened new left_new

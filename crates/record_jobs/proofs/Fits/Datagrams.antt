@@ -18,7 +18,7 @@ use Rattle.packet_decode.specs.declared.skip.Skip.{Skip}
 use Rattle.packet_decode.specs.Decoding.{Fields}
 use Rattle.conf_types.specs.declared.config.FragConfig.{FragConfig}
 use Rattle.overlap_core.specs.declared.segment.Bounds.{Bounds}
-use Rattle.overlap_core.specs.Overlap.{bounds_of, byte_at, chosen_byte, chosen_segment, covers, standing, stronger, wins}
+use Rattle.overlap_core.specs.Overlap.{bounds_of, byte_at, chosen_byte, chosen_segment, covers, winner, stronger, wins}
 use Rattle.overlap_core.specs.Segments.{Segment}
 use Rattle.frag3_core.specs.declared.answer.Datagram.{Datagram}
 use Rattle.frag3_core.specs.declared.answer.Ignored.{Ignored}
@@ -26,7 +26,7 @@ use Rattle.frag3_core.specs.declared.answer.Taken.TheVariants as answer
 use Rattle.frag3_core.specs.declared.key.DatagramKey.{DatagramKey}
 use Rattle.frag3_core.specs.Trackers.{Frag3State, Fragment, TrackerState, Trackers, after, answer_of, begun, bytes_at, datagram_of, found, held_count, ignored, in_time, is_timed_out, key_of, others, own, same_key, state_after, taken, tracker_of, trackers_after, whole_head, with_own, with_room, without}
 use Rattle.record_jobs.specs.declared.item.Item.{Item}
-use Rattle.record_jobs.specs.Packets.{completed_datagram, datagram_from, datagram_in, datagram_item, datagram_of_fragment, datagram_said, frag3_behind, fragment_fields, fragment_in, fragment_item, fragment_of, fragments, is_fragment, item_of, packet_fields, packet_from, packet_in, said_by}
+use Rattle.record_jobs.specs.Packets.{completed_datagram, datagram_from, datagram_in, datagram_item, datagram_of_fragment, datagram_said, frag3_after, fragment_fields, fragment_in, fragment_item, fragment_of, fragments, is_fragment, item_of, packet_fields, packet_from, packet_in, said_by}
 use Rattle.record_jobs.specs.Way.{LinkedRecord, Way}
 use Rattle.flow_lanes.specs.Fits.{FitsHead, FitsIp}
 use Rattle.record_jobs.specs.Fitting.{AreBytes, HoldsBytes}
@@ -52,14 +52,14 @@ later_fits preference first [] this those = this
 later_fits preference first (next ∷ later) this those =
     later_fits preference (stronger preference first next) later (stronger_fits preference first next this (All-head FitsSegment next later those)) (All-tail FitsSegment next later those)
 
-standing_fits : (preference : Preference) (segments : List Segment) → All FitsSegment segments → IfSome (standing preference segments) FitsSegment
-standing_fits preference [] all = tt
-standing_fits preference (first ∷ later) all = later_fits preference first later (All-head FitsSegment first later all) (All-tail FitsSegment first later all)
+winner_fits : (preference : Preference) (segments : List Segment) → All FitsSegment segments → IfSome (winner preference segments) FitsSegment
+winner_fits preference [] all = tt
+winner_fits preference (first ∷ later) all = later_fits preference first later (All-head FitsSegment first later all) (All-tail FitsSegment first later all)
 
 kept_fits : (preference : Preference) (segments : List Segment) (place : ℕ) → All FitsSegment segments → IfSome (chosen_byte preference segments place) IsByte
 unfolding chosen_byte chosen_segment
 kept_fits preference segments place all =
-    by_segment (standing preference (filter_covering segments)) (standing_fits preference (filter_covering segments) (All-filter (λ segment. covers segment place) FitsSegment segments all))
+    by_segment (winner preference (filter_covering segments)) (winner_fits preference (filter_covering segments) (All-filter (λ segment. covers segment place) FitsSegment segments all))
   where
     filter_covering : List Segment → List Segment
     filter_covering list = filter (λ segment. covers segment place) list
@@ -200,8 +200,8 @@ fragments_fit way config records all = mapped_fit HoldsBytes FitsPart (fragment_
 abbrev FitsWaiting : Option Frag3State → Type 0
 FitsWaiting waiting = IfSome waiting (λ (frag3 : Frag3State). FitTrackers frag3.trackers)
 
-waiting_fits : (way : Way) (records : List LinkedRecord) → All HoldsBytes records → FitsWaiting (frag3_behind way records)
-unfolding frag3_behind
+waiting_fits : (way : Way) (records : List LinkedRecord) → All HoldsBytes records → FitsWaiting (frag3_after way records)
+unfolding frag3_after
 waiting_fits way records all = by_config way.frag
   where
     by_config : (config : Option FragConfig) → FitsWaiting (option_map (λ (c : FragConfig). state_after c.max_frags (fragments way c records)) config)
@@ -243,9 +243,9 @@ brought_datagram : (way : Way) (before : List LinkedRecord) (r : LinkedRecord) �
 unfolding datagram_in
 brought_datagram way before r earlier fits = by_fields (fragment_fields (said_by way r)) (fragment_fits (said_by way r) (said_fits way r fits))
   where
-    by_fields : (fields : Option Fields) → IfSome fields FitsFields → IfSome (option_and_then (datagram_of_fragment way (frag3_behind way before) r.captured.moment) fields) FitsDatagram
+    by_fields : (fields : Option Fields) → IfSome fields FitsFields → IfSome (option_and_then (datagram_of_fragment way (frag3_after way before) r.captured.moment) fields) FitsDatagram
     by_fields None fit = tt
-    by_fields (Some fields) fit = completed_fits way (frag3_behind way before) r.captured.moment fields (waiting_fits way before earlier) fit
+    by_fields (Some fields) fit = completed_fits way (frag3_after way before) r.captured.moment fields (waiting_fits way before earlier) fit
 
 -- ---- what is inspected
 

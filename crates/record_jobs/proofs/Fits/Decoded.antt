@@ -21,8 +21,8 @@ use Rattle.packet_decode.specs.Checksum.{is_all_ones}
 use Rattle.packet_decode.specs.Decoding.{Fields, data_bounds, datagram_at, datagram_decoded, decoded, icmp_at, ip_head_at, is_fragment, is_message_right, is_segment_right, link_start, tcp_at, tcp_head_at, transport_at, udp_at}
 use Rattle.packet_decode.specs.Versions.{icmp_protocol, version_of}
 use Rattle.ipv6_decode.specs.declared.walk.Walk.{Walk}
-use Rattle.ipv6_decode.specs.Decoding6.{datagram_decoded6, decoded6, packet_at, packet_behind, upper_at, walk_start}
-use Rattle.ipv6_decode.specs.Headers.{be128, behind_fragment_header, behind_header, behind_length_field, fragment_head, head_at, is_at_header, most_headers, packet_stop, walk_end}
+use Rattle.ipv6_decode.specs.Decoding6.{datagram_decoded6, decoded6, packet_at, packet_after, upper_at, walk_start}
+use Rattle.ipv6_decode.specs.Headers.{be128, after_fragment_header, after_header, after_length_field, fragment_head, head_at, is_at_header, most_headers, packet_stop, walk_end}
 use Rattle.ipv6_decode.specs.Versions.{are_six, rebuilt_decoded, record_decoded, unless_other}
 use Rattle.flow_lanes.specs.Fits.{FitsBody, FitsIp}
 use Rattle.record_jobs.specs.Fitting.{AreBytes}
@@ -145,37 +145,37 @@ four link bytes checks all =
 abbrev FitsWalk : Walk → Type 0
 FitsWalk walk = FitsIp walk.head
 
-length_field_fits : (walk : Walk) (bytes : List ℕ) → FitsWalk walk → AreBytes bytes → IfOk (behind_length_field walk bytes) FitsWalk
-unfolding behind_length_field
+length_field_fits : (walk : Walk) (bytes : List ℕ) → FitsWalk walk → AreBytes bytes → IfOk (after_length_field walk bytes) FitsWalk
+unfolding after_length_field
 length_field_fits walk bytes fits all =
     let end = walk.place + 8 + 8 * byte_at bytes (walk.place + 1) in
     choose FitsWalk (nat_lt (length bytes) (walk.place + 2)) (Err skip.Malformed) _ tt
     (choose FitsWalk (nat_lt (length bytes) end) (Err skip.Malformed) (Ok (record { head = record walk.head { protocol = byte_at bytes walk.place }; place = end; is_part = walk.is_part })) tt
     (record { version = fits.version; src = fits.src; dst = fits.dst; protocol = byte_fits bytes walk.place all }))
 
-fragment_header_fits : (walk : Walk) (bytes : List ℕ) → FitsWalk walk → AreBytes bytes → IfOk (behind_fragment_header walk bytes) FitsWalk
-unfolding behind_fragment_header fragment_head
+fragment_header_fits : (walk : Walk) (bytes : List ℕ) → FitsWalk walk → AreBytes bytes → IfOk (after_fragment_header walk bytes) FitsWalk
+unfolding after_fragment_header fragment_head
 fragment_header_fits walk bytes fits all =
     let head = fragment_head walk.head bytes walk.place in
     choose FitsWalk (nat_lt (length bytes) (walk.place + 8)) (Err skip.Malformed) (Ok (record { head = head; place = walk.place + 8; is_part = is_fragment head })) tt
     (record { version = fits.version; src = fits.src; dst = fits.dst; protocol = byte_fits bytes walk.place all })
 
-header_fits : (walk : Walk) (bytes : List ℕ) → FitsWalk walk → AreBytes bytes → IfOk (behind_header walk bytes) FitsWalk
-unfolding behind_header
+header_fits : (walk : Walk) (bytes : List ℕ) → FitsWalk walk → AreBytes bytes → IfOk (after_header walk bytes) FitsWalk
+unfolding after_header
 header_fits walk bytes fits all =
-    choose FitsWalk (walk.head.protocol == 44) (behind_fragment_header walk bytes) (behind_length_field walk bytes)
+    choose FitsWalk (walk.head.protocol == 44) (after_fragment_header walk bytes) (after_length_field walk bytes)
     (fragment_header_fits walk bytes fits all) (length_field_fits walk bytes fits all)
 
 walk_fits : (left : ℕ) (walk : Walk) (bytes : List ℕ) → FitsWalk walk → AreBytes bytes → IfOk (walk_end left walk bytes) FitsWalk
 unfolding walk_end
 walk_fits zero walk bytes fits all = choose FitsWalk (is_at_header walk) (Err skip.Malformed) (Ok walk) tt fits
 walk_fits (suc left) walk bytes fits all =
-    choose FitsWalk (is_at_header walk) (behind_header walk bytes >>= (λ next. walk_end left next bytes)) (Ok walk)
-    (bind-with FitsWalk FitsWalk (behind_header walk bytes) (λ next. walk_end left next bytes) (header_fits walk bytes fits all) (λ next fit. walk_fits left next bytes fit all)) fits
+    choose FitsWalk (is_at_header walk) (after_header walk bytes >>= (λ next. walk_end left next bytes)) (Ok walk)
+    (bind-with FitsWalk FitsWalk (after_header walk bytes) (λ next. walk_end left next bytes) (header_fits walk bytes fits all) (λ next fit. walk_fits left next bytes fit all)) fits
 
-behind_fits : (walk : Walk) (packet : List ℕ) (checks : Checks) → FitsWalk walk → AreBytes packet → IfOk (packet_behind walk packet checks) FitsFields
-unfolding packet_behind
-behind_fits walk packet checks fits all =
+packet_after_fits : (walk : Walk) (packet : List ℕ) (checks : Checks) → FitsWalk walk → AreBytes packet → IfOk (packet_after walk packet checks) FitsFields
+unfolding packet_after
+packet_after_fits walk packet checks fits all =
     choose FitsFields walk.is_part (Ok (record { ip = walk.head; body = body.Fragment; payload = slice packet walk.place (length packet) })) (upper_at walk packet checks)
     (carrying walk.head body.Fragment (slice packet walk.place (length packet)) fits (slice_fits packet walk.place (length packet) all) tt)
     (transport_fits walk.head packet walk.place (length packet) checks fits all)
@@ -187,8 +187,8 @@ six_head packet start all = record { version = refl; src = sixteen_fit packet (s
 six_at : (packet : List ℕ) (start : ℕ) (checks : Checks) → AreBytes packet → IfOk (packet_at packet start checks) FitsFields
 unfolding packet_at walk_start
 six_at packet start checks all =
-    bind-with FitsWalk FitsFields (walk_end most_headers (walk_start packet start) packet) (λ walk. packet_behind walk packet checks)
-    (walk_fits most_headers (walk_start packet start) packet (six_head packet start all) all) (λ walk fits. behind_fits walk packet checks fits all)
+    bind-with FitsWalk FitsFields (walk_end most_headers (walk_start packet start) packet) (λ walk. packet_after walk packet checks)
+    (walk_fits most_headers (walk_start packet start) packet (six_head packet start all) all) (λ walk fits. packet_after_fits walk packet checks fits all)
 
 six : (link : Link) (bytes : List ℕ) (checks : Checks) → AreBytes bytes → IfOk (decoded6 link bytes checks) FitsFields
 unfolding decoded6

@@ -9,7 +9,7 @@ use Rattle.packet_decode.specs.Decoding.{Fields}
 use Rattle.frag3_core.specs.declared.answer.Datagram.{Datagram}
 use Rattle.frag3_core.specs.Trackers.{Frag3State}
 use Rattle.record_jobs.specs.declared.content.RecordContent.{RecordContent}
-use Rattle.record_jobs.specs.Packets.{datagram_in, datagram_item, datagram_of_fragment, datagram_skip, fragment_fields, fragment_item, frag3_behind, is_fragment, item_of, packet_in, said_by, skip_in}
+use Rattle.record_jobs.specs.Packets.{datagram_in, datagram_item, datagram_of_fragment, datagram_skip, fragment_fields, fragment_item, frag3_after, is_fragment, item_of, packet_in, said_by, skip_in}
 use Rattle.record_jobs.specs.Steps.{content_from, content_key, fragment_content, packet_content, record_content}
 use Rattle.record_jobs.specs.Touches.{item_key, key_in}
 use Rattle.record_jobs.specs.Way.{LinkedRecord, Way}
@@ -45,15 +45,15 @@ pub ruleset contents = (content_from-fragment, content_from-packet, content_from
 
 -- ---- after the records before
 
-pub content-packet : (way : Way) (before : List LinkedRecord) (r : LinkedRecord) → (record_content way (frag3_behind way before) r).packet ≡ packet_in way before r
+pub content-packet : (way : Way) (before : List LinkedRecord) (r : LinkedRecord) → (record_content way (frag3_after way before) r).packet ≡ packet_in way before r
 unfolding record_content content_from packet_in datagram_in
 content-packet way before r = refl
 
-pub content-skip : (way : Way) (before : List LinkedRecord) (r : LinkedRecord) → (record_content way (frag3_behind way before) r).skip ≡ skip_in way before r
+pub content-skip : (way : Way) (before : List LinkedRecord) (r : LinkedRecord) → (record_content way (frag3_after way before) r).skip ≡ skip_in way before r
 unfolding record_content content_from skip_in datagram_in
 content-skip way before r = refl
 
-pub content-fragment : (way : Way) (before : List LinkedRecord) (r : LinkedRecord) → (record_content way (frag3_behind way before) r).fragment ≡ fragment_item way r
+pub content-fragment : (way : Way) (before : List LinkedRecord) (r : LinkedRecord) → (record_content way (frag3_after way before) r).fragment ≡ fragment_item way r
 unfolding record_content content_from fragment_item
 content-fragment way before r = refl
 
@@ -61,14 +61,14 @@ is_some-map : {A B : Type 0} (f : A → B) (o : Option A) → is_some (option_ma
 is_some-map f None = refl
 is_some-map f (Some a) = refl
 
-pub content-is_fragment : (way : Way) (before : List LinkedRecord) (r : LinkedRecord) → is_some (record_content way (frag3_behind way before) r).fragment ≡ is_some (fragment_fields (said_by way r))
+pub content-is_fragment : (way : Way) (before : List LinkedRecord) (r : LinkedRecord) → is_some (record_content way (frag3_after way before) r).fragment ≡ is_some (fragment_fields (said_by way r))
 unfolding record_content content_from
 content-is_fragment way before r = is_some-map (item_of kind.Fragment r.captured.moment) (fragment_fields (said_by way r))
 
-pub content-rebuilt : (way : Way) (before : List LinkedRecord) (r : LinkedRecord) → (record_content way (frag3_behind way before) r).rebuilt ≡ is_some (datagram_in way before r)
+pub content-rebuilt : (way : Way) (before : List LinkedRecord) (r : LinkedRecord) → (record_content way (frag3_after way before) r).rebuilt ≡ is_some (datagram_in way before r)
 unfolding record_content content_from datagram_in
 content-rebuilt way before r = refl
 
-pub content-key : (way : Way) (before : List LinkedRecord) (r : LinkedRecord) → content_key way (record_content way (frag3_behind way before) r) ≡ key_in way before r
+pub content-key : (way : Way) (before : List LinkedRecord) (r : LinkedRecord) → content_key way (record_content way (frag3_after way before) r) ≡ key_in way before r
 unfolding key_in
 content-key way before r = ap (option_and_then (item_key way)) (content-packet way before r)

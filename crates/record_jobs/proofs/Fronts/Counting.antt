@@ -12,7 +12,7 @@ use Rattle.stream5_sessions.specs.declared.key.Key.{Key}
 use Rattle.stream5_sessions.specs.Liveness.{MaxFlows, begun, is_live, touch_found}
 use Rattle.record_jobs.specs.declared.counts.RecordCounts.{RecordCounts}
 use Rattle.record_jobs.specs.declared.content.RecordContent.{RecordContent}
-use Rattle.record_jobs.specs.Fronts.{FrontState, StandsFor}
+use Rattle.record_jobs.specs.Fronts.{FrontState, IsFrontAfter}
 use Rattle.record_jobs.specs.Counts.{counts, datagrams, fragments_read, is_checksum, is_malformed, is_other, is_short, skips}
 use Rattle.record_jobs.specs.Packets.{datagram_in, fragment_fields, said_by, skip_in}
 use Rattle.record_jobs.specs.Steps.{counts_after, is_fresh, one_if, with_skip}
@@ -152,6 +152,6 @@ counts-push way before r content touch skip_is fragment_is rebuilt_is touch_is =
     ∙ sym (counts-grown way before r)
 
 -- the records are counted
-pub records-counted : (way : Way) (front : FrontState) (before : List LinkedRecord) → StandsFor way front before → front.counts.records ≡ length before
+pub records-counted : (way : Way) (front : FrontState) (before : List LinkedRecord) → IsFrontAfter way front before → front.counts.records ≡ length before
 unfolding counts
-records-counted way front before stands = ap (λ (c : RecordCounts). c.records) stands.counts
+records-counted way front before holds = ap (λ (c : RecordCounts). c.records) holds.counts

@@ -12,17 +12,17 @@ use Rattle.flow_lanes.specs.declared.job.Job.{Job}
 use Rattle.flow_lanes.specs.declared.job.Work.{Work}
 use Rattle.flow_lanes.specs.declared.job.Work.TheVariants as work
 use Rattle.record_jobs.specs.Counts.{counts}
-use Rattle.record_jobs.specs.Fronts.{FrontState, StandsFor}
+use Rattle.record_jobs.specs.Fronts.{FrontState, IsFrontAfter}
 use Rattle.record_jobs.specs.Jobs.{end_of, finishes, job_count, numbered}
-use Rattle.record_jobs.specs.Packets.{frag3_behind}
+use Rattle.record_jobs.specs.Packets.{frag3_after}
 use Rattle.record_jobs.specs.Ready.{HasShortData}
 use Rattle.record_jobs.specs.Touches.{most_flows, touches}
 use Rattle.record_jobs.specs.Way.{LinkedRecord, Way}
 use Rattle.record_jobs.proofs.Growth.{numbered-append}
 
 -- a front that has taken no record
-pub stands_none : (way : Way) (frag3 : Option Frag3State) (flows : FlowsState) → frag3 ≡ option_map (λ (config : FragConfig). record { max_frags = config.max_frags; trackers = [] }) way.frag → HasSeen flows [] → flows.max ≡ most_flows way.stream
-    → StandsFor way
+pub holds_none : (way : Way) (frag3 : Option Frag3State) (flows : FlowsState) → frag3 ≡ option_map (λ (config : FragConfig). record { max_frags = config.max_frags; trackers = [] }) way.frag → HasSeen flows [] → flows.max ≡ most_flows way.stream
+    → IsFrontAfter way
     (record {
       frag3 = frag3;
       flows = flows;
@@ -31,8 +31,8 @@ pub stands_none : (way : Way) (frag3 : Option Frag3State) (flows : FlowsState) �
       next = 0;
       counts = record { records = 0; short = 0; other = 0; checksum = 0; malformed = 0; fragments = 0; rebuilt = 0; flows = 0 };
     }) []
-unfolding frag3_behind state_after touches job_count counts
-stands_none way frag3 flows waiting seen most = record {
+unfolding frag3_after state_after touches job_count counts
+holds_none way frag3 flows waiting seen most = record {
   frag3 = waiting;
   flows = seen;
   most = most;
@@ -44,15 +44,15 @@ stands_none way frag3 flows waiting seen most = record {
 }
 
 -- the ends of these flows are those after the records
-pub finishes-are : (way : Way) (front : FrontState) (before : List LinkedRecord) (jobs_old jobs_new : List Job) (flows : List ℕ) → StandsFor way front before → flows ≡ live_flows front.flows.max (touches way before)
+pub finishes-are : (way : Way) (front : FrontState) (before : List LinkedRecord) (jobs_old jobs_new : List Job) (flows : List ℕ) → IsFrontAfter way front before → flows ≡ live_flows front.flows.max (touches way before)
     → jobs_new ≡ jobs_old ++ numbered front.next front.last (map (λ flow. work.Finish flow) flows) → jobs_new ≡ jobs_old ++ finishes way before
 unfolding finishes
-finishes-are way front before jobs_old jobs_new flows stands live added =
+finishes-are way front before jobs_old jobs_new flows holds live added =
     added
-    ∙ ap (λ (n : ℕ). jobs_old ++ numbered n front.last (map (λ flow. work.Finish flow) flows)) stands.next
-    ∙ ap (λ (m : Moment). jobs_old ++ numbered (job_count way before) m (map (λ flow. work.Finish flow) flows)) stands.last
+    ∙ ap (λ (n : ℕ). jobs_old ++ numbered n front.last (map (λ flow. work.Finish flow) flows)) holds.next
+    ∙ ap (λ (m : Moment). jobs_old ++ numbered (job_count way before) m (map (λ flow. work.Finish flow) flows)) holds.last
     ∙ ap (λ (fs : List ℕ). jobs_old ++ numbered (job_count way before) (end_of before) (map (λ flow. work.Finish flow) fs)) live
-    ∙ ap (λ (max : MaxFlows). jobs_old ++ numbered (job_count way before) (end_of before) (map (λ flow. work.Finish flow) (live_flows max (touches way before)))) stands.most
+    ∙ ap (λ (max : MaxFlows). jobs_old ++ numbered (job_count way before) (end_of before) (map (λ flow. work.Finish flow) (live_flows max (touches way before)))) holds.most
 
 counted : (flows : List ℕ) → length (map (λ flow. work.Finish flow) flows) ≡ length flows
 counted [] = refl

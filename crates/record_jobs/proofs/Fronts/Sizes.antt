@@ -18,7 +18,7 @@ use Rattle.frag3_core.specs.declared.answer.Ignored.TheVariants as ignored_for
 use Rattle.frag3_core.specs.declared.answer.Taken.TheVariants as answer
 use Rattle.frag3_core.specs.declared.key.DatagramKey.{DatagramKey}
 use Rattle.frag3_core.specs.Trackers.{Frag3State, Fragment, TrackerState, Trackers, after, answer_of, begun, bytes_at, datagram_of, end_of, found, ignored, in_time, key_of, others, own, same_key, state_after, taken, tracker_of, trackers_after, with_own, with_room, without, held_count, is_timed_out}
-use Rattle.record_jobs.specs.Packets.{datagram_from, datagram_of_fragment, fragment_of, fragments, frag3_behind, fragment_fields, said_by, completed_datagram}
+use Rattle.record_jobs.specs.Packets.{datagram_from, datagram_of_fragment, fragment_of, fragments, frag3_after, fragment_fields, said_by, completed_datagram}
 use Rattle.record_jobs.specs.Steps.{IsShortDatagram}
 use Rattle.record_jobs.specs.Way.{LinkedRecord, Way}
 
@@ -135,8 +135,8 @@ short_taken frag3 f short = go (ignored f.ip f.part f.rules) refl
     go None is = made (datagram_of (own frag3 f)) (short_datagram (own frag3 f) (short_own frag3 f short (within f.ip f.part f.rules is)))
     go (Some reason) is = tt
 
-short_fragment : (way : Way) (before : List LinkedRecord) (moment : Moment) (fields : Fields) → IfSome (datagram_of_fragment way (frag3_behind way before) moment fields) IsShortDatagram
-unfolding datagram_of_fragment frag3_behind
+short_fragment : (way : Way) (before : List LinkedRecord) (moment : Moment) (fields : Fields) → IfSome (datagram_of_fragment way (frag3_after way before) moment fields) IsShortDatagram
+unfolding datagram_of_fragment frag3_after
 short_fragment way before moment fields = go way.frag
   where
     go : (frag : Option FragConfig) → IfSome (option_and_then (λ (config : FragConfig). option_and_then (λ (frag3 : Frag3State). completed_datagram (taken frag3 (fragment_of way config moment fields)))
@@ -145,9 +145,9 @@ short_fragment way before moment fields = go way.frag
     go (Some config) = short_taken (state_after config.max_frags (fragments way config before)) (fragment_of way config moment fields) (short_state config.max_frags (fragments way config before))
 
 -- the datagram that a record completes is short
-pub datagram-short : (way : Way) (before : List LinkedRecord) (r : LinkedRecord) → IfSome (datagram_from way (frag3_behind way before) r.captured.moment (said_by way r)) IsShortDatagram
+pub datagram-short : (way : Way) (before : List LinkedRecord) (r : LinkedRecord) → IfSome (datagram_from way (frag3_after way before) r.captured.moment (said_by way r)) IsShortDatagram
 datagram-short way before r = go (fragment_fields (said_by way r))
   where
-    go : (o : Option Fields) → IfSome (option_and_then (datagram_of_fragment way (frag3_behind way before) r.captured.moment) o) IsShortDatagram
+    go : (o : Option Fields) → IfSome (option_and_then (datagram_of_fragment way (frag3_after way before) r.captured.moment) o) IsShortDatagram
     go None = tt
     go (Some fields) = short_fragment way before r.captured.moment fields

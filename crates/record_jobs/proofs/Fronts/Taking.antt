@@ -19,16 +19,16 @@ use Rattle.record_jobs.specs.declared.content.RecordContent.{RecordContent}
 use Rattle.record_jobs.specs.declared.item.Item.{Item}
 use Rattle.record_jobs.specs.declared.time.Time.{Time}
 use Rattle.record_jobs.specs.Counts.{counts}
-use Rattle.record_jobs.specs.Fronts.{FrontState, HasTaken, StandsFor}
+use Rattle.record_jobs.specs.Fronts.{FrontState, HasTaken, IsFrontAfter}
 use Rattle.record_jobs.specs.Jobs.{alone, begin_of, evicted_by, flow_packet, job_count, jobs, numbered, packet_work, time_by, time_of, works, works_by}
-use Rattle.record_jobs.specs.Packets.{datagram_from, fragment_item, frag3_behind, packet_in, said_by}
+use Rattle.record_jobs.specs.Packets.{datagram_from, fragment_item, frag3_after, packet_in, said_by}
 use Rattle.record_jobs.specs.Ready.{HasShortData, HasShortWork}
 use Rattle.record_jobs.specs.Steps.{IsShortDatagram, IsShortItem, Steps, content_key, content_works, counts_after, record_content, waiting_after}
 use Rattle.record_jobs.specs.Touches.{key_in, most_flows, touch_in, touches}
 use Rattle.record_jobs.specs.Way.{LinkedRecord, Way}
 use Rattle.record_jobs.proofs.Fronts.Contents.{content-fragment, content-is_fragment, content-key, content-packet, content-rebuilt, content-skip}
 use Rattle.record_jobs.proofs.Fronts.Counting.{counts-push}
-use Rattle.record_jobs.proofs.Growth.{begin_of-push, end_of-push, frag3_behind-push, job_count-push, touches-push, trail-push}
+use Rattle.record_jobs.proofs.Growth.{begin_of-push, end_of-push, frag3_after-push, job_count-push, touches-push, trail-push}
 use Rattle.record_jobs.proofs.Fronts.Sizes.{datagram-short}
 
 -- ---- a record's packets are short
@@ -85,14 +85,14 @@ unfolding jobs
 jobs-are way before r = refl
 
 pub takes : (way : Way) (old : FrontState) (r : LinkedRecord) (new : FrontState) (jobs_old jobs_new : List Job) → Steps way old r new jobs_old jobs_new
-    → (before : List LinkedRecord) → StandsFor way old before → HasTaken way before r new jobs_old jobs_new
-takes way old r new jobs_old jobs_new steps before stands = record { added = added; stands = behind }
+    → (before : List LinkedRecord) → IsFrontAfter way old before → HasTaken way before r new jobs_old jobs_new
+takes way old r new jobs_old jobs_new steps before holds = record { added = added; holds = after }
   where
     content : RecordContent
     content = record_content way old.frag3 r
 
-    content_is : content ≡ record_content way (frag3_behind way before) r
-    content_is = ap (λ (f : Option Frag3State). record_content way f r) stands.frag3
+    content_is : content ≡ record_content way (frag3_after way before) r
+    content_is = ap (λ (f : Option Frag3State). record_content way f r) holds.frag3
 
     packet_is : content.packet ≡ packet_in way before r
     packet_is = ap (λ (c : RecordContent). c.packet) content_is ∙ content-packet way before r
@@ -105,14 +105,14 @@ takes way old r new jobs_old jobs_new steps before stands = record { added = add
 
     touch_is : steps.touch ≡ touch_in way before r
     touch_is =
-        steps.found (touches way before) stands.flows
-        ∙ ap (λ (max : MaxFlows). option_map (touch_found max (touches way before)) (content_key way content)) stands.most
+        steps.found (touches way before) holds.flows
+        ∙ ap (λ (max : MaxFlows). option_map (touch_found max (touches way before)) (content_key way content)) holds.most
         ∙ ap (option_map (touch_found (most_flows way.stream) (touches way before))) key_is
         ∙ touch_in-is way before r
 
     works_are : content_works way old.begin r steps.touch content ≡ works way before r
     works_are =
-        ap (λ (b : Option Moment). works_by way (time_by b r) steps.touch content.fragment content.packet) stands.begin
+        ap (λ (b : Option Moment). works_by way (time_by b r) steps.touch content.fragment content.packet) holds.begin
         ∙ ap (λ (t : Option Touch). works_by way (time_by (begin_of before) r) t content.fragment content.packet) touch_is
         ∙ ap (λ (o : Option Item). works_by way (time_by (begin_of before) r) (touch_in way before r) o content.packet) fragment_is
         ∙ ap (works_by way (time_by (begin_of before) r) (touch_in way before r) (fragment_item way r)) packet_is
@@ -121,7 +121,7 @@ takes way old r new jobs_old jobs_new steps before stands = record { added = add
     added : jobs_new ≡ jobs_old ++ jobs way before r
     added =
         steps.added.added
-        ∙ ap (λ (n : ℕ). jobs_old ++ numbered n r.captured.moment (content_works way old.begin r steps.touch content)) stands.next
+        ∙ ap (λ (n : ℕ). jobs_old ++ numbered n r.captured.moment (content_works way old.begin r steps.touch content)) holds.next
         ∙ ap (λ (ws : List Work). jobs_old ++ numbered (job_count way before) r.captured.moment ws) works_are
         ∙ ap (λ (js : List Job). jobs_old ++ js) (jobs-are way before r)
 
@@ -129,12 +129,12 @@ takes way old r new jobs_old jobs_new steps before stands = record { added = add
     seen =
         subst (λ (ts : List Key). HasSeen new.flows ts)
         (ap (λ (o : Option Key). option_to_list o ++ touches way before) key_is ∙ sym (touches-push way before r))
-        (steps.sees (touches way before) stands.flows)
+        (steps.sees (touches way before) holds.flows)
 
     counted : new.counts ≡ counts way (before ++ r ∷ [])
     counted =
         steps.counts
-        ∙ ap (λ (c : RecordCounts). counts_after c content steps.touch) stands.counts
+        ∙ ap (λ (c : RecordCounts). counts_after c content steps.touch) holds.counts
         ∙ counts-push way before r content steps.touch
         (ap (λ (c : RecordContent). c.skip) content_is ∙ content-skip way before r)
         (ap (λ (c : RecordContent). is_some c.fragment) content_is ∙ content-is_fragment way before r)
@@ -144,22 +144,22 @@ takes way old r new jobs_old jobs_new steps before stands = record { added = add
     packet_short : IfSome (packet_in way before r) IsShortItem
     packet_short =
         subst (λ (o : Option Item). IfSome o IsShortItem) packet_is
-        (steps.short (subst (λ (f : Option Frag3State). IfSome (datagram_from way f r.captured.moment (said_by way r)) IsShortDatagram) (sym stands.frag3) (datagram-short way before r)))
+        (steps.short (subst (λ (f : Option Frag3State). IfSome (datagram_from way f r.captured.moment (said_by way r)) IsShortDatagram) (sym holds.frag3) (datagram-short way before r)))
 
-    behind : StandsFor way new (before ++ r ∷ [])
-    behind = record {
-      frag3 = steps.frag3 ∙ ap (λ (f : Option Frag3State). waiting_after way f r) stands.frag3 ∙ sym (frag3_behind-push way before r);
+    after : IsFrontAfter way new (before ++ r ∷ [])
+    after = record {
+      frag3 = steps.frag3 ∙ ap (λ (f : Option Frag3State). waiting_after way f r) holds.frag3 ∙ sym (frag3_after-push way before r);
       flows = seen;
-      most = steps.most ∙ stands.most;
-      begin = steps.begin ∙ ap (λ (b : Option Moment). Some (time_by b r).first) stands.begin ∙ sym (begin_of-push before r);
+      most = steps.most ∙ holds.most;
+      begin = steps.begin ∙ ap (λ (b : Option Moment). Some (time_by b r).first) holds.begin ∙ sym (begin_of-push before r);
       last = steps.last ∙ sym (end_of-push before r);
       next =
           steps.added.number_is
-          ∙ ap (λ (n : ℕ). n + length (content_works way old.begin r steps.touch content)) stands.next
+          ∙ ap (λ (n : ℕ). n + length (content_works way old.begin r steps.touch content)) holds.next
           ∙ ap (λ (ws : List Work). job_count way before + length ws) works_are
           ∙ sym (job_count-push way before r);
       counts = counted;
       short =
           subst (λ (js : List Job). All HasShortData js) (sym (trail-push (jobs way) before r))
-          (All-append HasShortData (trail (jobs way) before) (jobs way before r) stands.short (short_jobs way before r packet_short));
+          (All-append HasShortData (trail (jobs way) before) (jobs way before r) holds.short (short_jobs way before r packet_short));
     }

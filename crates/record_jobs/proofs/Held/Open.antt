@@ -12,7 +12,7 @@ use Rattle.stream5_sessions.specs.Liveness.{MaxFlows, evicted_flow, flow_number,
 use Rattle.stream5_sessions.proofs.Liveness.Lasting.{flow-stays, own-lives}
 use Rattle.flow_lanes.specs.declared.job.Work.{Work}
 use Rattle.flow_lanes.specs.declared.job.Work.TheVariants as work
-use Rattle.flow_lanes.specs.Open.{is_open, open_behind}
+use Rattle.flow_lanes.specs.Open.{is_open, open_after}
 use Rattle.record_jobs.specs.declared.item.Item.{Item}
 use Rattle.record_jobs.specs.declared.time.Time.{Time}
 use Rattle.record_jobs.specs.Jobs.{alone, flow_packet, job_count, jobs, numbered, packet_work, time_of, works, works_by}
@@ -25,7 +25,7 @@ use Rattle.record_jobs.proofs.Growth.{touches-push, trail-push}
 
 module _ (flow : ℕ) (moment : Moment) where
   abbrev after : Bool → ℕ → List Work → Bool
-  after was number todo = fold (open_behind flow) was (numbered number moment todo)
+  after was number todo = fold (open_after flow) was (numbered number moment todo)
 
   module _ (way : Way) (time : Time) (fragment : Option Item) where
     -- the packet, once the fragment by itself is passed over
@@ -101,10 +101,10 @@ module _ (way : Way) (tcp : 0 < way.stream.max_tcp) (udp : 0 < way.stream.max_ud
   live_step : (before : List LinkedRecord) (r : LinkedRecord) → Live before → Live (before ++ r ∷ [])
   unfolding Live jobs works touch_in
   live_step before r live = λ flow is.
-      let split = ap (is_open flow) (trail-push (jobs way) before r) ∙ fold-append (open_behind flow) false (trail (jobs way) before) (jobs way before r) in
+      let split = ap (is_open flow) (trail-push (jobs way) before r) ∙ fold-append (open_after flow) false (trail (jobs way) before) (jobs way before r) in
       by_key flow (key_in way before r) refl (opened flow (sym split ∙ is))
     where
-      opened : (flow : ℕ) → fold (open_behind flow) (is_open flow (trail (jobs way) before)) (jobs way before r) ≡ true
+      opened : (flow : ℕ) → fold (open_after flow) (is_open flow (trail (jobs way) before)) (jobs way before r) ≡ true
           → after flow r.captured.moment (is_open flow (trail (jobs way) before)) (job_count way before) (works_by way (time_of before r) (touch_in way before r) (fragment_item way r) (packet_in way before r)) ≡ true
       opened flow h = h
 

@@ -32,7 +32,7 @@ use Rattle.flow_lanes.specs.Engines.{Making}
 use Rattle.flow_lanes.specs.Flows.{Detection}
 use Rattle.flow_lanes.specs.Holding.{IsLimited, IsLimitedJob, IsLimitedWork, held_bytes, held_segments, is_seen}
 use Rattle.flow_lanes.specs.Sessions.{is_tcp}
-use Rattle.flow_lanes.specs.Standing.{LanesState}
+use Rattle.flow_lanes.specs.LanesAfter.{LanesState}
 use Rattle.record_jobs.specs.declared.item.Item.{Item}
 use Rattle.record_jobs.specs.declared.time.Time.{Time}
 use Rattle.record_jobs.specs.Holding.{KeepStreams, engines_used, greatest, most_held}
@@ -236,9 +236,9 @@ module _ (way : Way) (d : Detection) (records : List LinkedRecord) (lanes : Lane
   pub few-bytes : sum_by (held_bytes lanes) flows ≤ most_held (λ (e : StreamEngine). e.bytes_limit) way.stream
   few-bytes =
       total (held_bytes lanes) bytes_used
-      (λ flow. bytes-few d lanes (trail (jobs way) records) flow bytes_used segs_used keep.stand (jobs-limited way d.making keep.stream records))
+      (λ flow. bytes-few d lanes (trail (jobs way) records) flow bytes_used segs_used keep.hold (jobs-limited way d.making keep.stream records))
 
   pub few-segments : sum_by (held_segments lanes) flows ≤ most_held (λ (e : StreamEngine). e.segs_limit) way.stream
   few-segments =
       total (held_segments lanes) segs_used
-      (λ flow. segments-few d lanes (trail (jobs way) records) flow bytes_used segs_used keep.stand (jobs-limited way d.making keep.stream records))
+      (λ flow. segments-few d lanes (trail (jobs way) records) flow bytes_used segs_used keep.hold (jobs-limited way d.making keep.stream records))

@@ -10,8 +10,8 @@ use Rattle.std.proofs.lemmas.List.Sums.{fold-append}
 use Rattle.flow_lanes.specs.declared.job.Job.{Job}
 use Rattle.flow_lanes.specs.Flows.{flow_of, same_flow}
 use Rattle.flow_lanes.specs.declared.facts.FlowFacts.{FlowFacts}
-use Rattle.flow_lanes.specs.Sound.{IsSoundFor, facts_after, facts_behind}
-use Rattle.flow_lanes.specs.Standing.{AreNew, LaneState, LanesState, LearnsBatch, facts_kept, kept_of, known_in, known_of, lane_of, new_lane}
+use Rattle.flow_lanes.specs.Sound.{IsSoundFor, facts_after, facts_after_one}
+use Rattle.flow_lanes.specs.LanesAfter.{AreNew, LaneState, LanesState, LearnsBatch, facts_kept, kept_of, known_in, known_of, lane_of, new_lane}
 use Rattle.record_jobs.specs.Ready.{AreNumbered, AreReady, AreSound, HaveLearnt}
 use Rattle.record_jobs.proofs.Ready.Running.{head_is, range_with_len-append, tail_is}
 
@@ -19,7 +19,7 @@ use Rattle.record_jobs.proofs.Ready.Running.{head_is, range_with_len-append, tai
 
 more_known : (other : Job) (earlier jobs : List Job) → facts_after (facts_after None (filter (same_flow other) earlier)) (filter (same_flow other) jobs) ≡ facts_after None (filter (same_flow other) (earlier ++ jobs))
 more_known other earlier jobs =
-    sym (ap (facts_after None) (filter-append (same_flow other) earlier jobs) ∙ fold-append facts_behind None (filter (same_flow other) earlier) (filter (same_flow other) jobs))
+    sym (ap (facts_after None) (filter-append (same_flow other) earlier jobs) ∙ fold-append facts_after_one None (filter (same_flow other) earlier) (filter (same_flow other) jobs))
 
 pub learnt : (old new : LanesState) (earlier jobs : List Job) → HaveLearnt old earlier → LearnsBatch old jobs new → HaveLearnt new (earlier ++ jobs)
 learnt old new earlier jobs has learns = record {
@@ -119,18 +119,18 @@ ready engines lanes earlier batch rest has sound numbered = record {
         ∙ ap (λ (xs : List Job). earlier ++ xs) (append_assoc front (job ∷ later) rest)
         ∙ sym (append_assoc earlier front (job ∷ (later ++ rest)))
 
-    behind : (map (λ (job : Job). job.number) earlier ≡ range_with_len 0 (length earlier)) × (map (λ (job : Job). job.number) (batch ++ rest) ≡ range_with_len (0 + length earlier) (length (batch ++ rest)))
-    behind = part_numbers earlier (batch ++ rest) numbered
+    after : (map (λ (job : Job). job.number) earlier ≡ range_with_len 0 (length earlier)) × (map (λ (job : Job). job.number) (batch ++ rest) ≡ range_with_len (0 + length earlier) (length (batch ++ rest)))
+    after = part_numbers earlier (batch ++ rest) numbered
 
     batch_numbers : map (λ (job : Job). job.number) batch ≡ range_with_len (0 + length earlier) (length batch)
     batch_numbers =
         (same_parts (map (λ (job : Job). job.number) batch) (map (λ (job : Job). job.number) rest) (range_with_len (0 + length earlier) (length batch)) (range_with_len (0 + length earlier + length batch) (length rest))
         (length-map_number batch ∙ sym (length-range_with_len (0 + length earlier) (length batch)))
-        (sym (map-append (λ (job : Job). job.number) batch rest) ∙ behind.1 ∙ ap (range_with_len (0 + length earlier)) (length-append batch rest) ∙ range_with_len-append (0 + length earlier) (length batch) (length rest))).0
+        (sym (map-append (λ (job : Job). job.number) batch rest) ∙ after.1 ∙ ap (range_with_len (0 + length earlier)) (length-append batch rest) ∙ range_with_len-append (0 + length earlier) (length batch) (length rest))).0
 
     highest : (o : Option ℕ) → o ≡ fold (λ most (job : Job). Some job.number) None earlier → IfSome o (λ greatest. All (λ (job : Job). greatest < job.number) batch)
     highest None e = tt
     highest (Some g) e =
         All-from_recursion (λ (job : Job). g < job.number) batch
         (above batch (0 + length earlier) g batch_numbers
-        (subst (λ (o : Option ℕ). IfSome o (λ g. g < 0 + length earlier)) (sym e) (greatest_below earlier 0 None behind.0 tt)))
+        (subst (λ (o : Option ℕ). IfSome o (λ g. g < 0 + length earlier)) (sym e) (greatest_below earlier 0 None after.0 tt)))

@@ -25,8 +25,8 @@ use Rattle.flow_lanes.specs.Sessions.{Packet, is_tcp, receiver, sender, toward}
 use Rattle.flow_lanes.specs.declared.facts.EndWay.{EndWay}
 use Rattle.flow_lanes.specs.declared.facts.FlowEnds.{FlowEnds}
 use Rattle.flow_lanes.specs.declared.facts.FlowFacts.{FlowFacts}
-use Rattle.flow_lanes.specs.Sound.{HasSessions, IsSoundFor, IsSoundPacket, ends_of, facts_after, facts_behind, key_of_packet, way_of}
-use Rattle.flow_lanes.specs.Standing.{is_of_flow}
+use Rattle.flow_lanes.specs.Sound.{HasSessions, IsSoundFor, IsSoundPacket, ends_of, facts_after, facts_after_one, key_of_packet, way_of}
+use Rattle.flow_lanes.specs.LanesAfter.{is_of_flow}
 use Rattle.record_jobs.specs.declared.item.Item.{Item}
 use Rattle.record_jobs.specs.declared.time.Time.{Time}
 use Rattle.record_jobs.specs.Jobs.{alone, flow_packet, numbered}
@@ -163,7 +163,7 @@ known jobs flow = facts_after None (filter (is_of_flow flow) jobs)
 abbrev pub KnowsAll : Way → List Key → ℕ → List Job → Type 0
 KnowsAll way touches packets jobs = (flow : ℕ) → Knows way touches packets flow (known jobs flow)
 
-known-push : (jobs : List Job) (job : Job) (flow : ℕ) → known (jobs ++ job ∷ []) flow ≡ cond (is_of_flow flow job) (facts_behind (known jobs flow) job) (known jobs flow)
+known-push : (jobs : List Job) (job : Job) (flow : ℕ) → known (jobs ++ job ∷ []) flow ≡ cond (is_of_flow flow job) (facts_after_one (known jobs flow) job) (known jobs flow)
 known-push jobs job flow =
     ap (facts_after None) (filter-append (is_of_flow flow) jobs (job ∷ []))
     ∙ go (is_of_flow flow job)
@@ -171,8 +171,8 @@ known-push jobs job flow =
     front : List Job
     front = filter (is_of_flow flow) jobs
 
-    go : (b : Bool) → facts_after None (front ++ cond b (job ∷ []) []) ≡ cond b (facts_behind (facts_after None front) job) (facts_after None front)
-    go true = fold_push facts_behind None front job
+    go : (b : Bool) → facts_after None (front ++ cond b (job ∷ []) []) ≡ cond b (facts_after_one (facts_after None front) job) (facts_after None front)
+    go true = fold_push facts_after_one None front job
     go false = ap (facts_after None) (append-nil front)
 
 -- one touch more, perhaps, and one packet more
@@ -231,7 +231,7 @@ pub packet_job : (way : Way) (touches : List Key) (packets : ℕ) (earlier : Lis
     → KnowsAll way touches packets earlier → item_key way item ≡ Some key → flow ≡ number_at (most_flows way.stream) touches key → packets < 2 ^ 32 → length item.payload ≤ 65535
     → Goes way (key ∷ touches) (packets + 1) earlier (numbered number time.now (flow_packet way time item flow ∷ []))
 unfolding flow_packet toward_address
-packet_job way touches packets earlier number time item key flow knows keyed numbered_so few size = record { sounds = (sound, tt); knows = behind }
+packet_job way touches packets earlier number time item key flow knows keyed numbered_so few size = record { sounds = (sound, tt); knows = after }
   where
     p : Packet
     p = packet_of way time item
@@ -274,9 +274,9 @@ packet_job way touches packets earlier number time item key flow knows keyed num
     own : KnowsFlow way touches_now (packets + 1) flow (record { ends = ends_of p; packets = option_map_or (λ (f : FlowFacts). f.packets + 1) (known earlier flow) 1 })
     own = record { key = key; had = had; ends = ends; few = more (known earlier flow) (knows flow) }
 
-    go : (other : ℕ) (b : Bool) → eqb other flow ≡ b → Knows way touches_now (packets + 1) other (cond b (facts_behind (known earlier other) job) (known earlier other))
-    go other true is = subst (λ (n : ℕ). Knows way touches_now (packets + 1) n (facts_behind (known earlier n) job)) (sym (eqb-true other flow is)) own
+    go : (other : ℕ) (b : Bool) → eqb other flow ≡ b → Knows way touches_now (packets + 1) other (cond b (facts_after_one (known earlier other) job) (known earlier other))
+    go other true is = subst (λ (n : ℕ). Knows way touches_now (packets + 1) n (facts_after_one (known earlier n) job)) (sym (eqb-true other flow is)) own
     go other false is = later_knows way (Some key) touches packets other (known earlier other) (knows other)
 
-    behind : KnowsAll way touches_now (packets + 1) (earlier ++ job ∷ [])
-    behind other = subst (Knows way touches_now (packets + 1) other) (sym (known-push earlier job other)) (go other (eqb other flow) refl)
+    after : KnowsAll way touches_now (packets + 1) (earlier ++ job ∷ [])
+    after other = subst (Knows way touches_now (packets + 1) other) (sym (known-push earlier job other)) (go other (eqb other flow) refl)

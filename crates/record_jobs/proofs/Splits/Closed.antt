@@ -25,7 +25,7 @@ use Rattle.record_jobs.proofs.Growth.{touches-push, trail-push}
 use Rattle.record_jobs.proofs.Splits.Flows.{all-live, filter-same, first-filtered, first-numbers, first-touched, first_keys}
 use Rattle.record_jobs.proofs.Splits.Heads.{all-tell, finish-items, finish_job, key-tells, record-tells}
 use Rattle.record_jobs.proofs.Splits.Items.{same-items, same-packet}
-use Rattle.record_jobs.proofs.Splits.Jobs.{HasRoomFor, along_all, behind, behind-nameless, flow-of_key, items-plain, nameless, of_key, of_number, room-at}
+use Rattle.record_jobs.proofs.Splits.Jobs.{HasRoomFor, along_all, after, after-nameless, flow-of_key, items-plain, nameless, of_key, of_number, room-at}
 use Rattle.record_jobs.proofs.Splits.Parts.{filter-kept, filter-left, same-key_packets}
 use Rattle.record_jobs.proofs.Splits.Room.{part-room}
 
@@ -33,7 +33,7 @@ use Rattle.record_jobs.proofs.Splits.Room.{part-room}
 module _ (d : Detection) (earlier : List Job) (moment : Moment) where
   -- the items at the end of the flow of this number
   abbrev ended_by : ℕ → List Hits
-  ended_by flow = behind d (map nameless (filter (of_number d flow) earlier)) (finish_job moment)
+  ended_by flow = after d (map nameless (filter (of_number d flow) earlier)) (finish_job moment)
 
   differs : (one other : ℕ) → other < one → (one == other) ≡ false
   differs one other less = by_test (one == other) refl
@@ -57,18 +57,18 @@ module _ (d : Detection) (earlier : List Job) (moment : Moment) where
       ∙ ap (λ (js : List Job). js ++ filter (of_number d flow) (job ∷ [])) (passed flow (omega (arith, later)))
       ∙ ap (λ (b : Bool). cond b (job ∷ []) []) (differs flow first (omega (arith, later))) in
       let own : items_of_job d (earlier ++ more) job ≡ ended_by first =
-      ap (λ (js : List Job). behind d js job)
+      ap (λ (js : List Job). after d js job)
       (filter-append (of_number d first) earlier more
       ∙ ap (λ (js : List Job). filter (of_number d first) earlier ++ js) (passed first (omega arith))
       ∙ append-nil (filter (of_number d first) earlier))
-      ∙ sym (behind-nameless d (filter (of_number d first) earlier) job) in
+      ∙ sym (after-nameless d (filter (of_number d first) earlier) job) in
       ap (λ (front : List Hits). front ++ trail_from (items_of_job d) ((earlier ++ more) ++ job ∷ []) (ends_from (number + 1) rest)) own
       ∙ ap (λ (js : List Job). ended_by first ++ trail_from (items_of_job d) js (ends_from (number + 1) rest)) (append_assoc earlier more (job ∷ []))
       ∙ ap (λ (back : List Hits). ended_by first ++ back) (ends-plain count (first + 1) (number + 1) (more ++ job ∷ []) passed_too)
 
 -- the items at the end of the flow of a key
 abbrev ends_of : Detection → Way → List LinkedRecord → Key → List Hits
-ends_of d way records key = behind d (trail (of_key way key) records) (finish_job (end_of records))
+ends_of d way records key = after d (trail (of_key way key) records) (finish_job (end_of records))
 
 -- ---- lists
 
@@ -109,7 +109,7 @@ module _ (d : Detection) (way : Way) (records : List LinkedRecord) (room : HasRo
       let number : Key → ℕ = flow_number max (touches way records) in
       let each : All (λ (key : Key). ended_by d before moment (number key) ≡ ends_of d way records key) keys =
       All-weaker (λ (key : Key). is_touched (touches way records) key ≡ true) (λ (key : Key). ended_by d before moment (number key) ≡ ends_of d way records key)
-      (λ key touched. ap (λ (js : List Job). behind d js (finish_job moment)) (flow-of_key way records room key touched records [] (append-nil records)))
+      (λ key touched. ap (λ (js : List Job). after d js (finish_job moment)) (flow-of_key way records room key touched records [] (append-nil records)))
       keys (first-touched max (touches way records)) in
       ap (λ (flows : List ℕ). trail_from (items_of_job d) before (ends_from d before moment (job_count way records) flows)) (all-live max (touches way records) room)
       ∙ ap (λ (js : List Job). trail_from (items_of_job d) js (ends_from d before moment (job_count way records) (range_with_len 0 count))) (sym (append-nil before))
@@ -185,9 +185,9 @@ module _ (d : Detection) (way : Way) (pairs : Pairs) (part : Part) (records : Li
   same-ends key is =
       let owns : (earlier : List LinkedRecord) (s : LinkedRecord) (item : Item) → packet_in way earlier s ≡ Some item → item_key way item ≡ Some key → part s ≡ true =
       λ earlier s item found tracked. sym (key-tells way pairs part whole.of_pairs earlier s item key found tracked) ∙ is in
-      ap (λ (js : List Job). behind d js (finish_job (end_of (filter part records))))
+      ap (λ (js : List Job). after d js (finish_job (end_of (filter part records))))
       (same-key_packets way part records whole.split.by_pair whole.split.start (same-packet way part records whole.split) key owns records [] (append-nil records))
-      ∙ ap (λ (moment : Moment). behind d (trail (of_key way key) records) (finish_job moment)) whole.end
+      ∙ ap (λ (moment : Moment). after d (trail (of_key way key) records) (finish_job moment)) whole.end
 
   own-last : last_items d way (filter part records) ≡ between (last_items d way records)
   own-last =

@@ -17,7 +17,7 @@ use Rattle.packet_decode.specs.Versions.{icmp_protocol, version_of}
 use Rattle.ipv6_decode.specs.declared.walk.Walk.{Walk}
 use Rattle.ipv6_decode.specs.Addresses.{HaveSameEnds}
 use Rattle.ipv6_decode.specs.Decoding6.{datagram_decoded6, upper_at}
-use Rattle.ipv6_decode.specs.Headers.{behind_fragment_header, behind_header, behind_length_field, fragment_head, is_at_header, most_headers, walk_end}
+use Rattle.ipv6_decode.specs.Headers.{after_fragment_header, after_header, after_length_field, fragment_head, is_at_header, most_headers, walk_end}
 use Rattle.ipv6_decode.specs.Versions.{are_six, rebuilt_decoded}
 use Rattle.frag3_core.specs.declared.answer.Datagram.{Datagram}
 use Rattle.record_jobs.specs.declared.item.Item.{Item}
@@ -73,11 +73,11 @@ module _ (ip : IpHead) where
   abbrev HasEnds : Walk → Type 0
   HasEnds walk = HaveSameEnds walk.head ip
 
-  header_ends : (walk : Walk) (bytes : List ℕ) → HasEnds walk → IfOk (behind_header walk bytes) HasEnds
-  unfolding behind_header behind_length_field behind_fragment_header fragment_head
+  header_ends : (walk : Walk) (bytes : List ℕ) → HasEnds walk → IfOk (after_header walk bytes) HasEnds
+  unfolding after_header after_length_field after_fragment_header fragment_head
   header_ends walk bytes has =
       let end = walk.place + 8 + 8 * byte_at bytes (walk.place + 1) in
-      choose HasEnds (walk.head.protocol == 44) (behind_fragment_header walk bytes) (behind_length_field walk bytes)
+      choose HasEnds (walk.head.protocol == 44) (after_fragment_header walk bytes) (after_length_field walk bytes)
       (choose HasEnds (nat_lt (length bytes) (walk.place + 8)) (Err skip.Malformed) _ tt has)
       (choose HasEnds (nat_lt (length bytes) (walk.place + 2)) (Err skip.Malformed) _ tt
       (choose HasEnds (nat_lt (length bytes) end) (Err skip.Malformed) _ tt has))
@@ -86,8 +86,8 @@ module _ (ip : IpHead) where
   unfolding walk_end
   walk_ends zero walk bytes has = choose HasEnds (is_at_header walk) (Err skip.Malformed) (Ok walk) tt has
   walk_ends (suc left) walk bytes has =
-      choose HasEnds (is_at_header walk) (behind_header walk bytes >>= (λ next. walk_end left next bytes)) (Ok walk)
-      (bind-with HasEnds HasEnds (behind_header walk bytes) (λ next. walk_end left next bytes) (header_ends walk bytes has) (λ next more. walk_ends left next bytes more)) has
+      choose HasEnds (is_at_header walk) (after_header walk bytes >>= (λ next. walk_end left next bytes)) (Ok walk)
+      (bind-with HasEnds HasEnds (after_header walk bytes) (λ next. walk_end left next bytes) (header_ends walk bytes has) (λ next more. walk_ends left next bytes more)) has
 
 -- what is read of a packet has the same ends as a header
 abbrev IsBetween : IpHead → Fields → Type 0

@@ -165,9 +165,9 @@ module _ (max : MaxFlows) where
       never : (other : Key) → ends_life max touches key other ≡ false
       never other =
           let before = touched-lives touches other (room-earlier key touches room) in
-          let behind = touched-lives (key ∷ touches) other room in
+          let after = touched-lives (key ∷ touches) other room in
           ap (λ (a : Bool). a && not (is_live max (key ∷ touches) other)) before
-          ∙ ap (λ (b : Bool). is_touched touches other && not b) behind
+          ∙ ap (λ (b : Bool). is_touched touches other && not b) after
           ∙ by_bools (is_touched touches other) (same_key other key)
 
   -- all flows live, one for each key in the order of their first touches

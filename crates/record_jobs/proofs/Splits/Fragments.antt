@@ -26,7 +26,7 @@ use Rattle.frag3_core.proofs.Entries.{AreTrackers-nil, AreTrackers-push, AreTrac
 use Rattle.frag3_core.proofs.Keys.{one_key, same_key-equivalence, same_key-refl, same_key-true}
 use Rattle.frag3_core.proofs.Laws.{state_after-push}
 use Rattle.record_jobs.specs.Counts.{fragments_read}
-use Rattle.record_jobs.specs.Packets.{completed_datagram, datagram_from, datagram_in, datagram_of_fragment, frag3_behind, fragment_fields, fragment_in, fragment_of, fragments, is_fragment, said_by}
+use Rattle.record_jobs.specs.Packets.{completed_datagram, datagram_from, datagram_in, datagram_of_fragment, frag3_after, fragment_fields, fragment_in, fragment_of, fragments, is_fragment, said_by}
 use Rattle.record_jobs.specs.Way.{LinkedRecord, Way}
 use Rattle.record_jobs.specs.Splitting.{IsByPair, Part}
 use Rattle.record_jobs.proofs.Splits.Jobs.{along_all}
@@ -50,8 +50,8 @@ own_after f t = option_map_or (λ _. t) (ignored f.ip f.part f.rules) (left_own 
 abbrev step_own : DatagramKey → Option TrackerState → Fragment → Option TrackerState
 step_own key t f = cond (same_key (key_of f.ip) key) (own_after f t) t
 
-abbrev tracker_behind : DatagramKey → List Fragment → Option TrackerState
-tracker_behind key fs = fold (step_own key) None fs
+abbrev tracker_after : DatagramKey → List Fragment → Option TrackerState
+tracker_after key fs = fold (step_own key) None fs
 
 -- ---- entries
 
@@ -124,7 +124,7 @@ module _ (frag3 : Frag3State) (f : Fragment) (are : AreTrackers frag3.trackers) 
   taken-own = ap (λ (t : TrackerState). option_map_or answer.Ignored (ignored f.ip f.part f.rules) (answer_of f.ip (datagram_of t))) own-joined
 
   -- the trackers after a fragment
-  pub record IsBehind (new : Frag3State) : Type 0 where
+  pub record IsAfter (new : Frag3State) : Type 0 where
     pub max : new.max_frags ≡ frag3.max_frags
     pub few : held_count new.trackers ≤ held_count ts + 1
     pub sound : AreTrackers new.trackers
@@ -154,9 +154,9 @@ module _ (frag3 : Frag3State) (f : Fragment) (are : AreTrackers frag3.trackers) 
       let few = kept-few late in
       omega (arith, parts, same, few)
 
-  behind-taken : (bytes : Option (List ℕ)) → datagram_of (own frag3 f) ≡ bytes → ignored f.ip f.part f.rules ≡ None
-      → IsBehind (record frag3 { trackers = with_own key (own frag3 f) (others frag3 f) bytes })
-  behind-taken None is taken_up =
+  following-taken : (bytes : Option (List ℕ)) → datagram_of (own frag3 f) ≡ bytes → ignored f.ip f.part f.rules ≡ None
+      → IsAfter (record frag3 { trackers = with_own key (own frag3 f) (others frag3 f) bytes })
+  following-taken None is taken_up =
       record {
         max = refl;
         few = let push = held_count-push (others frag3 f) key (own frag3 f) in let size = own-size in let few = others-few in omega (arith, push, size, few);
@@ -176,7 +176,7 @@ module _ (frag3 : Frag3State) (f : Fragment) (are : AreTrackers frag3.trackers) 
               ∙ sym (ap (λ (o : Option Ignored). option_map_or (λ _. tracker_of key ts) o (left_own (joined_own f (tracker_of key ts)) (datagram_of (joined_own f (tracker_of key ts))))) taken_up
               ∙ ap (left_own (joined_own f (tracker_of key ts))) (ap datagram_of (sym own-joined) ∙ is)))
           by_key false apart = lookup-past (same_key q) (others frag3 f) key (own frag3 f) (flips key q apart) ∙ others-other q apart
-  behind-taken (Some bytes) is taken_up =
+  following-taken (Some bytes) is taken_up =
       record {
         max = refl;
         few = let few = others-few in omega (arith, few);
@@ -196,12 +196,12 @@ module _ (frag3 : Frag3State) (f : Fragment) (are : AreTrackers frag3.trackers) 
               ∙ ap (left_own (joined_own f (tracker_of key ts))) (ap datagram_of (sym own-joined) ∙ is)))
           by_key false apart = others-other q apart
 
-  pub behind-after : IsBehind (after frag3 f)
+  pub IsAfter-after : IsAfter (after frag3 f)
   unfolding after
-  behind-after = by_reason (ignored f.ip f.part f.rules) refl
+  IsAfter-after = by_reason (ignored f.ip f.part f.rules) refl
     where
-      by_reason : (o : Option Ignored) → ignored f.ip f.part f.rules ≡ o → IsBehind (option_map_or (λ _. frag3) o (record frag3 { trackers = trackers_after frag3 f }))
-      by_reason None is = behind-taken (datagram_of (own frag3 f)) refl is
+      by_reason : (o : Option Ignored) → ignored f.ip f.part f.rules ≡ o → IsAfter (option_map_or (λ _. frag3) o (record frag3 { trackers = trackers_after frag3 f }))
+      by_reason None is = following-taken (datagram_of (own frag3 f)) refl is
       by_reason (Some why) is =
           record {
             max = refl;
@@ -216,47 +216,47 @@ module _ (frag3 : Frag3State) (f : Fragment) (are : AreTrackers frag3.trackers) 
 
 -- ---- all fragments
 
-record Stands (most : ℕ) (fs : List Fragment) : Type 0 where
+record HasTrackers (most : ℕ) (fs : List Fragment) : Type 0 where
   max : (state_after most fs).max_frags ≡ most
   few : held_count (state_after most fs).trackers ≤ length fs
   are : AreTrackers (state_after most fs).trackers
-  each : (key : DatagramKey) → tracker_of key (state_after most fs).trackers ≡ tracker_behind key fs
+  each : (key : DatagramKey) → tracker_of key (state_after most fs).trackers ≡ tracker_after key fs
 
-stands-none : (most : ℕ) → Stands most []
+holds-none : (most : ℕ) → HasTrackers most []
 unfolding state_after
-stands-none most = record { max = refl; few = omega arith; are = AreTrackers-nil; each = λ key. refl }
+holds-none most = record { max = refl; few = omega arith; are = AreTrackers-nil; each = λ key. refl }
 
-stands-more : (most : ℕ) (fs : List Fragment) (f : Fragment) → length fs < most → Stands most fs → Stands most (fs ++ f ∷ [])
-stands-more most fs f short stands =
+holds-more : (most : ℕ) (fs : List Fragment) (f : Fragment) → length fs < most → HasTrackers most fs → HasTrackers most (fs ++ f ∷ [])
+holds-more most fs f short holds =
     let old : Frag3State = state_after most fs in
-    let few = stands.few in
-    let max = stands.max in
-    let behind = behind-after old f stands.are (omega (arith, few, max, short)) in
+    let few = holds.few in
+    let max = holds.max in
+    let following = IsAfter-after old f holds.are (omega (arith, few, max, short)) in
     let pushed : state_after most (fs ++ f ∷ []) ≡ after old f = state_after-push most fs f in
     let size = ap (λ (s : Frag3State). held_count s.trackers) pushed in
-    let more = behind.few in
+    let more = following.few in
     record {
-      max = ap (λ (s : Frag3State). s.max_frags) pushed ∙ behind.max ∙ stands.max;
+      max = ap (λ (s : Frag3State). s.max_frags) pushed ∙ following.max ∙ holds.max;
       few = omega (arith, size, more, few, length-append fs (f ∷ []));
-      are = subst (λ (s : Frag3State). AreTrackers s.trackers) (sym pushed) behind.sound;
+      are = subst (λ (s : Frag3State). AreTrackers s.trackers) (sym pushed) following.sound;
       each = λ key.
-          ap (λ (s : Frag3State). tracker_of key s.trackers) pushed ∙ behind.each key
-          ∙ ap (λ (t : Option TrackerState). step_own key t f) (stands.each key)
+          ap (λ (s : Frag3State). tracker_of key s.trackers) pushed ∙ following.each key
+          ∙ ap (λ (t : Option TrackerState). step_own key t f) (holds.each key)
           ∙ sym (fold_push (step_own key) None fs f);
     }
 
-stands : (most : ℕ) (fs : List Fragment) → length fs ≤ most → Stands most fs
-stands most fs short = along_all (Stands most) fs (stands-none most) step fs [] (append-nil fs)
+holds : (most : ℕ) (fs : List Fragment) → length fs ≤ most → HasTrackers most fs
+holds most fs short = along_all (HasTrackers most) fs (holds-none most) step fs [] (append-nil fs)
   where
-    step : (before : List Fragment) (f : Fragment) (rest : List Fragment) → before ++ f ∷ rest ≡ fs → Stands most before → Stands most (before ++ f ∷ [])
-    step before f rest are so_far = stands-more most before f (let size = ap length are in omega (arith, size, short, length-append before (f ∷ rest))) so_far
+    step : (before : List Fragment) (f : Fragment) (rest : List Fragment) → before ++ f ∷ rest ≡ fs → HasTrackers most before → HasTrackers most (before ++ f ∷ [])
+    step before f rest are so_far = holds-more most before f (let size = ap length are in omega (arith, size, short, length-append before (f ∷ rest))) so_far
 
 -- what a fragment makes whole goes by its own datagram's fragments
-taken-alike : (most : ℕ) (fs gs : List Fragment) (f : Fragment) → length fs < most → length gs < most → tracker_behind (key_of f.ip) fs ≡ tracker_behind (key_of f.ip) gs
+taken-alike : (most : ℕ) (fs gs : List Fragment) (f : Fragment) → length fs < most → length gs < most → tracker_after (key_of f.ip) fs ≡ tracker_after (key_of f.ip) gs
     → taken (state_after most fs) f ≡ taken (state_after most gs) f
 taken-alike most fs gs f short short_too same =
-    let here = stands most fs (omega (arith, short)) in
-    let there = stands most gs (omega (arith, short_too)) in
+    let here = holds most fs (omega (arith, short)) in
+    let there = holds most gs (omega (arith, short_too)) in
     let few = here.few in
     let max = here.max in
     let few_too = there.few in
@@ -338,25 +338,25 @@ module _ (way : Way) (part : Part) (records : List LinkedRecord) (by_pair : IsBy
             let dst : fields.ip.dst ≡ more.0.ip.dst = ap (λ (k : DatagramKey). k.dst) (sym one) ∙ ap (λ (i : IpHead). i.dst) more.2 in
             absurd (false≢true (sym isnt ∙ sym (by_pair r s fields more.0 said more.1 (inl (src, dst))) ∙ of))
 
-    same-tracker : tracker_behind own_key (frags way config (filter part before)) ≡ tracker_behind own_key (frags way config before)
+    same-tracker : tracker_after own_key (frags way config (filter part before)) ≡ tracker_after own_key (frags way config before)
     same-tracker = along_all Same records refl step before (r ∷ rest) are
       where
         Same : List LinkedRecord → Type 0
-        Same earlier = tracker_behind own_key (frags way config (filter part earlier)) ≡ tracker_behind own_key (frags way config earlier)
+        Same earlier = tracker_after own_key (frags way config (filter part earlier)) ≡ tracker_after own_key (frags way config earlier)
 
-        behind : Option Fragment → Option TrackerState → Option TrackerState
-        behind None t = t
-        behind (Some f) t = step_own own_key t f
+        following : Option Fragment → Option TrackerState → Option TrackerState
+        following None t = t
+        following (Some f) t = step_own own_key t f
 
         pushed : (earlier : List LinkedRecord) (s : LinkedRecord) (o : Option Fragment) → fragment_in way config s ≡ o
-            → tracker_behind own_key (frags way config (earlier ++ s ∷ [])) ≡ behind o (tracker_behind own_key (frags way config earlier))
+            → tracker_after own_key (frags way config (earlier ++ s ∷ [])) ≡ following o (tracker_after own_key (frags way config earlier))
         pushed earlier s None is =
-            ap (tracker_behind own_key) (frags-more way config earlier s [] ∙ ap (λ (o : Option Fragment). frags way config earlier ++ cons_option o []) is ∙ append-nil (frags way config earlier))
+            ap (tracker_after own_key) (frags-more way config earlier s [] ∙ ap (λ (o : Option Fragment). frags way config earlier ++ cons_option o []) is ∙ append-nil (frags way config earlier))
         pushed earlier s (Some f) is =
-            ap (tracker_behind own_key) (frags-more way config earlier s [] ∙ ap (λ (o : Option Fragment). frags way config earlier ++ cons_option o []) is)
+            ap (tracker_after own_key) (frags-more way config earlier s [] ∙ ap (λ (o : Option Fragment). frags way config earlier ++ cons_option o []) is)
             ∙ fold_push (step_own own_key) None (frags way config earlier) f
 
-        passed : (s : LinkedRecord) (o : Option Fragment) → fragment_in way config s ≡ o → part s ≡ false → (t : Option TrackerState) → behind o t ≡ t
+        passed : (s : LinkedRecord) (o : Option Fragment) → fragment_in way config s ≡ o → part s ≡ false → (t : Option TrackerState) → following o t ≡ t
         passed s None is isnt t = refl
         passed s (Some f) is isnt t = ap (λ (b : Bool). cond b (own_after f t) t) (apart s f is isnt)
 
@@ -365,14 +365,14 @@ module _ (way : Way) (part : Part) (records : List LinkedRecord) (by_pair : IsBy
           where
             by_part : (b : Bool) → part s ≡ b → Same (earlier ++ s ∷ [])
             by_part true is =
-                ap (λ (rs : List LinkedRecord). tracker_behind own_key (frags way config rs)) (filter-kept part earlier s [] is)
+                ap (λ (rs : List LinkedRecord). tracker_after own_key (frags way config rs)) (filter-kept part earlier s [] is)
                 ∙ pushed (filter part earlier) s (fragment_in way config s) refl
-                ∙ ap (behind (fragment_in way config s)) same
+                ∙ ap (following (fragment_in way config s)) same
                 ∙ sym (pushed earlier s (fragment_in way config s) refl)
             by_part false isnt =
-                ap (λ (rs : List LinkedRecord). tracker_behind own_key (frags way config rs)) (filter-left part earlier s isnt)
+                ap (λ (rs : List LinkedRecord). tracker_after own_key (frags way config rs)) (filter-left part earlier s isnt)
                 ∙ same
-                ∙ sym (pushed earlier s (fragment_in way config s) refl ∙ passed s (fragment_in way config s) refl isnt (tracker_behind own_key (frags way config earlier)))
+                ∙ sym (pushed earlier s (fragment_in way config s) refl ∙ passed s (fragment_in way config s) refl isnt (tracker_after own_key (frags way config earlier)))
 
     fewer-than-most : (read : fragment_fields (said_by way r) ≡ Some fields) → length (frags way config before) < config.max_frags
     fewer-than-most read =
@@ -395,7 +395,7 @@ module _ (way : Way) (part : Part) (records : List LinkedRecord) (by_pair : IsBy
   pub same-datagram : IfSome way.frag (λ (config : FragConfig). length (fragments_read way records) ≤ config.max_frags)
       → (before : List LinkedRecord) (r : LinkedRecord) (rest : List LinkedRecord) → before ++ r ∷ rest ≡ records → part r ≡ true
       → datagram_in way (filter part before) r ≡ datagram_in way before r
-  unfolding datagram_in datagram_of_fragment frag3_behind
+  unfolding datagram_in datagram_of_fragment frag3_after
   same-datagram few before r rest are of = by_said (said_by way r) refl
     where
       moment : Moment

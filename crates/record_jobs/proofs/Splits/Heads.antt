@@ -27,7 +27,7 @@ use Rattle.record_jobs.specs.Splitting.{IsOfPairs, Pairs, Part, is_between}
 use Rattle.record_jobs.specs.Touches.{item_key}
 use Rattle.record_jobs.specs.Way.{LinkedRecord, Way}
 use Rattle.record_jobs.proofs.Splits.Ends.{packet-between}
-use Rattle.record_jobs.proofs.Splits.Jobs.{alone_job, behind, of_key, own_packet, own_tracked, packet_job, plain_fragment, plain_items, plain_packet, plain_tracked}
+use Rattle.record_jobs.proofs.Splits.Jobs.{alone_job, after, of_key, own_packet, own_tracked, packet_job, plain_fragment, plain_items, plain_packet, plain_tracked}
 use Rattle.record_jobs.proofs.Splits.Parts.{tracked-between}
 
 some_same : {A : Type 0} (x y : A) → Some x ≡ Some y → x ≡ y
@@ -45,7 +45,7 @@ finish_job moment = record { number = 0; moment = moment; work = work.Finish 0 }
 -- ---- between which addresses
 
 -- an item by itself goes between its own
-alone-between : (d : Detection) (moment : Moment) (item : Item) → All (OfHits (HeadBetween item.head.ip.src item.head.ip.dst)) (behind d [] (alone_job d moment item))
+alone-between : (d : Detection) (moment : Moment) (item : Item) → All (OfHits (HeadBetween item.head.ip.src item.head.ip.dst)) (after d [] (alone_job d moment item))
 alone-between d moment item =
     items_between item.head.ip.src item.head.ip.dst d [] (alone_job d moment item) (All-nil (OfJob (HeadBetween item.head.ip.src item.head.ip.dst))) (inl (refl, refl))
 
@@ -81,12 +81,12 @@ module _ (way : Way) (key : Key) where
 
   -- the items of a key's flow, of a packet and at the end
   tracked-items : (d : Detection) (before : List LinkedRecord) (time : Time) (moment : Moment) (item : Item) → item_key way item ≡ Some key
-      → All (OfHits (HeadBetween key.low.addr key.high.addr)) (behind d (trail (of_key way key) before) (packet_job d way time moment item))
+      → All (OfHits (HeadBetween key.low.addr key.high.addr)) (after d (trail (of_key way key) before) (packet_job d way time moment item))
   tracked-items d before time moment item tracked =
       items_between key.low.addr key.high.addr d (trail (of_key way key) before) (packet_job d way time moment item) (all-packets before) (packet-of time item 0 tracked)
 
   pub finish-items : (d : Detection) (records : List LinkedRecord) (moment : Moment)
-      → All (OfHits (HeadBetween key.low.addr key.high.addr)) (behind d (trail (of_key way key) records) (finish_job moment))
+      → All (OfHits (HeadBetween key.low.addr key.high.addr)) (after d (trail (of_key way key) records) (finish_job moment))
   finish-items d records moment = items_between key.low.addr key.high.addr d (trail (of_key way key) records) (finish_job moment) (all-packets records) tt
 
 -- ---- of which part
@@ -139,14 +139,14 @@ module _ (way : Way) (pairs : Pairs) (part : Part) (of_pairs : IsOfPairs way pai
       by_fragment : (fragment : Option Item) → fragment_item way r ≡ fragment → All Tells (plain_fragment d way r fragment)
       by_fragment None found = All-nil Tells
       by_fragment (Some item) found =
-          all-tell item.head.ip.src item.head.ip.dst (part r) (fragment-tells r item found) (behind d [] (alone_job d r.captured.moment item)) (alone-between d r.captured.moment item)
+          all-tell item.head.ip.src item.head.ip.dst (part r) (fragment-tells r item found) (after d [] (alone_job d r.captured.moment item)) (alone-between d r.captured.moment item)
 
       by_key : (item : Item) (at : Option Key) → packet_in way before r ≡ Some item → item_key way item ≡ at → All Tells (plain_tracked d way before r item at)
       by_key item None found tracked =
-          all-tell item.head.ip.src item.head.ip.dst (part r) (packet-tells before r item found) (behind d [] (alone_job d r.captured.moment item)) (alone-between d r.captured.moment item)
+          all-tell item.head.ip.src item.head.ip.dst (part r) (packet-tells before r item found) (after d [] (alone_job d r.captured.moment item)) (alone-between d r.captured.moment item)
       by_key item (Some key) found tracked =
           all-tell key.low.addr key.high.addr (part r) (key-tells before r item key found tracked)
-          (behind d (trail (of_key way key) before) (packet_job d way (time_of before r) r.captured.moment item))
+          (after d (trail (of_key way key) before) (packet_job d way (time_of before r) r.captured.moment item))
           (tracked-items way key d before (time_of before r) r.captured.moment item tracked)
 
       by_packet : (packet : Option Item) → packet_in way before r ≡ packet → All Tells (plain_packet d way before r packet)

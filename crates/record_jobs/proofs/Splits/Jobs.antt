@@ -19,7 +19,7 @@ use Rattle.flow_lanes.specs.declared.answer.Hits.{Hits}
 use Rattle.flow_lanes.specs.declared.job.Job.{Job}
 use Rattle.flow_lanes.specs.declared.job.Work.{Work}
 use Rattle.flow_lanes.specs.declared.job.Work.TheVariants as work
-use Rattle.flow_lanes.specs.Flows.{Detection, answer, flow_of, flow_state, hits, hits_in, same_flow, same_number, session_at_hand, state_after, state_behind, work_items}
+use Rattle.flow_lanes.specs.Flows.{Detection, answer, flow_of, flow_state, hits, hits_in, same_flow, same_number, session_at_hand, state_after, state_after_one, work_items}
 use Rattle.record_jobs.specs.declared.item.Item.{Item}
 use Rattle.record_jobs.specs.declared.time.Time.{Time}
 use Rattle.record_jobs.specs.Jobs.{alone, flow_packet, job_count, jobs, numbered, packet_work, time_of, works, works_by}
@@ -60,22 +60,22 @@ fold-alike f g same s (x ∷ xs) = ap (λ state. fold f state (map g xs)) (same 
 
 module _ (d : Detection) where
   -- the items of a job after the earlier ones of its flow
-  abbrev pub behind : List Job → Job → List Hits
-  behind earlier job = (hits d earlier job).items
+  abbrev pub after : List Job → Job → List Hits
+  after earlier job = (hits d earlier job).items
 
   flow_state-nameless : (earlier : List Job) → flow_state d (map nameless earlier) ≡ flow_state d earlier
-  unfolding flow_state state_behind
-  flow_state-nameless earlier = fold-alike (state_behind d) nameless (λ found job. by_work found job.number job.moment job.work) None earlier
+  unfolding flow_state state_after_one
+  flow_state-nameless earlier = fold-alike (state_after_one d) nameless (λ found job. by_work found job.number job.moment job.work) None earlier
     where
       by_work : (found : _) (number : ℕ) (moment : Moment) (todo : Work)
-          → state_behind d found (nameless (record { number = number; moment = moment; work = todo })) ≡ state_behind d found (record { number = number; moment = moment; work = todo })
+          → state_after_one d found (nameless (record { number = number; moment = moment; work = todo })) ≡ state_after_one d found (record { number = number; moment = moment; work = todo })
       by_work found number moment (work.Alone head payload) = refl
       by_work found number moment (work.Packet flow head payload to_dst to_src) = refl
       by_work found number moment (work.Finish flow) = refl
 
-  pub behind-nameless : (earlier : List Job) (job : Job) → behind (map nameless earlier) (nameless job) ≡ behind earlier job
+  pub after-nameless : (earlier : List Job) (job : Job) → after (map nameless earlier) (nameless job) ≡ after earlier job
   unfolding hits
-  behind-nameless earlier job = rw (flow_state-nameless earlier) (by_work job.work)
+  after-nameless earlier job = rw (flow_state-nameless earlier) (by_work job.work)
     where
       by_work : (todo : Work)
           → hits_in d.trying (work_items d.making job.moment (nameless_work todo) (session_at_hand (flow_state d earlier))) (flow_state d earlier)
@@ -97,21 +97,21 @@ module _ (d : Detection) where
   alone_job moment item = record { number = 0; moment = moment; work = alone item }
 
   alone-items : (earlier : List Job) (number : ℕ) (moment : Moment) (item : Item)
-      → items_of_job d earlier (record { number = number; moment = moment; work = alone item }) ≡ behind [] (alone_job moment item)
+      → items_of_job d earlier (record { number = number; moment = moment; work = alone item }) ≡ after [] (alone_job moment item)
   alone-items earlier number moment item =
       let job : Job = record { number = number; moment = moment; work = alone item } in
-      ap (λ (jobs : List Job). behind jobs job) (filter-never (same_flow job) earlier (λ other. refl)) ∙ sym (behind-nameless [] job)
+      ap (λ (jobs : List Job). after jobs job) (filter-never (same_flow job) earlier (λ other. refl)) ∙ sym (after-nameless [] job)
 
   -- a packet of a flow whose earlier jobs are these, without their numbers
   abbrev pub packet_job : Way → Time → Moment → Item → Job
   packet_job way time moment item = record { number = 0; moment = moment; work = flow_packet way time item 0 }
 
   packet-items : (way : Way) (time : Time) (moment : Moment) (item : Item) (number flow : ℕ) (earlier own : List Job) → map nameless (filter (of_number flow) earlier) ≡ own
-      → items_of_job d earlier (record { number = number; moment = moment; work = flow_packet way time item flow }) ≡ behind own (packet_job way time moment item)
+      → items_of_job d earlier (record { number = number; moment = moment; work = flow_packet way time item flow }) ≡ after own (packet_job way time moment item)
   unfolding flow_packet
   packet-items way time moment item number flow earlier own are =
       let job : Job = record { number = number; moment = moment; work = flow_packet way time item flow } in
-      sym (behind-nameless (filter (of_number flow) earlier) job) ∙ ap (λ (jobs : List Job). behind jobs (packet_job way time moment item)) are
+      sym (after-nameless (filter (of_number flow) earlier) job) ∙ ap (λ (jobs : List Job). after jobs (packet_job way time moment item)) are
 
 -- ---- the packets of a key
 
@@ -256,8 +256,8 @@ module _ (way : Way) (records : List LinkedRecord) (room : HasRoomFor way record
 -- ---- the items of a record
 module _ (d : Detection) (way : Way) where
   abbrev pub plain_tracked : List LinkedRecord → LinkedRecord → Item → Option Key → List Hits
-  plain_tracked before r item None = behind d [] (alone_job d r.captured.moment item)
-  plain_tracked before r item (Some key) = behind d (trail (of_key way key) before) (packet_job d way (time_of before r) r.captured.moment item)
+  plain_tracked before r item None = after d [] (alone_job d r.captured.moment item)
+  plain_tracked before r item (Some key) = after d (trail (of_key way key) before) (packet_job d way (time_of before r) r.captured.moment item)
 
   abbrev pub plain_packet : List LinkedRecord → LinkedRecord → Option Item → List Hits
   plain_packet before r None = []
@@ -265,7 +265,7 @@ module _ (d : Detection) (way : Way) where
 
   abbrev pub plain_fragment : LinkedRecord → Option Item → List Hits
   plain_fragment r None = []
-  plain_fragment r (Some item) = behind d [] (alone_job d r.captured.moment item)
+  plain_fragment r (Some item) = after d [] (alone_job d r.captured.moment item)
 
   -- the items of a record, by the packets of its key alone
   abbrev pub plain_items : List LinkedRecord → LinkedRecord → List Hits
@@ -291,12 +291,12 @@ module _ (d : Detection) (way : Way) where
     Passed more = (flow : ℕ) → filter (of_number d flow) more ≡ []
 
     -- what is done after the fragment, if there is one
-    behind_fragment : (fragment : Option Item) (todo : List Work) (last : List Hits)
+    after_fragment : (fragment : Option Item) (todo : List Work) (last : List Hits)
         → ((number : ℕ) (more : List Job) → Passed more → given number (earlier ++ more) todo ≡ last)
         → given (job_count way before) earlier (option_to_list (option_map alone fragment) ++ todo) ≡ plain_fragment r fragment ++ last
-    behind_fragment None todo last rest =
+    after_fragment None todo last rest =
         ap (λ (js : List Job). given (job_count way before) js todo) (sym (append-nil earlier)) ∙ rest (job_count way before) [] (λ flow. refl)
-    behind_fragment (Some item) todo last rest =
+    after_fragment (Some item) todo last rest =
         let job : Job = record { number = job_count way before; moment = r.captured.moment; work = alone item } in
         ap (λ (front : List Hits). front ++ given (job_count way before + 1) (earlier ++ job ∷ []) todo) (alone-items d earlier (job_count way before) r.captured.moment item)
         ∙ ap (λ (back : List Hits). plain_fragment r (Some item) ++ back) (rest (job_count way before + 1) (job ∷ []) (λ flow. refl))
@@ -341,16 +341,16 @@ module _ (d : Detection) (way : Way) where
             ∙ packet-items d way time moment item number touch.flow (earlier ++ more) (trail (of_key way key) before) kept in
             ap (λ (o : Option ℕ). given (job_count way before) earlier (option_to_list (option_map (λ flow. work.Finish flow) o) ++ (option_to_list (option_map alone (fragment_item way r)) ++ (flow_packet way time item touch.flow ∷ []))))
             (none-ended most_here key (touches way before) room_here)
-            ∙ behind_fragment (fragment_item way r) (flow_packet way time item touch.flow ∷ []) (plain_tracked before r item (Some key)) last
+            ∙ after_fragment (fragment_item way r) (flow_packet way time item touch.flow ∷ []) (plain_tracked before r item (Some key)) last
 
         by_key : (item : Item) (at : Option Key) → packet_in way before r ≡ Some item → item_key way item ≡ at
             → given (job_count way before) earlier (works_by way time (option_map (touch_found most_here (touches way before)) at) (fragment_item way r) (Some item))
             ≡ plain_fragment r (fragment_item way r) ++ plain_tracked before r item at
         by_key item None found tracked =
-            behind_fragment (fragment_item way r) (alone item ∷ []) (plain_tracked before r item None)
+            after_fragment (fragment_item way r) (alone item ∷ []) (plain_tracked before r item None)
             (λ number more passed. append-nil (items_of_job d (earlier ++ more) (record { number = number; moment = moment; work = alone item })) ∙ alone-items d (earlier ++ more) number moment item)
         by_key item (Some key) found tracked = of_tracked item key found tracked
 
         by_packet : (packet : Option Item) → packet_in way before r ≡ packet → Told (packet_in way before r)
-        by_packet None found = subst Told (sym found) (behind_fragment (fragment_item way r) [] [] (λ number more passed. refl))
+        by_packet None found = subst Told (sym found) (after_fragment (fragment_item way r) [] [] (λ number more passed. refl))
         by_packet (Some item) found = subst Told (sym found) (by_key item (item_key way item) found refl)

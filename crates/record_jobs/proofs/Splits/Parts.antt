@@ -26,7 +26,7 @@ use Rattle.record_jobs.specs.Way.{LinkedRecord, Way}
 use Rattle.record_jobs.proofs.Growth.{trail-push}
 use Rattle.record_jobs.specs.Splitting.{AreOfOnePair, IsByPair, Part}
 use Rattle.record_jobs.proofs.Splits.Ends.{packet-between}
-use Rattle.record_jobs.proofs.Splits.Jobs.{along_all, behind, of_key, own_packet, own_tracked, packet_job, plain_fragment, plain_items, plain_packet, plain_tracked}
+use Rattle.record_jobs.proofs.Splits.Jobs.{along_all, after, of_key, own_packet, own_tracked, packet_job, plain_fragment, plain_items, plain_packet, plain_tracked}
 
 -- ---- keys and pairs of addresses
 
@@ -179,8 +179,8 @@ module _ (way : Way) (part : Part) (records : List LinkedRecord) (by_pair : IsBy
       by_key item (Some key) found tracked =
           let owns : (earlier : List LinkedRecord) (s : LinkedRecord) (more : Item) → packet_in way earlier s ≡ Some more → item_key way more ≡ Some key → part s ≡ true =
           λ earlier s more there at. sym (one-part key before earlier r s item more found there tracked at) ∙ of in
-          ap (λ (own : List Job). behind d own (packet_job d way (time_of (filter part before) r) r.captured.moment item)) (same-key_packets key owns before (r ∷ rest) are)
-          ∙ ap (λ (t : Time). behind d (trail (of_key way key) before) (packet_job d way t r.captured.moment item)) (same-time part records before r rest start are of)
+          ap (λ (own : List Job). after d own (packet_job d way (time_of (filter part before) r) r.captured.moment item)) (same-key_packets key owns before (r ∷ rest) are)
+          ∙ ap (λ (t : Time). after d (trail (of_key way key) before) (packet_job d way t r.captured.moment item)) (same-time part records before r rest start are of)
 
       by_packet : (packet : Option Item) → packet_in way before r ≡ packet → plain_packet d way (filter part before) r packet ≡ plain_packet d way before r packet
       by_packet None found = refl

@@ -3,7 +3,7 @@ use Rattle.std.proofs.Common.{◌≡◌, ℕ, Result, zero, suc, ◌+◌, Bool, 
 use Rattle.std.specs.List.{onto_first, prefix_len}
 use Rattle.std.proofs.Math.Seq.{take-append_seam, drop-append_seam}
 use Rattle.edge_io.specs.Bytes.{is_blank, without_front_blanks}
-use Rattle.net_lists.specs.Cutting.{front_len, depth_behind, first_word, behind_word}
+use Rattle.net_lists.specs.Cutting.{front_len, depth_after, first_word, after_word}
 use Rattle.net_lists.specs.declared.stop.Stop.{Stop}
 use Rattle.conf_types.specs.declared.classes.Class.{Class}
 use Rattle.rule_parser.specs.declared.draft.Draft.{Draft}
@@ -14,21 +14,21 @@ use Rattle.rule_parser.specs.Bits.{GivesWith}
 use Rattle.rule_parser.specs.Headers.{from_word}
 use Rattle.rule_parser.specs.HeaderTexts.{AreTexts, IsUncut, BeginsFilled, AreWords, words_text, word_texts, AreCutInto}
 use Rattle.rule_parser.specs.RuleLine.{rule_options}
-use Rattle.rule_parser.specs.Written.{outside, behind_byte, ends_option, option_texts, IsClosed, AreOptionTexts, options_text}
+use Rattle.rule_parser.specs.Written.{outside, after_byte, ends_option, option_texts, IsClosed, AreOptionTexts, options_text}
 
 -- an option's text is cut off at its `;`
 option-cut : (at : Quoting) (text rest : List ℕ) → IsClosed at text → option_texts at (text ++ 59 ∷ rest) ≡ text ∷ option_texts outside rest
 unfolding option_texts ends_option
 option-cut at [] rest closed = rw closed refl
-option-cut at (byte ∷ text) rest (on, closed) = ap (λ (b : Bool). cond b ([] ∷ option_texts outside (text ++ 59 ∷ rest)) (onto_first byte (option_texts (behind_byte at byte) (text ++ 59 ∷ rest)))) on
-    ∙ ap (onto_first byte) (option-cut (behind_byte at byte) text rest closed)
+option-cut at (byte ∷ text) rest (on, closed) = ap (λ (b : Bool). cond b ([] ∷ option_texts outside (text ++ 59 ∷ rest)) (onto_first byte (option_texts (after_byte at byte) (text ++ 59 ∷ rest)))) on
+    ∙ ap (onto_first byte) (option-cut (after_byte at byte) text rest closed)
 
 -- a text in which no option ends is one text
 option-whole : (at : Quoting) (text : List ℕ) → IsClosed at text → option_texts at text ≡ text ∷ []
 unfolding option_texts
 option-whole at [] closed = refl
-option-whole at (byte ∷ text) (on, closed) = ap (λ (b : Bool). cond b ([] ∷ option_texts outside text) (onto_first byte (option_texts (behind_byte at byte) text))) on
-    ∙ ap (onto_first byte) (option-whole (behind_byte at byte) text closed)
+option-whole at (byte ∷ text) (on, closed) = ap (λ (b : Bool). cond b ([] ∷ option_texts outside text) (onto_first byte (option_texts (after_byte at byte) text))) on
+    ∙ ap (onto_first byte) (option-whole (after_byte at byte) text closed)
 
 -- options that are written are cut into these
 pub options-written : (options : List (List ℕ)) (rest : List ℕ) → AreOptionTexts options → IsClosed outside rest → option_texts outside (options_text options rest) ≡ options ++ rest ∷ []
@@ -42,8 +42,8 @@ front-word : (depth : ℕ) (word rest : List ℕ) → IsUncut depth word → fro
 unfolding front_len
 front-word depth [] rest closed = rw closed refl
 front-word depth (byte ∷ word) rest (on, uncut) =
-    ap (λ (b : Bool). cond b 0 (1 + front_len is_blank (depth_behind depth byte) (word ++ 32 ∷ rest))) on
-    ∙ ap (λ (n : ℕ). 1 + n) (front-word (depth_behind depth byte) word rest uncut) ∙ one_more (length word)
+    ap (λ (b : Bool). cond b 0 (1 + front_len is_blank (depth_after depth byte) (word ++ 32 ∷ rest))) on
+    ∙ ap (λ (n : ℕ). 1 + n) (front-word (depth_after depth byte) word rest uncut) ∙ one_more (length word)
   where
     one_more : (n : ℕ) → 1 + n ≡ suc n
     one_more n = omega arith
@@ -68,19 +68,19 @@ first-written word rest uncut begins =
     ∙ ap (λ (n : ℕ). take n text) (front-word 0 word rest uncut)
     ∙ take-append_seam word (32 ∷ rest)
 
-behind-blank : (rest : List ℕ) → without_front_blanks (32 ∷ rest) ≡ without_front_blanks rest
-behind-blank rest =
+after-blank : (rest : List ℕ) → without_front_blanks (32 ∷ rest) ≡ without_front_blanks rest
+after-blank rest =
     let one : 1 + prefix_len is_blank rest ≡ suc (prefix_len is_blank rest) = omega arith in
     ap (λ (n : ℕ). drop n (32 ∷ rest)) one
 
-behind-written : (word rest : List ℕ) → IsUncut 0 word → BeginsFilled word → BeginsFilled rest → behind_word (word ++ 32 ∷ rest) ≡ rest
-unfolding behind_word
-behind-written word rest uncut begins next =
+after-written : (word rest : List ℕ) → IsUncut 0 word → BeginsFilled word → BeginsFilled rest → after_word (word ++ 32 ∷ rest) ≡ rest
+unfolding after_word
+after-written word rest uncut begins next =
     let text = word ++ 32 ∷ rest in
     ap (λ (t : List ℕ). without_front_blanks (drop (front_len is_blank 0 t) t)) (filled text (filled-append word (32 ∷ rest) begins))
     ∙ ap (λ (n : ℕ). without_front_blanks (drop n text)) (front-word 0 word rest uncut)
     ∙ ap without_front_blanks (drop-append_seam word (32 ∷ rest))
-    ∙ behind-blank rest ∙ filled rest next
+    ∙ after-blank rest ∙ filled rest next
 
 -- words that are written begin with no blank
 begins-words : (words : List (List ℕ)) (rest : List ℕ) → AreWords words → BeginsFilled rest → BeginsFilled (words_text words rest)
@@ -91,34 +91,34 @@ begins-words (word ∷ more) rest (uncut, begins, are) next = filled-append word
 -- a line from each of its first words on, and after them
 texts_from : ℕ → List ℕ → List (List ℕ)
 texts_from zero line = []
-texts_from (suc count) line = line ∷ texts_from count (behind_word line)
+texts_from (suc count) line = line ∷ texts_from count (after_word line)
 
-behind_words : ℕ → List ℕ → List ℕ
-behind_words zero line = line
-behind_words (suc count) line = behind_words count (behind_word line)
+after_words : ℕ → List ℕ → List ℕ
+after_words zero line = line
+after_words (suc count) line = after_words count (after_word line)
 
 words-written : (words : List (List ℕ)) (rest : List ℕ) → AreWords words → BeginsFilled rest → map first_word (texts_from (length words) (words_text words rest)) ≡ words
 unfolding words_text texts_from
 words-written [] rest are next = refl
 words-written (word ∷ more) rest (uncut, begins, are) next =
-    let behind = behind-written word (words_text more rest) uncut begins (begins-words more rest are next) in
-    ap (λ (first : List ℕ). first ∷ map first_word (texts_from (length more) (behind_word (word ++ 32 ∷ words_text more rest)))) (first-written word (words_text more rest) uncut begins)
-    ∙ ap (λ (t : List ℕ). word ∷ map first_word (texts_from (length more) t)) behind
+    let after = after-written word (words_text more rest) uncut begins (begins-words more rest are next) in
+    ap (λ (first : List ℕ). first ∷ map first_word (texts_from (length more) (after_word (word ++ 32 ∷ words_text more rest)))) (first-written word (words_text more rest) uncut begins)
+    ∙ ap (λ (t : List ℕ). word ∷ map first_word (texts_from (length more) t)) after
     ∙ ap (λ (words : List (List ℕ)). word ∷ words) (words-written more rest are next)
 
-rest-written : (words : List (List ℕ)) (rest : List ℕ) → AreWords words → BeginsFilled rest → behind_words (length words) (words_text words rest) ≡ rest
-unfolding words_text behind_words
+rest-written : (words : List (List ℕ)) (rest : List ℕ) → AreWords words → BeginsFilled rest → after_words (length words) (words_text words rest) ≡ rest
+unfolding words_text after_words
 rest-written [] rest are next = refl
 rest-written (word ∷ more) rest (uncut, begins, are) next =
-    ap (behind_words (length more)) (behind-written word (words_text more rest) uncut begins (begins-words more rest are next)) ∙ rest-written more rest are next
+    ap (after_words (length more)) (after-written word (words_text more rest) uncut begins (begins-words more rest are next)) ∙ rest-written more rest are next
 
 seven : (texts : HeaderTexts) (line : List ℕ) → AreTexts texts line → word_texts texts ≡ texts_from 7 line
 unfolding from_word texts_from
 seven texts line cut = rw (cut.action, cut.proto, cut.src, cut.sports, cut.direction, cut.dst, cut.dports) refl
 
-behind_seven : (texts : HeaderTexts) (line : List ℕ) → AreTexts texts line → texts.options.now ≡ behind_words 7 line
-unfolding from_word behind_words
-behind_seven texts line cut = cut.options
+after_seven : (texts : HeaderTexts) (line : List ℕ) → AreTexts texts line → texts.options.now ≡ after_words 7 line
+unfolding from_word after_words
+after_seven texts line cut = cut.options
 
 -- a header that is written is cut into its words
 pub header-written : (texts : HeaderTexts) (line : List ℕ) → AreTexts texts line
@@ -128,9 +128,9 @@ header-written texts line cut words rest count are next written = record {
       ∙ ap (λ (t : List ℕ). map first_word (texts_from 7 t)) written
       ∙ ap (λ (n : ℕ). map first_word (texts_from n (words_text words rest))) (sym count)
       ∙ words-written words rest are next;
-  behind = behind_seven texts line cut
-      ∙ ap (behind_words 7) written
-      ∙ ap (λ (n : ℕ). behind_words n (words_text words rest)) (sym count)
+  after = after_seven texts line cut
+      ∙ ap (after_words 7) written
+      ∙ ap (λ (n : ℕ). after_words n (words_text words rest)) (sym count)
       ∙ rest-written words rest are next;
 }
 

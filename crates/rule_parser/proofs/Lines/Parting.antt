@@ -45,36 +45,36 @@ option_texts-has text = ap has_text (option_texts-at outside text) ∙ texts_at-
 
 -- a step of the fold, where texts are left after it
 options-more : (classes : List Class) (names : List (List ℕ)) (draft : Draft) (left : ℕ) (text : List ℕ) (texts : List (List ℕ)) → has_text texts ≡ true
-    → rule_options classes names draft left (text ∷ texts) ≡ (rule_option classes names draft left text >>= λ behind. rule_options classes behind.1 behind.0 (left - (length text + 1)) texts)
+    → rule_options classes names draft left (text ∷ texts) ≡ (rule_option classes names draft left text >>= λ after. rule_options classes after.1 after.0 (left - (length text + 1)) texts)
 unfolding rule_options has_text
 options-more classes names draft left text [] h = cc
 options-more classes names draft left text (next ∷ more) h = refl
 
 -- the fold over a text's options is the first option and the fold over those after it
-pub options-step : (classes : List Class) (names : List (List ℕ)) (draft : Draft) (text option behind : List ℕ) (left : ℕ) → left ≡ length text + 1 → IsFirstOption text option behind
+pub options-step : (classes : List Class) (names : List (List ℕ)) (draft : Draft) (text option after : List ℕ) (left : ℕ) → left ≡ length text + 1 → IsFirstOption text option after
     → rule_options classes names draft (length text + 1) (option_texts outside text)
-    ≡ (rule_option classes names draft left option >>= λ next. rule_options classes next.1 next.0 (length behind + 1) (option_texts outside behind))
-options-step classes names draft text option behind left is cut =
-    let less : left - (length option + 1) ≡ length behind + 1 = omega (arith, cut.lengths) in
+    ≡ (rule_option classes names draft left option >>= λ next. rule_options classes next.1 next.0 (length after + 1) (option_texts outside after))
+options-step classes names draft text option after left is cut =
+    let less : left - (length option + 1) ≡ length after + 1 = omega (arith, cut.lengths) in
     ap (λ (n : ℕ). rule_options classes names draft n (option_texts outside text)) (sym is)
     ∙ ap (rule_options classes names draft left) cut.texts
-    ∙ options-more classes names draft left option (option_texts outside behind) (option_texts-has behind)
-    ∙ ap (λ (n : ℕ). rule_option classes names draft left option >>= λ next. rule_options classes next.1 next.0 n (option_texts outside behind)) less
+    ∙ options-more classes names draft left option (option_texts outside after) (option_texts-has after)
+    ∙ ap (λ (n : ℕ). rule_option classes names draft left option >>= λ next. rule_options classes next.1 next.0 n (option_texts outside after)) less
 
 -- after an option that is read
-pub options-next : (classes : List Class) (whole : Result (Draft × List (List ℕ)) Fault) (names later : List (List ℕ)) (draft next : Draft) (text option behind : List ℕ) (left : ℕ)
-    → whole ≡ rule_options classes names draft (length text + 1) (option_texts outside text) → left ≡ length text + 1 → IsFirstOption text option behind
+pub options-next : (classes : List Class) (whole : Result (Draft × List (List ℕ)) Fault) (names later : List (List ℕ)) (draft next : Draft) (text option after : List ℕ) (left : ℕ)
+    → whole ≡ rule_options classes names draft (length text + 1) (option_texts outside text) → left ≡ length text + 1 → IsFirstOption text option after
     → rule_option classes names draft left option ≡ Ok (next, later)
-    → whole ≡ rule_options classes later next (length behind + 1) (option_texts outside behind)
-options-next classes whole names later draft next text option behind left so_far is cut read = so_far ∙ options-step classes names draft text option behind left is cut ∙ rw read refl
+    → whole ≡ rule_options classes later next (length after + 1) (option_texts outside after)
+options-next classes whole names later draft next text option after left so_far is cut read = so_far ∙ options-step classes names draft text option after left is cut ∙ rw read refl
 
 -- at an option that stops the reader
-pub options-stop : (classes : List Class) (stop : Stop Fault) (whole : Result (Draft × List (List ℕ)) Fault) (names later : List (List ℕ)) (draft : Draft) (text option behind : List ℕ) (left : ℕ)
-    → whole ≡ rule_options classes names draft (length text + 1) (option_texts outside text) → left ≡ length text + 1 → IsFirstOption text option behind
+pub options-stop : (classes : List Class) (stop : Stop Fault) (whole : Result (Draft × List (List ℕ)) Fault) (names later : List (List ℕ)) (draft : Draft) (text option after : List ℕ) (left : ℕ)
+    → whole ≡ rule_options classes names draft (length text + 1) (option_texts outside text) → left ≡ length text + 1 → IsFirstOption text option after
     → GivesWith {X = Draft} (Err stop) later (rule_option classes names draft left option)
     → GivesWith {X = Draft} (Err stop) later whole
-options-stop classes NoMemory whole names later draft text option behind left so_far is cut read = tt
-options-stop classes (Wrong why) whole names later draft text option behind left so_far is cut read = so_far ∙ options-step classes names draft text option behind left is cut ∙ rw read refl
+options-stop classes NoMemory whole names later draft text option after left so_far is cut read = tt
+options-stop classes (Wrong why) whole names later draft text option after left so_far is cut read = so_far ∙ options-step classes names draft text option after left is cut ∙ rw read refl
 
 -- after the last option only blanks may come
 abbrev pub at_end : Bool → Draft → List (List ℕ) → Result (Draft × List (List ℕ)) Fault

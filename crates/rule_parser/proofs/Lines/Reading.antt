@@ -17,7 +17,7 @@ use Rattle.rule_types.specs.declared.rule.Rule.{Rule}
 use Rattle.rule_parser.specs.Bits.{GivesWith, IsGivenWith}
 use Rattle.rule_parser.specs.Drafts.{empty_draft}
 use Rattle.rule_parser.specs.Faults.{stop_fault}
-use Rattle.rule_parser.specs.Headers.{IsAddressWord, IsGiven, IsHeader, IsPortWord, behind_header, from_word}
+use Rattle.rule_parser.specs.Headers.{IsAddressWord, IsGiven, IsHeader, IsPortWord, after_header, from_word}
 use Rattle.rule_parser.specs.RuleLine.{IsClassOf, rule_options, rule_body, IsRuleLine, IsAnswered}
 use Rattle.rule_types.specs.Sound.{IsSound}
 use Rattle.rule_parser.specs.Written.{outside, option_texts}
@@ -40,7 +40,7 @@ options-class classes names later draft inside few read =
 
 -- after a header that is right, and at one that is wrong
 pub line-body : (variables : Variables) (classes : List Class) (names later : List (List ℕ)) (line : List ℕ) (header : Header) (answer : Result Rule (Stop Fault))
-    → IsHeader variables line (Ok header) → GivesWith answer later (rule_body classes names header (behind_header line))
+    → IsHeader variables line (Ok header) → GivesWith answer later (rule_body classes names header (after_header line))
     → IsGivenWith answer later (IsRuleLine variables classes names line)
 unfolding IsRuleLine
 line-body variables classes names later line header (Ok rule) is gives = inl (header, is, sym gives)
@@ -102,6 +102,6 @@ pub line-sound : (variables : Variables) (classes : List Class) (names later : L
     → IsRuleLine variables classes names line (Ok (rule, later)) → IsSound classes rule
 unfolding IsRuleLine
 line-sound variables classes names later line rule few (inl (header, is, read)) =
-    let sound = rule_body-sound classes names header (behind_header line) (header-short variables line header is) few in
+    let sound = rule_body-sound classes names header (after_header line) (header-short variables line header is) few in
     (rw (sym read) at sound).0
 line-sound variables classes names later line rule few (inr (why, is, never)) = cc

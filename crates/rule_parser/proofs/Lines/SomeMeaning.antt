@@ -21,7 +21,7 @@ use Rattle.rule_parser.specs.declared.fault.RuleFault.{RuleFault}
 use Rattle.rule_parser.specs.declared.fault.RuleKind.TheVariants as kind
 use Rattle.rule_parser.specs.declared.header.Header.{Header}
 use Rattle.rule_parser.specs.Faults.{plain, rule_fault}
-use Rattle.rule_parser.specs.Headers.{After, IsAddressWord, IsHeader, IsPortWord, IsReadAs, IsWord, action_of, behind_header, direction_of, expanded_word, from_word, proto_of}
+use Rattle.rule_parser.specs.Headers.{After, IsAddressWord, IsHeader, IsPortWord, IsReadAs, IsWord, action_of, after_header, direction_of, expanded_word, from_word, proto_of}
 use Rattle.rule_parser.specs.RuleLine.{HasMeaning, IsRuleLine, rule_body}
 
 -- ---- headers
@@ -29,7 +29,7 @@ use Rattle.rule_parser.specs.RuleLine.{HasMeaning, IsRuleLine, rule_body}
 -- one step after another
 after : {X Y : Type 0} (first : Result X Fault → Type 0) (next : X → Result Y Fault → Type 0) → ((given : Result X Fault) × first given)
     → ((x : X) → (answer : Result Y Fault) × next x answer) → (answer : Result Y Fault) × After first next answer
-after first next (Ok x, is) more = let behind = more x in (behind.0, inl (x, is, behind.1))
+after first next (Ok x, is) more = let following = more x in (following.0, inl (x, is, following.1))
 after first next (Err why, is) more = (Err why, inr (why, is, refl))
 
 module _ {B : Type 0} (reads : List ℕ → Option B) (are_parts : AreParts reads) (none : Fault) where
@@ -67,8 +67,8 @@ module _ (variables : Variables) (line : List ℕ) where
   abbrev PortAt : ℕ → Result (List (Part (Bounds ℕ))) Fault → Type 0
   PortAt place = IsPortWord variables (from_word place line)
 
-  abbrev Behind6 : Action → Proto → List (Part AddrBounds) → List (Part (Bounds ℕ)) → Bool → List (Part AddrBounds) → List (Part (Bounds ℕ)) → Result Header Fault → Type 0
-  Behind6 action proto src sports both dst dports answer =
+  abbrev After6 : Action → Proto → List (Part AddrBounds) → List (Part (Bounds ℕ)) → Bool → List (Part AddrBounds) → List (Part (Bounds ℕ)) → Result Header Fault → Type 0
+  After6 action proto src sports both dst dports answer =
       answer ≡ Ok (record {
         action = action;
         proto = proto;
@@ -79,51 +79,51 @@ module _ (variables : Variables) (line : List ℕ) where
         both = both;
       })
 
-  abbrev Behind5 : Action → Proto → List (Part AddrBounds) → List (Part (Bounds ℕ)) → Bool → List (Part AddrBounds) → Result Header Fault → Type 0
-  Behind5 action proto src sports both dst = After (PortAt 6) (Behind6 action proto src sports both dst)
+  abbrev After5 : Action → Proto → List (Part AddrBounds) → List (Part (Bounds ℕ)) → Bool → List (Part AddrBounds) → Result Header Fault → Type 0
+  After5 action proto src sports both dst = After (PortAt 6) (After6 action proto src sports both dst)
 
-  abbrev Behind4 : Action → Proto → List (Part AddrBounds) → List (Part (Bounds ℕ)) → Bool → Result Header Fault → Type 0
-  Behind4 action proto src sports both = After (AddressAt 5) (Behind5 action proto src sports both)
+  abbrev After4 : Action → Proto → List (Part AddrBounds) → List (Part (Bounds ℕ)) → Bool → Result Header Fault → Type 0
+  After4 action proto src sports both = After (AddressAt 5) (After5 action proto src sports both)
 
-  abbrev Behind3 : Action → Proto → List (Part AddrBounds) → List (Part (Bounds ℕ)) → Result Header Fault → Type 0
-  Behind3 action proto src sports = After (IsWord direction_of (from_word 4 line)) (Behind4 action proto src sports)
+  abbrev After3 : Action → Proto → List (Part AddrBounds) → List (Part (Bounds ℕ)) → Result Header Fault → Type 0
+  After3 action proto src sports = After (IsWord direction_of (from_word 4 line)) (After4 action proto src sports)
 
-  abbrev Behind2 : Action → Proto → List (Part AddrBounds) → Result Header Fault → Type 0
-  Behind2 action proto src = After (PortAt 3) (Behind3 action proto src)
+  abbrev After2 : Action → Proto → List (Part AddrBounds) → Result Header Fault → Type 0
+  After2 action proto src = After (PortAt 3) (After3 action proto src)
 
-  abbrev Behind1 : Action → Proto → Result Header Fault → Type 0
-  Behind1 action proto = After (AddressAt 2) (Behind2 action proto)
+  abbrev After1 : Action → Proto → Result Header Fault → Type 0
+  After1 action proto = After (AddressAt 2) (After2 action proto)
 
-  abbrev Behind0 : Action → Result Header Fault → Type 0
-  Behind0 action = After (IsWord proto_of (from_word 1 line)) (Behind1 action)
+  abbrev After0 : Action → Result Header Fault → Type 0
+  After0 action = After (IsWord proto_of (from_word 1 line)) (After1 action)
 
-  behind5 : (action : Action) (proto : Proto) (src : List (Part AddrBounds)) (sports : List (Part (Bounds ℕ))) (both : Bool) (dst : List (Part AddrBounds))
-      → (answer : Result Header Fault) × Behind5 action proto src sports both dst answer
-  behind5 action proto src sports both dst =
-      after (PortAt 6) (Behind6 action proto src sports both dst) (port_word variables (from_word 6 line)) (λ dports. (_, refl))
+  after5 : (action : Action) (proto : Proto) (src : List (Part AddrBounds)) (sports : List (Part (Bounds ℕ))) (both : Bool) (dst : List (Part AddrBounds))
+      → (answer : Result Header Fault) × After5 action proto src sports both dst answer
+  after5 action proto src sports both dst =
+      after (PortAt 6) (After6 action proto src sports both dst) (port_word variables (from_word 6 line)) (λ dports. (_, refl))
 
-  behind3 : (action : Action) (proto : Proto) (src : List (Part AddrBounds)) (sports : List (Part (Bounds ℕ))) → (answer : Result Header Fault) × Behind3 action proto src sports answer
-  behind3 action proto src sports =
-      after (IsWord direction_of (from_word 4 line)) (Behind4 action proto src sports) (_, refl) (λ both.
-      after (AddressAt 5) (Behind5 action proto src sports both) (address_word variables (from_word 5 line)) (behind5 action proto src sports both))
+  after3 : (action : Action) (proto : Proto) (src : List (Part AddrBounds)) (sports : List (Part (Bounds ℕ))) → (answer : Result Header Fault) × After3 action proto src sports answer
+  after3 action proto src sports =
+      after (IsWord direction_of (from_word 4 line)) (After4 action proto src sports) (_, refl) (λ both.
+      after (AddressAt 5) (After5 action proto src sports both) (address_word variables (from_word 5 line)) (after5 action proto src sports both))
 
-  behind1 : (action : Action) (proto : Proto) → (answer : Result Header Fault) × Behind1 action proto answer
-  behind1 action proto =
-      after (AddressAt 2) (Behind2 action proto) (address_word variables (from_word 2 line)) (λ src.
-      after (PortAt 3) (Behind3 action proto src) (port_word variables (from_word 3 line)) (behind3 action proto src))
+  after1 : (action : Action) (proto : Proto) → (answer : Result Header Fault) × After1 action proto answer
+  after1 action proto =
+      after (AddressAt 2) (After2 action proto) (address_word variables (from_word 2 line)) (λ src.
+      after (PortAt 3) (After3 action proto src) (port_word variables (from_word 3 line)) (after3 action proto src))
 
   header : (answer : Result Header Fault) × IsHeader variables line answer
   unfolding IsHeader
   header =
-      after (IsWord action_of (from_word 0 line)) Behind0 (_, refl) (λ action.
-      after (IsWord proto_of (from_word 1 line)) (Behind1 action) (_, refl) (behind1 action))
+      after (IsWord action_of (from_word 0 line)) After0 (_, refl) (λ action.
+      after (IsWord proto_of (from_word 1 line)) (After1 action) (_, refl) (after1 action))
 
 -- a line is a rule, or has a fault
 rule_line : (variables : Variables) (classes : List Class) (names : List (List ℕ)) (line : List ℕ)
     → (answer : Result (Rule × List (List ℕ)) Fault) × IsRuleLine variables classes names line answer
 unfolding IsRuleLine
 rule_line variables classes names line =
-    after (IsHeader variables line) (λ (header : Header) (answer : Result (Rule × List (List ℕ)) Fault). answer ≡ rule_body classes names header (behind_header line))
+    after (IsHeader variables line) (λ (header : Header) (answer : Result (Rule × List (List ℕ)) Fault). answer ≡ rule_body classes names header (after_header line))
     (header variables line) (λ given. (_, refl))
 
 -- ---- lines

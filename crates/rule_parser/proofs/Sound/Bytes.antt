@@ -5,7 +5,7 @@ use Rattle.std.proofs.lemmas.Bool.Decides.{nat_tests}
 use Rattle.std.proofs.lemmas.Grind.{common_steps}
 use Rattle.std.proofs.lemmas.Int.{ints}
 use Rattle.std.proofs.lemmas.List.Elements.{Contains-append_right}
-use Rattle.net_lists.specs.Cutting.{comma_parts, first_word, behind_word}
+use Rattle.net_lists.specs.Cutting.{comma_parts, first_word, after_word}
 use Rattle.net_lists.specs.Numbers.{number_in, signed_in}
 use Rattle.net_lists.specs.Stops.{or_kind}
 use Rattle.rule_parser.specs.declared.byte_words.Which.{Which}
@@ -18,7 +18,7 @@ use Rattle.rule_types.specs.declared.option.Base.TheVariants as base
 use Rattle.rule_types.specs.declared.option.Cmp.{Cmp}
 use Rattle.rule_types.specs.declared.option.Num.{Num}
 use Rattle.rule_types.specs.declared.option.Opt.{Opt}
-use Rattle.rule_parser.specs.ByteOptions.{Part, first_part, next_part, no_words, once_only, with_times, with_post, with_multiple, shared_word, jump_word, extract_word, word_of, words_of, lacks_string, fetch_of, extract_of, Comparison, comparison_of, operator_of, offset_of, byte_test, byte_test_option, byte_jump, byte_jump_option, Extraction, with_name, byte_extract, with_extraction, byte_extract_option, data_words, parts_behind, isdataat, isdataat_option}
+use Rattle.rule_parser.specs.ByteOptions.{Part, first_part, next_part, no_words, once_only, with_times, with_post, with_multiple, shared_word, jump_word, extract_word, word_of, words_of, lacks_string, fetch_of, extract_of, Comparison, comparison_of, operator_of, offset_of, byte_test, byte_test_option, byte_jump, byte_jump_option, Extraction, with_name, byte_extract, with_extraction, byte_extract_option, data_words, parts_after, isdataat, isdataat_option}
 use Rattle.rule_parser.specs.Contents.{negation}
 use Rattle.rule_parser.specs.Drafts.{kept_count, kept}
 use Rattle.net_lists.specs.Variables.{is_name}
@@ -38,8 +38,8 @@ record AreWords (words : Words) : Type 0 where
 none-words : AreWords no_words
 none-words = record { base = tt; times = tt; align = tt; post = tt }
 
-once-words : (stands : Bool) (next : Words) → AreWords next → IfOk (once_only stands next) AreWords
-once-words stands next h = if_ok AreWords stands (Err OptionValue) (Ok next) (λ _. tt) (λ _. h)
+once-words : (is_given : Bool) (next : Words) → AreWords next → IfOk (once_only is_given next) AreWords
+once-words is_given next h = if_ok AreWords is_given (Err OptionValue) (Ok next) (λ _. tt) (λ _. h)
 
 times-words : (words : Words) (number : List ℕ) → AreWords words → IfOk (with_times words number) AreWords
 unfolding with_times
@@ -80,23 +80,23 @@ shared-words words part h =
 jump-words : (words : Words) (part : List ℕ) → AreWords words → IfOk (jump_word words part) AreWords
 unfolding jump_word
 jump-words words part h =
-    if_ok AreWords (bytes_eq (first_word part) (codes "multiplier")) _ _ (λ _. times-words words (behind_word part) h) (λ _.
-    if_ok AreWords (bytes_eq (first_word part) (codes "post_offset")) _ _ (λ _. post-words words (behind_word part) h) (λ _.
+    if_ok AreWords (bytes_eq (first_word part) (codes "multiplier")) _ _ (λ _. times-words words (after_word part) h) (λ _.
+    if_ok AreWords (bytes_eq (first_word part) (codes "post_offset")) _ _ (λ _. post-words words (after_word part) h) (λ _.
     if_ok AreWords (bytes_eq part (codes "align")) _ _ (λ _. aligned-words words 4 refl h) (λ _.
     if_ok AreWords (bytes_eq part (codes "from_beginning")) _ _ (λ _. once-words words.beginning (record words { beginning = true }) (record { base = h.base; times = h.times; align = h.align; post = h.post })) (λ _. shared-words words part h))))
 
 extract-words : (words : Words) (part : List ℕ) → AreWords words → IfOk (extract_word words part) AreWords
 unfolding extract_word
 extract-words words part h =
-    if_ok AreWords (bytes_eq (first_word part) (codes "multiplier")) _ _ (λ _. times-words words (behind_word part) h) (λ _.
-    if_ok AreWords (bytes_eq (first_word part) (codes "align")) _ _ (λ _. multiple-words words (behind_word part) h) (λ _. shared-words words part h))
+    if_ok AreWords (bytes_eq (first_word part) (codes "multiplier")) _ _ (λ _. times-words words (after_word part) h) (λ _.
+    if_ok AreWords (bytes_eq (first_word part) (codes "align")) _ _ (λ _. multiple-words words (after_word part) h) (λ _. shared-words words part h))
 
 word_of-words : (which : Which) (words : Words) (part : List ℕ) → AreWords words → IfOk (word_of which words part) AreWords
 word_of-words Test words part h = shared-words words part h
 word_of-words Jump words part h = jump-words words part h
 word_of-words Extract words part h = extract-words words part h
 
-words_of-words : (which : Which) (behind : Option (List ℕ)) → IfOk (words_of which behind) AreWords
+words_of-words : (which : Which) (after : Option (List ℕ)) → IfOk (words_of which after) AreWords
 unfolding words_of
 words_of-words which None = none-words
 words_of-words which (Some text) = fold_ok AreWords (word_of which) (word_of-words which) no_words none-words (comma_parts text)
@@ -163,46 +163,46 @@ module _ (classes : ℕ) (draft : Draft) (sound : IsSoundDraft classes draft) wh
       then_ok (IsNumBelow (length draft.names) (pos 0) (pos 4294967295)) IsCompared (number_or_named 0 4294967295 draft.names against.left against.text) _ (number_or_named-below 0 4294967295 draft.names against.left against.text) (λ number below. (below, tests)))))
 
   -- an option that may come after the names of the draft, and is kept
-  Stands : Opt → Type 0
-  Stands option = IsOption (names_after [] draft.opts) option × IsPlain option
+  MayCome : Opt → Type 0
+  MayCome option = IsOption (names_after [] draft.opts) option × IsPlain option
 
-  stands-sound : (option : Opt) → Stands option → IfOk (kept draft option) (IsSoundDraft classes)
-  unfolding Stands
-  stands-sound option h = kept-sound classes draft option sound h.0 h.1
+  is_given-sound : (option : Opt) → MayCome option → IfOk (kept draft option) (IsSoundDraft classes)
+  unfolding MayCome
+  is_given-sound option h = kept-sound classes draft option sound h.0 h.1
 
-  byte_test-stands : (left : ℕ) (value : List ℕ) → IfOk (byte_test draft.names left value) Stands
-  unfolding byte_test IsCompared Stands
-  byte_test-stands left value =
+  byte_test-is_given : (left : ℕ) (value : List ℕ) → IfOk (byte_test draft.names left value) MayCome
+  unfolding byte_test IsCompared MayCome
+  byte_test-is_given left value =
       let names = names_after [] draft.opts in
       let count = first_part left value in
-      then_ok (IsIn 1 10) Stands (or_kind OptionValue (number_in 1 10 count.text)) _ (count_ok count.text) (λ bytes within.
-      then_ok IsCompared Stands (comparison_of draft.names count) _ (comparison_ok count) (λ comparison compared.
-      then_ok (λ _. Unit {0}) Stands (next_part comparison.part) _ (any_ok (next_part comparison.part)) (λ place _.
-      then_ok (IsNumBelow (length draft.names) (negsuc 65534) (pos 65535)) Stands (offset_of draft.names place) _ (offset_ok place) (λ offset below.
-      then_ok AreWords Stands (words_of Test place.behind) _ (words_of-words Test place.behind) (λ words h.
-      then_ok (IsFetch names) Stands (fetch_of bytes offset words) _ (fetch-of names (length draft.names) bytes offset words sound.kept.named within below h) (λ fetch is_fetch.
+      then_ok (IsIn 1 10) MayCome (or_kind OptionValue (number_in 1 10 count.text)) _ (count_ok count.text) (λ bytes within.
+      then_ok IsCompared MayCome (comparison_of draft.names count) _ (comparison_ok count) (λ comparison compared.
+      then_ok (λ _. Unit {0}) MayCome (next_part comparison.part) _ (any_ok (next_part comparison.part)) (λ place _.
+      then_ok (IsNumBelow (length draft.names) (negsuc 65534) (pos 65535)) MayCome (offset_of draft.names place) _ (offset_ok place) (λ offset below.
+      then_ok AreWords MayCome (words_of Test place.after) _ (words_of-words Test place.after) (λ words h.
+      then_ok (IsFetch names) MayCome (fetch_of bytes offset words) _ (fetch-of names (length draft.names) bytes offset words sound.kept.named within below h) (λ fetch is_fetch.
       ((is_fetch, num-named names (length draft.names) (pos 0) (pos 4294967295) comparison.value sound.kept.named compared.0, compared.1), (refl, λ names. refl))))))))
 
   pub byte_test-sound : (left : ℕ) (value : List ℕ) → IfOk (byte_test_option draft left value) (IsSoundDraft classes)
   unfolding byte_test_option
-  byte_test-sound left value = then_ok Stands (IsSoundDraft classes) (byte_test draft.names left value) (kept draft) (byte_test-stands left value) stands-sound
+  byte_test-sound left value = then_ok MayCome (IsSoundDraft classes) (byte_test draft.names left value) (kept draft) (byte_test-is_given left value) is_given-sound
 
-  byte_jump-stands : (left : ℕ) (value : List ℕ) → IfOk (byte_jump draft.names left value) Stands
-  unfolding byte_jump Stands
-  byte_jump-stands left value =
+  byte_jump-is_given : (left : ℕ) (value : List ℕ) → IfOk (byte_jump draft.names left value) MayCome
+  unfolding byte_jump MayCome
+  byte_jump-is_given left value =
       let names = names_after [] draft.opts in
       let count = first_part left value in
-      then_ok (IsIn 1 10) Stands (or_kind OptionValue (number_in 1 10 count.text)) _ (count_ok count.text) (λ bytes within.
-      then_ok (λ _. Unit {0}) Stands (next_part count) _ (any_ok (next_part count)) (λ place _.
-      then_ok (IsNumBelow (length draft.names) (negsuc 65534) (pos 65535)) Stands (offset_of draft.names place) _ (offset_ok place) (λ offset below.
-      then_ok AreWords Stands (words_of Jump place.behind) _ (words_of-words Jump place.behind) (λ words h.
-      then_ok (IsFetch names) Stands (fetch_of bytes offset words) _ (fetch-of names (length draft.names) bytes offset words sound.kept.named within below h) (λ fetch is_fetch.
+      then_ok (IsIn 1 10) MayCome (or_kind OptionValue (number_in 1 10 count.text)) _ (count_ok count.text) (λ bytes within.
+      then_ok (λ _. Unit {0}) MayCome (next_part count) _ (any_ok (next_part count)) (λ place _.
+      then_ok (IsNumBelow (length draft.names) (negsuc 65534) (pos 65535)) MayCome (offset_of draft.names place) _ (offset_ok place) (λ offset below.
+      then_ok AreWords MayCome (words_of Jump place.after) _ (words_of-words Jump place.after) (λ words h.
+      then_ok (IsFetch names) MayCome (fetch_of bytes offset words) _ (fetch-of names (length draft.names) bytes offset words sound.kept.named within below h) (λ fetch is_fetch.
       let post = unwrapped_post words.post h.post in
       ((is_fetch, unwrapped words.times 1 65535 (omega arith) h.times, post.0, post.1), (refl, λ names. refl)))))))
 
   pub byte_jump-sound : (left : ℕ) (value : List ℕ) → IfOk (byte_jump_option draft left value) (IsSoundDraft classes)
   unfolding byte_jump_option
-  byte_jump-sound left value = then_ok Stands (IsSoundDraft classes) (byte_jump draft.names left value) (kept draft) (byte_jump-stands left value) stands-sound
+  byte_jump-sound left value = then_ok MayCome (IsSoundDraft classes) (byte_jump draft.names left value) (kept draft) (byte_jump-is_given left value) is_given-sound
 
   -- the names after one more: each is one of those before, or the new one
   name_ok : (name : List ℕ) → IfOk (with_name draft.names name (place_among name draft.names)) (λ found. (length found.0 ≤ 2) × (found.1 < 2) × ((k : ℕ) → k < length found.0 → (k < length draft.names) ⊎ (found.1 ≡ k)))
@@ -244,7 +244,7 @@ module _ (classes : ℕ) (draft : Draft) (sound : IsSoundDraft classes draft) wh
       then_ok (λ _. Unit {0}) IsExtraction (next_part count) _ (any_ok (next_part count)) (λ place _.
       then_ok (IsNumBelow (length draft.names) (negsuc 65534) (pos 65535)) IsExtraction (offset_of draft.names place) _ (offset_ok place) (λ offset below.
       then_ok (λ _. Unit {0}) IsExtraction (next_part place) _ (any_ok (next_part place)) (λ name _.
-      then_ok AreWords IsExtraction (cond (is_name name.text) (words_of Extract name.behind) (Err OptionValue)) _ (if_ok AreWords (is_name name.text) (words_of Extract name.behind) (Err OptionValue) (λ _. words_of-words Extract name.behind) (λ _. tt)) (λ words h.
+      then_ok AreWords IsExtraction (cond (is_name name.text) (words_of Extract name.after) (Err OptionValue)) _ (if_ok AreWords (is_name name.text) (words_of Extract name.after) (Err OptionValue) (λ _. words_of-words Extract name.after) (λ _. tt)) (λ words h.
       then_ok (IsFetch names) IsExtraction (fetch_of bytes offset words) _ (fetch-of names (length draft.names) bytes offset words sound.kept.named within below h) (λ fetch is_fetch. record { fetch = is_fetch; words = h }))))))
 
   with_extraction-sound : (found : Extraction) → IsExtraction found → IfOk (with_extraction draft found) (IsSoundDraft classes)
@@ -265,16 +265,16 @@ module _ (classes : ℕ) (draft : Draft) (sound : IsSoundDraft classes draft) wh
   unfolding byte_extract_option
   byte_extract-sound left value = then_ok IsExtraction (IsSoundDraft classes) (byte_extract draft.names left value) (with_extraction draft) (byte_extract-ok left value) with_extraction-sound
 
-  isdataat-stands : (left : ℕ) (value : List ℕ) → IfOk (isdataat draft.names left value) Stands
-  unfolding isdataat Stands
-  isdataat-stands left value =
+  isdataat-is_given : (left : ℕ) (value : List ℕ) → IfOk (isdataat draft.names left value) MayCome
+  unfolding isdataat MayCome
+  isdataat-is_given left value =
       let names = names_after [] draft.opts in
       let place = first_part left value in
       let sign = negation place.text in
-      then_ok (IsNumBelow (length draft.names) (pos 0) (pos 65535)) Stands (number_or_named 0 65535 draft.names (place.left - cond sign.0 1 0) sign.1) _ (number_or_named-below 0 65535 draft.names (place.left - cond sign.0 1 0) sign.1) (λ at below.
-      then_ok (λ _. Unit {0}) Stands (data_words (parts_behind place.behind)) _ (any_ok (data_words (parts_behind place.behind))) (λ relative _.
+      then_ok (IsNumBelow (length draft.names) (pos 0) (pos 65535)) MayCome (number_or_named 0 65535 draft.names (place.left - cond sign.0 1 0) sign.1) _ (number_or_named-below 0 65535 draft.names (place.left - cond sign.0 1 0) sign.1) (λ at below.
+      then_ok (λ _. Unit {0}) MayCome (data_words (parts_after place.after)) _ (any_ok (data_words (parts_after place.after))) (λ relative _.
       (num-named names (length draft.names) (pos 0) (pos 65535) at sound.kept.named below, (refl, λ names. refl))))
 
   pub isdataat-sound : (left : ℕ) (value : List ℕ) → IfOk (isdataat_option draft left value) (IsSoundDraft classes)
   unfolding isdataat_option
-  isdataat-sound left value = then_ok Stands (IsSoundDraft classes) (isdataat draft.names left value) (kept draft) (isdataat-stands left value) stands-sound
+  isdataat-sound left value = then_ok MayCome (IsSoundDraft classes) (isdataat draft.names left value) (kept draft) (isdataat-is_given left value) is_given-sound

@@ -274,7 +274,7 @@ unfolding fast_pattern_option
 fast_pattern-sound classes draft sound value =
     then_ok (λ held. (draft.fast ≡ false) × (draft.held ≡ Some held)) (IsSoundDraft classes) (cond draft.fast (Err Misplaced) (or_kind Misplaced draft.held)) _ (first draft.fast draft.held) (λ held found.
     then_ok (IsMode (length held.content.bytes)) (IsSoundDraft classes) (fast_mode (length held.content.bytes) value) _ (fast_mode-ok (length held.content.bytes) value) (λ mode fits.
-    if_ok (IsSoundDraft classes) (bars_fast mode held.content) (Err OptionValue) _ (λ _. tt) (λ stands.
+    if_ok (IsSoundDraft classes) (bars_fast mode held.content) (Err OptionValue) _ (λ _. tt) (λ is_given.
     let Kept : Option Held → Type 0 = λ o. AreKept draft.opts o draft.names draft.fast in
     let before : AreKept draft.opts (Some held) draft.names draft.fast = subst Kept found.1 sound.kept in
     record {
@@ -285,7 +285,7 @@ fast_pattern-sound classes draft sound value =
         held = record {
           place = before.held.place;
           known = before.held.known;
-          content = (before.held.content.0, before.held.content.1, before.held.content.2, fast-on held.content mode held.content.negated refl fits stands);
+          content = (before.held.content.0, before.held.content.1, before.held.content.2, fast-on held.content mode held.content.negated refl fits is_given);
           placeless = only-on mode held.content.negated;
         };
         count = before.count;
@@ -298,11 +298,11 @@ fast_pattern-sound classes draft sound value =
       period = sound.period;
     })))
   where
-    first : (stands : Bool) (o : Option Held) → IfOk (cond stands (Err Misplaced) (or_kind Misplaced o)) (λ held. (stands ≡ false) × (o ≡ Some held))
+    first : (is_given : Bool) (o : Option Held) → IfOk (cond is_given (Err Misplaced) (or_kind Misplaced o)) (λ held. (is_given ≡ false) × (o ≡ Some held))
     first true o = tt
     first false None = tt
     first false (Some held) = (refl, refl)
 
-    one : (count : ℕ) (before after stands : Bool) → stands ≡ false → count + cond before 1 0 ≤ cond stands 1 0 → count + cond after 1 0 ≤ 1
-    one count before true stands e h = let number : Bool → ℕ = λ b. cond b 1 0 in omega (arith, ap number e)
-    one count before false stands e h = let number : Bool → ℕ = λ b. cond b 1 0 in omega (arith, ap number e)
+    one : (count : ℕ) (before after is_given : Bool) → is_given ≡ false → count + cond before 1 0 ≤ cond is_given 1 0 → count + cond after 1 0 ≤ 1
+    one count before true is_given e h = let number : Bool → ℕ = λ b. cond b 1 0 in omega (arith, ap number e)
+    one count before false is_given e h = let number : Bool → ℕ = λ b. cond b 1 0 in omega (arith, ap number e)

@@ -16,31 +16,31 @@ use Rattle.rule_types.specs.declared.option.Opt.TheVariants as opt
 use Rattle.rule_parser.proofs.Sound.Steps.{if_ok}
 use Rattle.rule_parser.specs.Contents.{is_only}
 use Rattle.rule_parser.specs.Drafts.{empty_draft, kept_count, kept, with_held}
-use Rattle.rule_types.specs.Sound.{IsContent, IsOption, AreOptions, names_behind, is_chosen, is_fast}
+use Rattle.rule_types.specs.Sound.{IsContent, IsOption, AreOptions, names_after_one, is_chosen, is_fast}
 
 -- the names that are extracted after these options
 abbrev pub names_after : List ℕ → List Opt → List ℕ
 names_after names [] = names
-names_after names (option ∷ rest) = names_after (names_behind names option) rest
+names_after names (option ∷ rest) = names_after (names_after_one names option) rest
 
 pub names_after-append : (names : List ℕ) (xs ys : List Opt) → names_after names (xs ++ ys) ≡ names_after (names_after names xs) ys
 names_after-append names [] ys = refl
-names_after-append names (x ∷ xs) ys = names_after-append (names_behind names x) xs ys
+names_after-append names (x ∷ xs) ys = names_after-append (names_after_one names x) xs ys
 
 pub AreOptions-append : (names : List ℕ) (xs ys : List Opt) → AreOptions names xs → AreOptions (names_after names xs) ys → AreOptions names (xs ++ ys)
 AreOptions-append names [] ys h k = k
-AreOptions-append names (x ∷ xs) ys h k = (h.0, AreOptions-append (names_behind names x) xs ys h.1 k)
+AreOptions-append names (x ∷ xs) ys h k = (h.0, AreOptions-append (names_after_one names x) xs ys h.1 k)
 
 -- a content in its place: it extracts no name
 pub AreOptions-insert : (names : List ℕ) (xs : List Opt) (place : ℕ) (content : Content) → AreOptions names xs → IsContent (names_after names (take place xs)) content → AreOptions names (insert xs place (opt.Content content))
 AreOptions-insert names xs zero content h k = (k, h)
 AreOptions-insert names [] (suc place) content h k = (k, h)
-AreOptions-insert names (x ∷ xs) (suc place) content h k = (h.0, AreOptions-insert (names_behind names x) xs place content h.1 k)
+AreOptions-insert names (x ∷ xs) (suc place) content h k = (h.0, AreOptions-insert (names_after_one names x) xs place content h.1 k)
 
 pub names_after-insert : (names : List ℕ) (xs : List Opt) (place : ℕ) (content : Content) → names_after names (insert xs place (opt.Content content)) ≡ names_after names xs
 names_after-insert names xs zero content = refl
 names_after-insert names [] (suc place) content = refl
-names_after-insert names (x ∷ xs) (suc place) content = names_after-insert (names_behind names x) xs place content
+names_after-insert names (x ∷ xs) (suc place) content = names_after-insert (names_after_one names x) xs place content
 
 -- each of the first `count` names is extracted
 abbrev pub AreNamed : List ℕ → ℕ → Type 0
@@ -104,7 +104,7 @@ empty-sound classes = record {
 
 -- an option that is no fast pattern and extracts no name
 abbrev pub IsPlain : Opt → Type 0
-IsPlain option = (is_fast option ≡ false) × ((names : List ℕ) → names_behind names option ≡ names)
+IsPlain option = (is_fast option ≡ false) × ((names : List ℕ) → names_after_one names option ≡ names)
 
 -- the last content after one more option
 held-kept : (opts : List Opt) (option : Opt) (held : Option Held) → IfSome held (IsHeld opts) → IfSome held (IsHeld (opts ++ option ∷ []))
@@ -125,14 +125,14 @@ held-kept opts option (Some held) h =
 
 -- one more option, which may extract a name
 pub kept-more : (opts : List Opt) (held : Option Held) (names after : List (List ℕ)) (fast : Bool) (option : Opt) → AreKept opts held names fast
-    → IsOption (names_after [] opts) option → is_fast option ≡ false → AreNamed (names_behind (names_after [] opts) option) (length after) → length after ≤ 2
+    → IsOption (names_after [] opts) option → is_fast option ≡ false → AreNamed (names_after_one (names_after [] opts) option) (length after) → length after ≤ 2
     → nat_le 64 (length opts + count_held held) ≡ false → AreKept (opts ++ option ∷ []) held after fast
 kept-more opts held names after fast option sound is_option plain named few room =
-    let behind : names_after [] (opts ++ option ∷ []) ≡ names_behind (names_after [] opts) option = names_after-append [] opts (option ∷ []) in
+    let following : names_after [] (opts ++ option ∷ []) ≡ names_after_one (names_after [] opts) option = names_after-append [] opts (option ∷ []) in
     let At : List ℕ → Type 0 = λ found. AreNamed found (length after) in
     record {
       options = AreOptions-append [] opts (option ∷ []) sound.options (is_option, tt);
-      named = subst At (sym behind) named;
+      named = subst At (sym following) named;
       few = few;
       held = held-kept opts option held sound.held;
       count = fits (length opts) (length (opts ++ option ∷ [])) (count_held held) (pushed opts option) room;

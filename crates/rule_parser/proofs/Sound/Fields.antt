@@ -13,7 +13,7 @@ use Rattle.rule_types.specs.declared.option.Field.TheVariants as field
 use Rattle.rule_types.specs.declared.option.Opt.{Opt}
 use Rattle.rule_types.specs.declared.option.Opt.TheVariants as opt
 use Rattle.rule_parser.specs.Drafts.{kept}
-use Rattle.rule_parser.specs.Fields.{sign_of, cmp_of, is_equals, is_ttl, allows, signed_compare, end_of, ttl_range, dsize_range, place_of, ttl_to, behind_above, dsize_to, dsize_at, protocol_of, protocol_to, compare_of, field_option, dsize_option, sameip_option}
+use Rattle.rule_parser.specs.Fields.{sign_of, cmp_of, is_equals, is_ttl, allows, signed_compare, end_of, ttl_range, dsize_range, place_of, ttl_to, after_above, dsize_to, dsize_at, protocol_of, protocol_to, compare_of, field_option, dsize_option, sameip_option}
 use Rattle.rule_types.specs.Sound.{most_of, compares, AreEnds, IsOption}
 use Rattle.rule_parser.proofs.Sound.Drafts.{IsSoundDraft, IsPlain, names_after, kept-sound}
 use Rattle.rule_parser.proofs.Sound.Steps.{then_ok, kind_ok, if_ok, some_weaken}
@@ -83,7 +83,7 @@ dsize_to-anywhere text low (Some high) = dsize_range-anywhere low high
 
 dsize_at-anywhere : (text : List ℕ) (place : Option ℕ) → IfOk (dsize_at text place) IsAnywhere
 dsize_at-anywhere text None = signed-anywhere field.Dsize text
-dsize_at-anywhere text (Some place) = dsize_to-anywhere text (take place text) (behind_above (drop (place + 1) text))
+dsize_at-anywhere text (Some place) = dsize_to-anywhere text (take place text) (after_above (drop (place + 1) text))
 
 protocol_of-most : (name : List ℕ) → IfSome (protocol_of name) (λ number. number ≤ 4294967295)
 protocol_of-most name = grind arith

@@ -6,7 +6,7 @@ use Rattle.std.proofs.lemmas.Grind.{common_steps}
 use Rattle.std.proofs.lemmas.Nat.{or_lt}
 use Rattle.edge_io.specs.OnResult.{◌>>=◌}
 use Rattle.net_lists.specs.Cutting.{comma_parts}
-use Rattle.net_lists.specs.Folds.{draft_behind}
+use Rattle.net_lists.specs.Folds.{draft_after}
 use Rattle.net_lists.specs.Numbers.{number_in}
 use Rattle.net_lists.specs.Stops.{or_kind}
 use Rattle.rule_parser.specs.declared.draft.Draft.{Draft}
@@ -34,7 +34,7 @@ use Rattle.rule_parser.proofs.Sound.Values.{IsIn, number_in-within, place_among-
 pub flow-sound : (classes : ℕ) (draft : Draft) → IsSoundDraft classes draft → (value : List ℕ) → IfOk (flow_option draft value) (IsSoundDraft classes)
 unfolding flow_option
 flow-sound classes draft sound value =
-    then_ok (λ _. Unit {0}) (IsSoundDraft classes) (draft_behind flow_word no_flow (comma_parts value)) _ (any_ok (draft_behind flow_word no_flow (comma_parts value))) (λ flow _.
+    then_ok (λ _. Unit {0}) (IsSoundDraft classes) (draft_after flow_word no_flow (comma_parts value)) _ (any_ok (draft_after flow_word no_flow (comma_parts value))) (λ flow _.
     if_ok (IsSoundDraft classes) draft.flow (Err OptionValue) (kept (record draft { flow = true }) (opt.Flow flow)) (λ _. tt) (λ _.
     kept-sound classes (record draft { flow = true }) (opt.Flow flow) (record { kept = sound.kept; msg = sound.msg; gid = sound.gid; sid = sound.sid; class = sound.class; period = sound.period }) tt (refl, λ names. refl)))
 
@@ -137,7 +137,7 @@ bit-sound classes draft sound word.IsNotSet place h = kept-sound classes draft (
 
 -- a draft that is sound, beside at most 1024 names
 abbrev pub IsSoundBeside : ℕ → Draft × List (List ℕ) → Type 0
-IsSoundBeside classes behind = IsSoundDraft classes behind.0 × (length behind.1 ≤ 1024)
+IsSoundBeside classes after = IsSoundDraft classes after.0 × (length after.1 ≤ 1024)
 
 pub beside-sound : (classes : ℕ) (names : List (List ℕ)) (result : Result Draft Fault) → length names ≤ 1024 → IfOk result (IsSoundDraft classes) → IfOk (with_names names result) (IsSoundBeside classes)
 beside-sound classes names (Ok draft) few h = (h, few)
@@ -167,7 +167,7 @@ unfolding flowbits_option flowbits_parts
 flowbits-sound classes names draft few sound value =
     let first = first_part 0 value in
     if_ok (IsSoundBeside classes) (bytes_eq first.text (codes "noalert")) (with_names names (noalert draft first)) (bit_word first.text >>= bit_parts names draft first)
-    (λ _. beside-sound classes names (noalert draft first) few (if_ok (IsSoundDraft classes) (is_some first.behind) (Err OptionValue) (Ok (record draft { noalert = true })) (λ _. tt) (λ _. record { kept = sound.kept; msg = sound.msg; gid = sound.gid; sid = sound.sid; class = sound.class; period = sound.period })))
+    (λ _. beside-sound classes names (noalert draft first) few (if_ok (IsSoundDraft classes) (is_some first.after) (Err OptionValue) (Ok (record draft { noalert = true })) (λ _. tt) (λ _. record { kept = sound.kept; msg = sound.msg; gid = sound.gid; sid = sound.sid; class = sound.class; period = sound.period })))
     (λ _. then_ok (λ _. Unit {0}) (IsSoundBeside classes) (bit_word first.text) (bit_parts names draft first) (any_ok (bit_word first.text)) (λ bit _. bit_parts-sound classes names draft few sound first bit))
 
 -- streams

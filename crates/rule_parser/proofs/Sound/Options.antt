@@ -121,7 +121,7 @@ rule_options-sound classes [] names draft left few sound = (sound, few)
 rule_options-sound classes (text ∷ []) names draft left few sound = if_ok (IsSoundBeside (length classes)) (list_all is_blank text) (Ok (draft, names)) (Err OptionSyntax) (λ _. (sound, few)) (λ _. tt)
 rule_options-sound classes (text ∷ next ∷ more) names draft left few sound =
     then_ok (IsSoundBeside (length classes)) (IsSoundBeside (length classes)) (rule_option classes names draft left text) _ (rule_option-sound classes draft sound names few left text)
-    (λ behind h. rule_options-sound classes (next ∷ more) behind.1 behind.0 (left - (length text + 1)) h.1 h.0)
+    (λ after h. rule_options-sound classes (next ∷ more) after.1 after.0 (left - (length text + 1)) h.1 h.0)
 
 -- the lists of a header have at most 1024 parts each
 pub record AreShort (header : Header) : Type 0 where
@@ -156,7 +156,7 @@ finished-sound classes header draft short_lists sound =
     fits : (all kept held : ℕ) → all ≡ kept + held → kept + held ≤ 64 → all ≤ 64
     fits all kept held e h = omega arith
 
-    one : (all kept held : ℕ) (stands : Bool) → all ≡ kept + held → kept + held ≤ cond stands 1 0 → all ≤ 1
+    one : (all kept held : ℕ) (is_given : Bool) → all ≡ kept + held → kept + held ≤ cond is_given 1 0 → all ≤ 1
     one all kept held true e h = omega arith
     one all kept held false e h = omega arith
 
@@ -173,5 +173,5 @@ pub rule_body-sound : (classes : List Class) (names : List (List ℕ)) (header :
 unfolding rule_body
 rule_body-sound classes names header body short_lists few =
     then_ok (λ _. Unit {0}) (λ found. IsSound classes found.0 × (length found.1 ≤ 1024)) (or_kind OptionSyntax (in_parentheses body)) _ (any_ok (or_kind OptionSyntax (in_parentheses body))) (λ inside _.
-    then_ok (IsSoundBeside (length classes)) (λ found. IsSound classes found.0 × (length found.1 ≤ 1024)) (rule_options classes names empty_draft (length inside + 1) (option_texts outside inside)) _ (rule_options-sound classes (option_texts outside inside) names empty_draft (length inside + 1) few (empty-sound (length classes))) (λ behind h.
-    then_ok (IsSound classes) (λ found. IsSound classes found.0 × (length found.1 ≤ 1024)) (finished classes header behind.0) _ (finished-sound classes header behind.0 short_lists h.0) (λ rule is_sound. (is_sound, h.1))))
+    then_ok (IsSoundBeside (length classes)) (λ found. IsSound classes found.0 × (length found.1 ≤ 1024)) (rule_options classes names empty_draft (length inside + 1) (option_texts outside inside)) _ (rule_options-sound classes (option_texts outside inside) names empty_draft (length inside + 1) few (empty-sound (length classes))) (λ after h.
+    then_ok (IsSound classes) (λ found. IsSound classes found.0 × (length found.1 ≤ 1024)) (finished classes header after.0) _ (finished-sound classes header after.0 short_lists h.0) (λ rule is_sound. (is_sound, h.1))))

@@ -1,7 +1,7 @@
 -- Steps that may fail, by what is known of what they give.
 use Rattle.std.proofs.Common.{◌≡◌, Bool, true, false, cond, Option, Some, None, Result, Ok, Err, List, [], ◌∷◌, refl, IfSome, IfOk}
 use Rattle.edge_io.specs.OnResult.{◌>>=◌}
-use Rattle.net_lists.specs.Folds.{draft_behind}
+use Rattle.net_lists.specs.Folds.{draft_after}
 use Rattle.net_lists.specs.Stops.{or_kind}
 
 -- a step, and the next one by what the first gives
@@ -34,7 +34,7 @@ some_weaken P Q (Some a) weaken h = weaken a h
 some_weaken P Q None weaken h = tt
 
 -- what each part keeps, all parts keep
-pub fold_ok : {D X K : Type 0} (P : D → Type 0) (step : D → X → Result D K) → ((d : D) (x : X) → P d → IfOk (step d x) P) → (d : D) → P d → (parts : List X) → IfOk (draft_behind step d parts) P
-unfolding draft_behind
+pub fold_ok : {D X K : Type 0} (P : D → Type 0) (step : D → X → Result D K) → ((d : D) (x : X) → P d → IfOk (step d x) P) → (d : D) → P d → (parts : List X) → IfOk (draft_after step d parts) P
+unfolding draft_after
 fold_ok P step keeps d h [] = h
-fold_ok {D} {X} {K} P step keeps d h (part ∷ parts) = then_ok P P (step d part) (λ next. draft_behind step next parts) (keeps d part h) (λ next hn. fold_ok P step keeps next hn parts)
+fold_ok {D} {X} {K} P step keeps d h (part ∷ parts) = then_ok P P (step d part) (λ next. draft_after step next parts) (keeps d part h) (λ next hn. fold_ok P step keeps next hn parts)

@@ -9,7 +9,7 @@ use Rattle.rule_parser.specs.declared.fault.Fault.TheVariants.{OptionValue, Limi
 use Rattle.rule_parser.specs.declared.quoted.Style.TheVariants.{Message}
 use Rattle.rule_parser.specs.declared.quoted.Place.TheVariants.{Plain}
 use Rattle.rule_types.specs.declared.rule.Period.{Period}
-use Rattle.rule_parser.specs.Periods.{behind_key, tracked, counted, period_parts, detection_filter_option}
+use Rattle.rule_parser.specs.Periods.{after_key, tracked, counted, period_parts, detection_filter_option}
 use Rattle.rule_parser.specs.Quotes.{meaning}
 use Rattle.rule_parser.specs.Texts.{once, gid_option, sid_option, rev_option, priority_option, quoted_whole, message, msg_option, class_named, classtype_option}
 use Rattle.rule_parser.proofs.Sound.Drafts.{IsKnown, IsSoundDraft}
@@ -44,13 +44,13 @@ module _ (classes : ℕ) (draft : Draft) (sound : IsSoundDraft classes draft) wh
   priority-sound value = then_ok (λ rev. 0 ≤ rev) (IsSoundDraft classes) (once draft.priority 0 value) _ (once-least draft.priority 0 value)
       (λ rev least. record { kept = sound.kept; msg = sound.msg; gid = sound.gid; sid = sound.sid; class = sound.class; period = sound.period })
 
-  message-short : (stands : Bool) (value : List ℕ) → IfOk (message stands value) (λ msg. length msg ≤ 1024)
+  message-short : (is_given : Bool) (value : List ℕ) → IfOk (message is_given value) (λ msg. length msg ≤ 1024)
   unfolding message
-  message-short stands value =
+  message-short is_given value =
       let IsShort : List ℕ → Type 0 = λ msg. length msg ≤ 1024 in
       then_ok (λ _. Unit {0}) IsShort (quoted_whole value) _ (any_ok (quoted_whole value)) (λ inside _.
       then_ok (λ _. Unit {0}) IsShort (or_kind OptionValue (meaning Message Plain inside)) _ (any_ok (or_kind OptionValue (meaning Message Plain inside))) (λ msg _.
-      if_ok IsShort stands _ _ (λ _. tt) (λ _.
+      if_ok IsShort is_given _ _ (λ _. tt) (λ _.
       if_ok IsShort (nat_le (length msg) 1024) (Ok msg) (Err Limit) (λ short. fits (length msg) short) (λ _. tt))))
     where
       fits : (len : ℕ) → nat_le len 1024 ≡ true → len ≤ 1024
@@ -78,7 +78,7 @@ module _ (classes : ℕ) (draft : Draft) (sound : IsSoundDraft classes draft) wh
 
   counted-least : (key part : List ℕ) → IfOk (counted key part) (λ number. 1 ≤ number)
   unfolding counted
-  counted-least key part = then_ok (λ _. Unit {0}) (λ number. 1 ≤ number) (behind_key key part) _ (any_ok (behind_key key part)) (λ number _.
+  counted-least key part = then_ok (λ _. Unit {0}) (λ number. 1 ≤ number) (after_key key part) _ (any_ok (after_key key part)) (λ number _.
       kind_ok (λ number. 1 ≤ number) OptionValue (number_in 1 4294967295 number) (some_weaken (IsIn 1 4294967295) (λ number. 1 ≤ number) (number_in 1 4294967295 number) (λ _ within. within.0) (number_in-within 1 4294967295 number)))
 
   period_parts-least : (parts : List (List ℕ)) → IfOk (period_parts parts) IsPeriod
@@ -87,7 +87,7 @@ module _ (classes : ℕ) (draft : Draft) (sound : IsSoundDraft classes draft) wh
   period_parts-least (first ∷ []) = tt
   period_parts-least (first ∷ second ∷ []) = tt
   period_parts-least (first ∷ second ∷ third ∷ []) =
-      then_ok (λ _. Unit {0}) IsPeriod (behind_key (codes "track") first) _ (any_ok (behind_key (codes "track") first)) (λ side _.
+      then_ok (λ _. Unit {0}) IsPeriod (after_key (codes "track") first) _ (any_ok (after_key (codes "track") first)) (λ side _.
       then_ok (λ _. Unit {0}) IsPeriod (tracked side) _ (any_ok (tracked side)) (λ by_src _.
       then_ok (λ count. 1 ≤ count) IsPeriod (counted (codes "count") second) _ (counted-least (codes "count") second) (λ count least.
       then_ok (λ seconds. 1 ≤ seconds) IsPeriod (counted (codes "seconds") third) _ (counted-least (codes "seconds") third) (λ seconds least_seconds. (least, least_seconds)))))

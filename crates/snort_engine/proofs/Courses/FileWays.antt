@@ -3,7 +3,7 @@ use Rattle.std.proofs.Common.{◌≡◌, ℕ, List, [], ◌++◌, Option, Some, 
 use Rattle.std.specs.List.{concat}
 use Rattle.std.proofs.lemmas.List.{append-nil}
 use Rattle.edge_io.specs.Files.{Files}
-use Rattle.edge_io.specs.Told.{behind}
+use Rattle.edge_io.specs.Told.{grown}
 use Rattle.unified2_out.specs.declared.record.U2.{U2}
 use Rattle.unified2_out.specs.Reading.{IsBadAt}
 use Rattle.unified2_out.proofs.Laws.{records_of-one, bad-no_records}
@@ -58,7 +58,7 @@ ahead_lists files course lines before after ended lists own =
 -- the lines were written whole, or a part of them
 pub listed_ends : (files : Files) (course : Course) (lines : List ℕ) (before after : Work) (outcome : Result (Unit {0}) Stop) → course.way ≡ Lists lines
     → after.left ≡ before.left → after.opens ≡ before.opens
-    → OnOk outcome (after.alerts ≡ behind before.alerts lines) → OnErr outcome (WritesPart before.alerts lines after.alerts) → IfErr outcome IsWriteStop
+    → OnOk outcome (after.alerts ≡ grown before.alerts lines) → OnErr outcome (WritesPart before.alerts lines after.alerts) → IfErr outcome IsWriteStop
     → Ends files course before after (outcome_status outcome) (concat course.warnings ++ outcome_text [] outcome)
 unfolding stop_text
 listed_ends files course lines before after (Ok done) lists left opens whole part kind =

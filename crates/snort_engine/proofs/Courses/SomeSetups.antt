@@ -13,34 +13,34 @@ use Rattle.rule_parser.specs.Faults.{plain}
 use Rattle.rule_parser.specs.RuleLine.{IsAnswered, IsRuleLine}
 use Rattle.rule_parser.proofs.Lines.SomeMeaning.{some_meaning}
 use Rattle.snort_setup.specs.Words.{Words}
-use Rattle.snort_setup.specs.Rules.{Frame, LineGives, RulesEnd, RulesGive, Standing, Verdict, behind_line, end_at, is_among, judged, nothing_stands}
+use Rattle.snort_setup.specs.Rules.{Frame, LineGives, RulesEnd, RulesGive, RulesState, Verdict, after_line, end_at, is_among, judged, nothing_read}
 use Rattle.snort_setup.specs.Setup.{IsRuledBy, IsSetup, Ready, Ruled, Warned, conf_read, conf_warnings, frame_of, ruled_by, with_table}
 
 -- a line gives a verdict, whether its pattern is refused or not
-line_gives : (frame : Frame) (standing : Standing) (is_refused : Bool) (text : List ℕ) → (verdict : Verdict) × LineGives frame standing is_refused text verdict
+line_gives : (frame : Frame) (state : RulesState) (is_refused : Bool) (text : List ℕ) → (verdict : Verdict) × LineGives frame state is_refused text verdict
 unfolding LineGives
-line_gives frame standing is_refused text = by_meaning (some_meaning frame.variables frame.classes standing.names text)
+line_gives frame state is_refused text = by_meaning (some_meaning frame.variables frame.classes state.names text)
   where
-    by_meaning : ((rule : Rule) × (later : List (List ℕ)) × IsAnswered (length text) (Ok rule) later (IsRuleLine frame.variables frame.classes standing.names text))
-        ⊎ ((fault : RuleFault) × IsAnswered (length text) (Err fault) standing.names (IsRuleLine frame.variables frame.classes standing.names text) × (fault ≢ plain kind.NoMemory))
-        → (verdict : Verdict) × LineGives frame standing is_refused text verdict
-    by_meaning (inl (rule, later, is)) = (record { rule = judged standing.rules is_refused rule; names = later }, inl (rule, later, is, refl))
-    by_meaning (inr (fault, answered, never)) = (record { rule = Err fault; names = standing.names }, inr (fault, (answered, never), refl))
+    by_meaning : ((rule : Rule) × (later : List (List ℕ)) × IsAnswered (length text) (Ok rule) later (IsRuleLine frame.variables frame.classes state.names text))
+        ⊎ ((fault : RuleFault) × IsAnswered (length text) (Err fault) state.names (IsRuleLine frame.variables frame.classes state.names text) × (fault ≢ plain kind.NoMemory))
+        → (verdict : Verdict) × LineGives frame state is_refused text verdict
+    by_meaning (inl (rule, later, is)) = (record { rule = judged state.rules is_refused rule; names = later }, inl (rule, later, is, refl))
+    by_meaning (inr (fault, answered, never)) = (record { rule = Err fault; names = state.names }, inr (fault, (answered, never), refl))
 
 -- what a step leaves ends somehow
-ends_by : (frame : Frame) (refused : List ℕ) (place : ℕ) (standing : Standing) (rest : List Line) (step : Result Standing (List ℕ))
-    → ((behind : Standing) → (end : RulesEnd) × RulesGive frame refused (place + 1) behind rest end)
-    → (end : RulesEnd) × MatchResult step (λ behind. RulesGive frame refused (place + 1) behind rest end) (λ message. end ≡ end_at standing (Some message))
-ends_by frame refused place standing rest (Ok behind) more = more behind
-ends_by frame refused place standing rest (Err message) more = (end_at standing (Some message), refl)
+ends_by : (frame : Frame) (refused : List ℕ) (place : ℕ) (state : RulesState) (rest : List Line) (step : Result RulesState (List ℕ))
+    → ((after : RulesState) → (end : RulesEnd) × RulesGive frame refused (place + 1) after rest end)
+    → (end : RulesEnd) × MatchResult step (λ after. RulesGive frame refused (place + 1) after rest end) (λ message. end ≡ end_at state (Some message))
+ends_by frame refused place state rest (Ok after) more = more after
+ends_by frame refused place state rest (Err message) more = (end_at state (Some message), refl)
 
 -- rule lines end, whichever of them are refused
-rules_give : (frame : Frame) (refused : List ℕ) (place : ℕ) (standing : Standing) (lines : List Line) → (end : RulesEnd) × RulesGive frame refused place standing lines end
+rules_give : (frame : Frame) (refused : List ℕ) (place : ℕ) (state : RulesState) (lines : List Line) → (end : RulesEnd) × RulesGive frame refused place state lines end
 unfolding RulesGive
-rules_give frame refused place standing [] = (end_at standing None, refl)
-rules_give frame refused place standing (line ∷ rest) =
-    let verdict = line_gives frame standing (is_among refused place) line.text in
-    let end = ends_by frame refused place standing rest (behind_line frame line standing verdict.0) (λ behind. rules_give frame refused (place + 1) behind rest) in
+rules_give frame refused place state [] = (end_at state None, refl)
+rules_give frame refused place state (line ∷ rest) =
+    let verdict = line_gives frame state (is_among refused place) line.text in
+    let end = ends_by frame refused place state rest (after_line frame line state verdict.0) (λ after. rules_give frame refused (place + 1) after rest) in
     (end.0, (verdict.0, verdict.1, end.1))
 
 -- ---- a setup
@@ -49,7 +49,7 @@ ruled_some : (words : Words) (refused : List ℕ) (ended : Ended) → (given : W
 unfolding IsRuledBy
 ruled_some words refused (Whole read) =
     let loaded = loaded_of read in
-    let end = rules_give (frame_of words.skips read.settings.vars loaded) refused 0 (nothing_stands (conf_warnings loaded.files loaded.warnings)) loaded.rules in
+    let end = rules_give (frame_of words.skips read.settings.vars loaded) refused 0 (nothing_read (conf_warnings loaded.files loaded.warnings)) loaded.rules in
     (ruled_by loaded end.0, (end.0, end.1, refl))
 ruled_some words refused (RefusedAt fault output) = (_, refl)
 ruled_some words refused (Asks name output) = (_, refl)

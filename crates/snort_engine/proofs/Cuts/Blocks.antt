@@ -11,11 +11,11 @@ use Rattle.pcapng_input.specs.declared.content.Content.TheVariants as content
 use Rattle.pcapng_input.specs.declared.walk.Walk.{Walk}
 use Rattle.pcapng_input.specs.declared.capture.NgFault.{NgFault}
 use Rattle.pcap_input.specs.Cut.{Ending, Clean, Refused, Cut, clean_with, with_first}
-use Rattle.pcapng_input.specs.Blocks.{section_type, Step, Stops, Skips, Gives, refused, bad_block, inner_length, is_sized, order_of, first_walk, is_full, new_section, content_of, section_of, given_by, closing, fronted, known, section_block, section_begun, step_of, opening, Next, Ends, Stands, next_of, records_left}
+use Rattle.pcapng_input.specs.Blocks.{section_type, Step, Stops, Skips, Gives, refused, bad_block, inner_length, is_sized, order_of, first_walk, is_full, new_section, content_of, section_of, given_by, closing, fronted, known, section_block, section_begun, step_of, opening, Next, Ends, Follows, next_of, records_left}
 use Rattle.pcapng_input.proofs.Blocks.Begins.{begun_section, fronted-err, fronted-ok, number_front, step_cut, step_nothing}
 use Rattle.pcapng_input.proofs.Captures.Nexts.{next_of-stops}
-use Rattle.pcapng_input.proofs.Captures.Records.{records_left-ends, records_left-stands}
-use Rattle.pcapng_input.proofs.Captures.Beginnings.{stands_parts}
+use Rattle.pcapng_input.proofs.Captures.Records.{records_left-ends, records_left-follows}
+use Rattle.pcapng_input.proofs.Captures.Beginnings.{follows_parts}
 
 -- what a capture of blocks is cut to: these records, and a clean ending
 abbrev pub clean_cut : List NgRecord → Cut NgRecord NgFault
@@ -40,24 +40,24 @@ none_at walk count rest ending is enough =
     omega (arith, none, enough)
 
 shortest_by : (walk : Walk) (count : ℕ) (rest own : List ℕ) (first : NgRecord) (then_walk : Walk) (more : List ℕ)
-    → next_of walk rest ≡ Stands first then_walk more → rest ≡ own ++ more → (behind : Front then_walk count more)
+    → next_of walk rest ≡ Follows first then_walk more → rest ≡ own ++ more → (after : Front then_walk count more)
     → (xs ys : List ℕ) → rest ≡ xs ++ ys → suc count ≤ length (records_at walk xs)
-    → (next : Next) → next_of walk xs ≡ next → length (own ++ behind.own) ≤ length xs
-shortest_by walk count rest own first then_walk more stands joined behind xs ys split enough (Ends ending) is =
+    → (next : Next) → next_of walk xs ≡ next → length (own ++ after.own) ≤ length xs
+shortest_by walk count rest own first then_walk more holds joined after xs ys split enough (Ends ending) is =
     absurd (none_at walk count xs ending is enough)
-shortest_by walk count rest own first then_walk more stands joined behind xs ys split enough (Stands other other_walk later) is =
-    let parts = stands_parts walk xs other other_walk later is in
+shortest_by walk count rest own first then_walk more holds joined after xs ys split enough (Follows other other_walk later) is =
+    let parts = follows_parts walk xs other other_walk later is in
     let whole : rest ≡ parts.own ++ (later ++ ys) = split ∙ ap (λ (zs : List ℕ). zs ++ ys) parts.joined ∙ append_assoc parts.own later ys in
-    let same : Stands first then_walk more ≡ Stands other other_walk (later ++ ys) = sym stands ∙ ap (next_of walk) whole ∙ parts.goes (later ++ ys) in
+    let same : Follows first then_walk more ≡ Follows other other_walk (later ++ ys) = sym holds ∙ ap (next_of walk) whole ∙ parts.goes (later ++ ys) in
     let walk_is : then_walk ≡ other_walk = cc in
     let more_is : more ≡ later ++ ys = cc in
-    let counted = ap (λ (cut : Cut NgRecord NgFault). length cut.records) (records_left-stands walk xs other other_walk later is) in
+    let counted = ap (λ (cut : Cut NgRecord NgFault). length cut.records) (records_left-follows walk xs other other_walk later is) in
     let placed = ap (λ (w : Walk). length (records_at w later)) walk_is in
-    let few = behind.shortest later ys more_is (omega (arith, enough, counted, placed)) in
+    let few = after.shortest later ys more_is (omega (arith, enough, counted, placed)) in
     let a = ap length joined ∙ length-append own more in
     let b = ap length whole ∙ length-append parts.own (later ++ ys) in
     let c = ap length more_is in
-    let d = length-append own behind.own in
+    let d = length-append own after.own in
     let e = ap length parts.joined ∙ length-append parts.own later in
     omega (arith, few, a, b, c, d, e)
 
@@ -66,18 +66,18 @@ front_by : (walk : Walk) (count : ℕ) (rest : List ℕ)
     → suc count ≤ length (records_at walk rest)
     → (next : Next) → next_of walk rest ≡ next → Front walk (suc count) rest
 front_by walk count rest on enough (Ends ending) is = absurd (none_at walk count rest ending is enough)
-front_by walk count rest on enough (Stands first then_walk more) is =
-    let all = ap (λ (cut : Cut NgRecord NgFault). cut.records) (records_left-stands walk rest first then_walk more is) in
-    let parts = stands_parts walk rest first then_walk more is in
-    let behind = on then_walk more (omega (arith, enough, ap length all)) in
+front_by walk count rest on enough (Follows first then_walk more) is =
+    let all = ap (λ (cut : Cut NgRecord NgFault). cut.records) (records_left-follows walk rest first then_walk more is) in
+    let parts = follows_parts walk rest first then_walk more is in
+    let after = on then_walk more (omega (arith, enough, ap length all)) in
     record {
-      own = parts.own ++ behind.own;
-      left = behind.left;
-      joined = parts.joined ∙ ap (λ (xs : List ℕ). parts.own ++ xs) behind.joined ∙ sym (append_assoc parts.own behind.own behind.left);
-      exact = records_left-stands walk (parts.own ++ behind.own) first then_walk behind.own (parts.goes behind.own)
-          ∙ ap (with_first first) behind.exact
+      own = parts.own ++ after.own;
+      left = after.left;
+      joined = parts.joined ∙ ap (λ (xs : List ℕ). parts.own ++ xs) after.joined ∙ sym (append_assoc parts.own after.own after.left);
+      exact = records_left-follows walk (parts.own ++ after.own) first then_walk after.own (parts.goes after.own)
+          ∙ ap (with_first first) after.exact
           ∙ ap (λ (records : List NgRecord). clean_cut (take (suc count) records)) (sym all);
-      shortest = λ xs ys split few. shortest_by walk count rest parts.own first then_walk more is parts.joined behind xs ys split few _ refl;
+      shortest = λ xs ys split few. shortest_by walk count rest parts.own first then_walk more is parts.joined after xs ys split few _ refl;
     }
 
 pub front : (walk : Walk) (count : ℕ) (rest : List ℕ) → count ≤ length (records_at walk rest) → Front walk count rest
@@ -103,24 +103,24 @@ either : (test : Bool) (x y : Step) → IsNoRecord x → IsNoRecord y → IsNoRe
 either true x y one other = one
 either false x y one other = other
 
-closing_none : (walk : Walk) (block : Block) (behind : List ℕ) → IsNoRecord (closing walk block content.Skipped behind)
+closing_none : (walk : Walk) (block : Block) (after : List ℕ) → IsNoRecord (closing walk block content.Skipped after)
 unfolding closing given_by
-closing_none walk block behind =
-    either (nat_lt (length behind) (inner_length block + 4)) _ _ tt
-    (either (number_at walk.section.swapped 0 4 (drop (inner_length block) behind) == block.total) _ _ tt tt)
+closing_none walk block after =
+    either (nat_lt (length after) (inner_length block + 4)) _ _ tt
+    (either (number_at walk.section.swapped 0 4 (drop (inner_length block) after) == block.total) _ _ tt tt)
 
 section_content : (walk : Walk) (swapped : Bool) (first front : List ℕ) (test : Bool) → (number_at walk.section.swapped 0 2 front == 1) ≡ test
     → content_of walk (section_block swapped first) front ≡ (if test then Ok content.Skipped else Err (bad_block walk))
 unfolding content_of section_of
 section_content walk swapped first front test is = ap (λ (t : Bool). if t then Ok content.Skipped else Err (bad_block walk)) is
 
-fronted_none : (walk : Walk) (swapped : Bool) (first front behind : List ℕ) (test : Bool) → (number_at walk.section.swapped 0 2 front == 1) ≡ test
-    → IsNoRecord (fronted walk (section_block swapped first) front behind)
-fronted_none walk swapped first front behind true is =
-    subst IsNoRecord (sym (fronted-ok walk (section_block swapped first) front content.Skipped (section_content walk swapped first front true is) behind))
-    (closing_none walk (section_block swapped first) behind)
-fronted_none walk swapped first front behind false is =
-    subst IsNoRecord (sym (fronted-err walk (section_block swapped first) front (bad_block walk) (section_content walk swapped first front false is) behind)) tt
+fronted_none : (walk : Walk) (swapped : Bool) (first front after : List ℕ) (test : Bool) → (number_at walk.section.swapped 0 2 front == 1) ≡ test
+    → IsNoRecord (fronted walk (section_block swapped first) front after)
+fronted_none walk swapped first front after true is =
+    subst IsNoRecord (sym (fronted-ok walk (section_block swapped first) front content.Skipped (section_content walk swapped first front true is) after))
+    (closing_none walk (section_block swapped first) after)
+fronted_none walk swapped first front after false is =
+    subst IsNoRecord (sym (fronted-err walk (section_block swapped first) front (bad_block walk) (section_content walk swapped first front false is) after)) tt
 
 known_none : (walk : Walk) (swapped : Bool) (first body : List ℕ) → IsNoRecord (known walk (section_block swapped first) body)
 unfolding known
@@ -144,10 +144,10 @@ step_none walk bytes is =
     (section_none_by walk (take 8 bytes) (drop 8 bytes) _ refl))))
 
 -- what is skipped passes a test that ends the capture
-passed : (test : Bool) (ending : Ending NgFault) (step : Step) (behind : Walk) (more : List ℕ)
-    → (if test then Stops ending else step) ≡ Skips behind more → (test ≡ false) × (step ≡ Skips behind more)
-passed true ending step behind more is = cc
-passed false ending step behind more is = (refl, is)
+passed : (test : Bool) (ending : Ending NgFault) (step : Step) (after : Walk) (more : List ℕ)
+    → (if test then Stops ending else step) ≡ Skips after more → (test ≡ false) × (step ≡ Skips after more)
+passed true ending step after more is = cc
+passed false ending step after more is = (refl, is)
 
 -- fewer than four bytes hold no record
 few_by : (bytes : List ℕ) (fewer : Bool) → nat_lt (length bytes) 4 ≡ fewer → 0 < length (records_at first_walk bytes) → 4 ≤ length bytes
@@ -166,25 +166,25 @@ record IsBegun (body : List ℕ) : Type 0 where
   swapped : Bool
   order : order_of (take 4 body) ≡ Some swapped
 
-section_magic : (walk : Walk) (first body : List ℕ) (behind : Walk) (more : List ℕ) (order : Option Bool) → order_of (take 4 body) ≡ order
-    → section_begun walk first body ≡ Skips behind more → IsBegun body
+section_magic : (walk : Walk) (first body : List ℕ) (after : Walk) (more : List ℕ) (order : Option Bool) → order_of (take 4 body) ≡ order
+    → section_begun walk first body ≡ Skips after more → IsBegun body
 unfolding section_begun
-section_magic walk first body behind more None is skips =
-    let one = passed (nat_lt (length body) 4) _ _ behind more skips in
-    let none : refused (bad_block walk) ≡ Skips behind more = rw is at one.1 in
+section_magic walk first body after more None is skips =
+    let one = passed (nat_lt (length body) 4) _ _ after more skips in
+    let none : refused (bad_block walk) ≡ Skips after more = rw is at one.1 in
     cc
-section_magic walk first body behind more (Some swapped) is skips =
-    let one = passed (nat_lt (length body) 4) _ _ behind more skips in
+section_magic walk first body after more (Some swapped) is skips =
+    let one = passed (nat_lt (length body) 4) _ _ after more skips in
     record { long = grind (arith, nat_tests, one.0); swapped = swapped; order = is }
 
-step_magic : (bytes : List ℕ) (behind : Walk) (more : List ℕ) → number_at false 0 4 bytes ≡ section_type → step_of first_walk bytes ≡ Skips behind more
+step_magic : (bytes : List ℕ) (after : Walk) (more : List ℕ) → number_at false 0 4 bytes ≡ section_type → step_of first_walk bytes ≡ Skips after more
     → IsBegun (drop 8 bytes)
 unfolding step_of
-step_magic bytes behind more is skips =
-    let one = passed (length bytes == 0) _ _ behind more skips in
-    let two = passed (nat_lt (length bytes) 8) (Refused (fault.Truncated 0)) _ behind more one.1 in
+step_magic bytes after more is skips =
+    let one = passed (length bytes == 0) _ _ after more skips in
+    let two = passed (nat_lt (length bytes) 8) (Refused (fault.Truncated 0)) _ after more one.1 in
     let own = number_front 8 bytes (omega arith) ∙ is in
-    section_magic first_walk (take 8 bytes) (drop 8 bytes) behind more _ refl (sym (begun_section first_walk (take 8 bytes) own (drop 8 bytes)) ∙ two.1)
+    section_magic first_walk (take 8 bytes) (drop 8 bytes) after more _ refl (sym (begun_section first_walk (take 8 bytes) own (drop 8 bytes)) ∙ two.1)
 
 -- the opening of a file that begins with a section header is its first step
 opening_is : (bytes : List ℕ) → number_at false 0 4 bytes ≡ section_type → IsBegun (drop 8 bytes) → opening bytes ≡ step_of first_walk bytes
@@ -198,16 +198,16 @@ opening_is bytes is begun_here =
 
 -- where a section header begins bytes that hold a record, it is whole, and skipped
 pub record BeginsWhole (bytes : List ℕ) : Type 0 where
-  pub behind : Walk
+  pub after : Walk
   pub more : List ℕ
-  pub is : opening bytes ≡ Skips behind more
+  pub is : opening bytes ≡ Skips after more
 
 whole_by : (bytes : List ℕ) (step : Step) → step_of first_walk bytes ≡ step → number_at false 0 4 bytes ≡ section_type → 0 < length (records_at first_walk bytes) → BeginsWhole bytes
 whole_by bytes (Stops ending) is begins some =
     absurd (none_at first_walk 0 bytes ending (next_of-stops first_walk bytes ending is) (omega (arith, some)))
-whole_by bytes (Gives given behind more) is begins some = absurd (subst IsNoRecord is (step_none first_walk bytes begins))
-whole_by bytes (Skips behind more) is begins some =
-    record { behind = behind; more = more; is = opening_is bytes begins (step_magic bytes behind more begins is) ∙ is }
+whole_by bytes (Gives given after more) is begins some = absurd (subst IsNoRecord is (step_none first_walk bytes begins))
+whole_by bytes (Skips after more) is begins some =
+    record { after = after; more = more; is = opening_is bytes begins (step_magic bytes after more begins is) ∙ is }
 
 pub begins_whole : (bytes : List ℕ) → number_at false 0 4 bytes ≡ section_type → 0 < length (records_at first_walk bytes) → BeginsWhole bytes
 begins_whole bytes begins some = whole_by bytes _ refl begins some

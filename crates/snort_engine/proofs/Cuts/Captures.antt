@@ -21,7 +21,7 @@ use Rattle.pcapng_input.proofs.Captures.Numbers.{opening_section}
 use Rattle.record_jobs.specs.Way.{LinkedRecord, linked}
 use Rattle.pcap_input.specs.Cut.{Clean, Refused, no_more, first_records, Cut, clean_with}
 use Rattle.snort_engine.specs.Records.{Recording, of_savefile, of_blocks, recording_of, recording_in, recording_of_blocks, recording_in_blocks, with_link, is_of_blocks, records_in}
-use Rattle.snort_engine.specs.CutCaptures.{Holds, IsCutBehind, bytes_of, end_of}
+use Rattle.snort_engine.specs.CutCaptures.{Holds, IsCutAfter, bytes_of, end_of}
 use Rattle.snort_engine.proofs.Records.Opening.{long_enough, other_head}
 use Rattle.snort_engine.proofs.Cuts.Savefiles as of_savefiles
 use Rattle.snort_engine.proofs.Cuts.Blocks as of_walks
@@ -99,21 +99,21 @@ has_head bytes other some = head_by bytes _ refl other some
 -- ---- blocks
 
 -- bytes whose first block isn't refused
-blocks_by : (limit : Option ℕ) (bytes : List ℕ) (behind : Walk) (more : List ℕ) → opening bytes ≡ blocks.Skips behind more
+blocks_by : (limit : Option ℕ) (bytes : List ℕ) (after : Walk) (more : List ℕ) → opening bytes ≡ blocks.Skips after more
     → ng_records bytes limit ≡ Ok (first_records limit (blocks.records_left first_walk bytes))
 unfolding ng_records
-blocks_by limit bytes behind more is = rw (is, ng_records) refl
+blocks_by limit bytes after more is = rw (is, ng_records) refl
 
-of_walk : (limit : Option ℕ) (bytes : List ℕ) (behind : Walk) (more : List ℕ) → opening bytes ≡ blocks.Skips behind more
+of_walk : (limit : Option ℕ) (bytes : List ℕ) (after : Walk) (more : List ℕ) → opening bytes ≡ blocks.Skips after more
     → is_of_blocks bytes ≡ true → records_in limit bytes ≡ first_records limit (recording_of_blocks (blocks.records_left first_walk bytes))
-of_walk limit bytes behind more is blocks_are =
-    as_blocks limit bytes blocks_are ∙ ap recording_in_blocks (blocks_by limit bytes behind more is)
+of_walk limit bytes after more is blocks_are =
+    as_blocks limit bytes blocks_are ∙ ap recording_in_blocks (blocks_by limit bytes after more is)
     ∙ first_records-told with_link of_blocks limit (blocks.records_left first_walk bytes)
 
-all_of_walk : (bytes : List ℕ) (behind : Walk) (more : List ℕ) → opening bytes ≡ blocks.Skips behind more
+all_of_walk : (bytes : List ℕ) (after : Walk) (more : List ℕ) → opening bytes ≡ blocks.Skips after more
     → is_of_blocks bytes ≡ true → records_in None bytes ≡ recording_of_blocks (blocks.records_left first_walk bytes)
-all_of_walk bytes behind more is blocks_are =
-    of_walk None bytes behind more is blocks_are ∙ first_records-none (recording_of_blocks (blocks.records_left first_walk bytes))
+all_of_walk bytes after more is blocks_are =
+    of_walk None bytes after more is blocks_are ∙ first_records-none (recording_of_blocks (blocks.records_left first_walk bytes))
 
 -- bytes whose records are those of all their blocks
 kept_by : (bytes : List ℕ) (cut : Cut NgRecord NgFault) → blocks.records_left first_walk bytes ≡ cut → ng_records bytes None ≡ Ok (first_records None (blocks.records_left first_walk bytes))
@@ -131,8 +131,8 @@ counted_by bytes (blocks.Stops (Refused why)) is blocks_are some =
     let none = ap (λ (r : Recording). length r.records) (as_blocks None bytes blocks_are ∙ ap recording_in_blocks (ng_records-refused bytes None why is)) in
     absurd (omega (arith, some, none))
 counted_by bytes (blocks.Stops Clean) is blocks_are some = kept_by bytes _ refl (rw (is, ng_records) refl) blocks_are some
-counted_by bytes (blocks.Skips behind more) is blocks_are some = kept_by bytes _ refl (rw (is, ng_records) refl) blocks_are some
-counted_by bytes (blocks.Gives given behind more) is blocks_are some = kept_by bytes _ refl (rw (is, ng_records) refl) blocks_are some
+counted_by bytes (blocks.Skips after more) is blocks_are some = kept_by bytes _ refl (rw (is, ng_records) refl) blocks_are some
+counted_by bytes (blocks.Gives given after more) is blocks_are some = kept_by bytes _ refl (rw (is, ng_records) refl) blocks_are some
 
 -- bytes of blocks that hold a record begin with a section header
 begins_section : (bytes : List ℕ) → is_of_blocks bytes ≡ true → number_at false 0 4 bytes ≡ section_type
@@ -151,8 +151,8 @@ limited_by limit bytes false is some holds =
     of_head (Some limit) bytes h.head h.is ∙ ap (first_records (Some limit)) (sym all) ∙ first_records-enough limit (records_in None bytes) holds
 limited_by limit bytes true is some holds =
     let h = whole_section bytes is (omega (arith, some, holds)) in
-    let all = all_of_walk bytes h.behind h.more h.is is in
-    of_walk (Some limit) bytes h.behind h.more h.is is ∙ ap (first_records (Some limit)) (sym all) ∙ first_records-enough limit (records_in None bytes) holds
+    let all = all_of_walk bytes h.after h.more h.is is in
+    of_walk (Some limit) bytes h.after h.more h.is is ∙ ap (first_records (Some limit)) (sym all) ∙ first_records-enough limit (records_in None bytes) holds
 
 -- ---- the cut
 
@@ -230,7 +230,7 @@ blocks_shortest count bytes f is some xs ys false other split holds =
     cc
 blocks_shortest count bytes f is some xs ys true blocks_are split holds =
     let h = whole_section xs blocks_are (omega (arith, some, holds)) in
-    let counted = ap (λ (r : Recording). length r.records) (all_of_walk xs h.behind h.more h.is blocks_are)
+    let counted = ap (λ (r : Recording). length r.records) (all_of_walk xs h.after h.more h.is blocks_are)
     ∙ length-map (of_walks.records_at first_walk xs) with_link in
     f.shortest xs ys split (omega (arith, holds, counted))
 
@@ -238,14 +238,14 @@ blocks_cut : (count : ℕ) (bytes : List ℕ) → is_of_blocks bytes ≡ true �
 blocks_cut count bytes is some holds =
     let h = whole_section bytes is (omega (arith, some, holds)) in
     let records = of_walks.records_at first_walk bytes in
-    let all = all_of_walk bytes h.behind h.more h.is is in
+    let all = all_of_walk bytes h.after h.more h.is is in
     let counted = ap (λ (r : Recording). length r.records) all ∙ length-map records with_link in
     let f = of_walks.front first_walk count bytes (omega (arith, holds, counted)) in
     let own_count : length (of_walks.records_at first_walk f.own) ≡ count =
     ap (λ (cut : Cut NgRecord NgFault). length cut.records) f.exact ∙ length-take-le count records (omega (arith, holds, counted)) in
     let begins = own_begins bytes f.own f.left f.joined is (omega (arith, some, own_count)) in
     let own = of_walks.begins_whole f.own begins (omega (arith, some, own_count)) in
-    let section = opening_section f.own own.behind own.more own.is in
+    let section = opening_section f.own own.after own.more own.is in
     let own_is : is_of_blocks f.own ≡ true = blocks_front f.own f.left (sym (ap is_of_blocks f.joined) ∙ is) (omega (arith, section.long)) in
     let kept : map with_link (take count records) ≡ take count (all_in bytes) =
     sym (take-map with_link count records) ∙ ap (λ (r : Recording). take count r.records) (sym all) in
@@ -253,7 +253,7 @@ blocks_cut count bytes is some holds =
       front = f.own;
       left = f.left;
       joined = f.joined;
-      exact = all_of_walk f.own own.behind own.more own.is own_is ∙ ap recording_of_blocks f.exact ∙ ap clean kept;
+      exact = all_of_walk f.own own.after own.more own.is own_is ∙ ap recording_of_blocks f.exact ∙ ap clean kept;
       size = λ other. absurd (let both = sym is ∙ other in cc);
       shortest = λ xs ys split few. blocks_shortest count bytes f is some xs ys _ refl split few;
     }
@@ -264,13 +264,13 @@ blocks_cut count bytes is some holds =
     own_begins whole front back joined whole_is holds_one =
         sym (number_at-append false 0 4 front back (of_walks.four_at_least front holds_one)) ∙ ap (number_at false 0 4) (sym joined) ∙ begins_section whole whole_is
 
-pub cut_behind : (count : ℕ) (bytes : List ℕ) (test : Bool) → is_of_blocks bytes ≡ test → 0 < count → Holds bytes count → Beginning count bytes
-cut_behind count bytes false other some holds = let h = has_head bytes other (omega (arith, some, holds)) in savefile_cut count bytes h.head h.is some holds
-cut_behind count bytes true is some holds = blocks_cut count bytes is some holds
+pub cut_after : (count : ℕ) (bytes : List ℕ) (test : Bool) → is_of_blocks bytes ≡ test → 0 < count → Holds bytes count → Beginning count bytes
+cut_after count bytes false other some holds = let h = has_head bytes other (omega (arith, some, holds)) in savefile_cut count bytes h.head h.is some holds
+cut_after count bytes true is some holds = blocks_cut count bytes is some holds
 
 -- ---- the law
 
-pub cut_is : (count : ℕ) (bytes : List ℕ) (cut : Beginning count bytes) → Holds bytes count → IsCutBehind count bytes cut.front
+pub cut_is : (count : ℕ) (bytes : List ℕ) (cut : Beginning count bytes) → Holds bytes count → IsCutAfter count bytes cut.front
 cut_is count bytes cut holds = record {
   begins = (cut.left, sym cut.joined);
   holds = let size = ap (λ (r : Recording). length r.records) cut.exact ∙ length-take-le count (all_in bytes) holds in omega (arith, size);
@@ -278,7 +278,7 @@ cut_is count bytes cut holds = record {
 }
 
 -- a capture is cut after its records in one way
-pub cut_one : (count : ℕ) (bytes front : List ℕ) (cut : Beginning count bytes) → Holds bytes count → IsCutBehind count bytes front → front ≡ cut.front
+pub cut_one : (count : ℕ) (bytes front : List ℕ) (cut : Beginning count bytes) → Holds bytes count → IsCutAfter count bytes front → front ≡ cut.front
 cut_one count bytes front cut holds is =
     let here = cut_is count bytes cut holds in
     let less = is.shortest cut.front here.begins here.holds in
@@ -286,24 +286,24 @@ cut_one count bytes front cut holds is =
     let whole : front ++ is.begins.0 ≡ cut.front ++ cut.left = is.begins.1 ∙ cut.joined in
     sym (take_at front is.begins.0 (length front) refl) ∙ ap (take (length front)) whole ∙ take_at cut.front cut.left (length front) (omega (arith, less, more))
 
-pub exists_cut : (count : ℕ) (bytes : List ℕ) → 0 < count → Holds bytes count → (front : List ℕ) × IsCutBehind count bytes front
+pub exists_cut : (count : ℕ) (bytes : List ℕ) → 0 < count → Holds bytes count → (front : List ℕ) × IsCutAfter count bytes front
 exists_cut count bytes some holds =
-    let cut = cut_behind count bytes _ refl some holds in
+    let cut = cut_after count bytes _ refl some holds in
     (cut.front, cut_is count bytes cut holds)
 
-pub cut_records : (count : ℕ) (bytes front : List ℕ) → 0 < count → Holds bytes count → IsCutBehind count bytes front → records_in None front ≡ clean (take count (all_in bytes))
+pub cut_records : (count : ℕ) (bytes front : List ℕ) → 0 < count → Holds bytes count → IsCutAfter count bytes front → records_in None front ≡ clean (take count (all_in bytes))
 cut_records count bytes front some holds is =
-    let cut = cut_behind count bytes _ refl some holds in
+    let cut = cut_after count bytes _ refl some holds in
     ap (records_in None) (cut_one count bytes front cut holds is) ∙ cut.exact
 
-pub limit_is_cut : (limit : ℕ) (bytes front : List ℕ) → 0 < limit → Holds bytes limit → IsCutBehind limit bytes front → records_in (Some limit) bytes ≡ records_in None front
+pub limit_is_cut : (limit : ℕ) (bytes front : List ℕ) → 0 < limit → Holds bytes limit → IsCutAfter limit bytes front → records_in (Some limit) bytes ≡ records_in None front
 limit_is_cut limit bytes front some holds is =
     limited_by limit bytes _ refl some holds ∙ sym (cut_records limit bytes front some holds is)
 
-pub cut_place : (count : ℕ) (bytes front : List ℕ) → 0 < count → Holds bytes count → IsCutBehind count bytes front → is_of_blocks bytes ≡ false
+pub cut_place : (count : ℕ) (bytes front : List ℕ) → 0 < count → Holds bytes count → IsCutAfter count bytes front → is_of_blocks bytes ≡ false
     → length front ≡ end_of (take count (all_in bytes))
 cut_place count bytes front some holds is other =
-    let cut = cut_behind count bytes _ refl some holds in
+    let cut = cut_after count bytes _ refl some holds in
     ap length (cut_one count bytes front cut holds is) ∙ cut.size other
 
 -- ---- where the limit isn't reached
@@ -332,8 +332,8 @@ blocks_unreached limit bytes (blocks.Stops (Refused why)) is blocks_are fewer =
     as_blocks (Some limit) bytes blocks_are ∙ ap recording_in_blocks (ng_records-refused bytes (Some limit) why is ∙ sym (ng_records-refused bytes None why is))
     ∙ sym (as_blocks None bytes blocks_are)
 blocks_unreached limit bytes (blocks.Stops Clean) is blocks_are fewer = kept_unreached limit bytes blocks_are (λ l. rw (is, ng_records) refl) fewer
-blocks_unreached limit bytes (blocks.Skips behind more) is blocks_are fewer = kept_unreached limit bytes blocks_are (λ l. rw (is, ng_records) refl) fewer
-blocks_unreached limit bytes (blocks.Gives given behind more) is blocks_are fewer = kept_unreached limit bytes blocks_are (λ l. rw (is, ng_records) refl) fewer
+blocks_unreached limit bytes (blocks.Skips after more) is blocks_are fewer = kept_unreached limit bytes blocks_are (λ l. rw (is, ng_records) refl) fewer
+blocks_unreached limit bytes (blocks.Gives given after more) is blocks_are fewer = kept_unreached limit bytes blocks_are (λ l. rw (is, ng_records) refl) fewer
 
 unreached_by : (limit : ℕ) (bytes : List ℕ) (test : Bool) → is_of_blocks bytes ≡ test → length (all_in bytes) < limit → records_in (Some limit) bytes ≡ records_in None bytes
 unreached_by limit bytes false other fewer = savefile_unreached limit bytes _ refl other fewer

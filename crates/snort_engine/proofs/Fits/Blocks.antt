@@ -19,7 +19,7 @@ use Rattle.pcapng_input.specs.declared.resolution.Resolution.{Resolution}
 use Rattle.pcapng_input.specs.declared.walk.Interface.{Interface}
 use Rattle.pcapng_input.specs.declared.walk.Walk.{Walk}
 use Rattle.pcapng_input.specs.Options.{resolution_told}
-use Rattle.pcapng_input.specs.Blocks.{Ends, Next, Stands, Step, Stops, Skips, Gives, begun, closing, content_of, cut_up, enhanced_of, front_length, fronted, given_by, inner_length, interface_of, is_full, is_sized, known, link_of, new_section, next_along, next_of, order_of, other_block, packet_of, records_left, section_begun, section_block, section_of, section_type, simple_of, step_of}
+use Rattle.pcapng_input.specs.Blocks.{Ends, Next, Follows, Step, Stops, Skips, Gives, begun, closing, content_of, cut_up, enhanced_of, front_length, fronted, given_by, inner_length, interface_of, is_full, is_sized, known, link_of, new_section, next_along, next_of, order_of, other_block, packet_of, records_left, section_begun, section_block, section_of, section_type, simple_of, step_of}
 use Rattle.pcapng_input.proofs.Blocks.Begins.{fronted-err, fronted-ok}
 use Rattle.pcapng_input.proofs.Blocks.Closing.{given-interface, given-no_resolution}
 use Rattle.unified2_out.specs.Records.{AllFit}
@@ -100,20 +100,20 @@ given_fits walk block (content.Packet packet) inner more short own all =
     let less : length (take packet.captured inner) ≤ 262144 = omega (arith, few, length-take packet.captured inner) in
     (record { short = less; bytes = All-take IsByte packet.captured inner own }, all)
 
-closing_fits : (walk : Walk) (block : Block) (told : Content) (behind : List ℕ) → IsShort (Ok told) → AllFit 1 behind → FitsStep (closing walk block told behind)
+closing_fits : (walk : Walk) (block : Block) (told : Content) (after : List ℕ) → IsShort (Ok told) → AllFit 1 after → FitsStep (closing walk block told after)
 unfolding closing
-closing_fits walk block told behind short all =
-    either (nat_lt (length behind) (inner_length block + 4)) _ _ tt
-    (either (number_at walk.section.swapped 0 4 (drop (inner_length block) behind) == block.total) _ _
-    (given_fits walk block told (take (inner_length block) behind) (drop (inner_length block + 4) behind) short
-    (All-take IsByte (inner_length block) behind all) (All-drop IsByte (inner_length block + 4) behind all)) tt)
+closing_fits walk block told after short all =
+    either (nat_lt (length after) (inner_length block + 4)) _ _ tt
+    (either (number_at walk.section.swapped 0 4 (drop (inner_length block) after) == block.total) _ _
+    (given_fits walk block told (take (inner_length block) after) (drop (inner_length block + 4) after) short
+    (All-take IsByte (inner_length block) after all) (All-drop IsByte (inner_length block + 4) after all)) tt)
 
-fronted_fits : (walk : Walk) (block : Block) (front behind : List ℕ) (told : Result Content NgFault) → content_of walk block front ≡ told → AllFit 1 behind
-    → FitsStep (fronted walk block front behind)
-fronted_fits walk block front behind (Err why) is all = subst FitsStep (sym (fronted-err walk block front why is behind)) tt
-fronted_fits walk block front behind (Ok told) is all =
+fronted_fits : (walk : Walk) (block : Block) (front after : List ℕ) (told : Result Content NgFault) → content_of walk block front ≡ told → AllFit 1 after
+    → FitsStep (fronted walk block front after)
+fronted_fits walk block front after (Err why) is all = subst FitsStep (sym (fronted-err walk block front why is after)) tt
+fronted_fits walk block front after (Ok told) is all =
     let short : IsShort (Ok told) = subst IsShort is (content_short walk block.kind block.total front) in
-    subst FitsStep (sym (fronted-ok walk block front told is behind)) (closing_fits walk block told behind short all)
+    subst FitsStep (sym (fronted-ok walk block front told is after)) (closing_fits walk block told after short all)
 
 known_fits : (walk : Walk) (block : Block) (body : List ℕ) → AllFit 1 body → FitsStep (known walk block body)
 unfolding known
@@ -144,14 +144,14 @@ step_fits walk rest all =
 -- what comes next fits
 abbrev FitsNext : Next → Type 0
 FitsNext (Ends ending) = ⊤
-FitsNext (Stands given walk more) = FitsCaptured given.item × AllFit 1 more
+FitsNext (Follows given walk more) = FitsCaptured given.item × AllFit 1 more
 
 along_by : (most : ℕ) (walk : Walk) (rest : List ℕ) (step : Step) → step_of walk rest ≡ step → FitsStep step
     → ((w : Walk) (more : List ℕ) → AllFit 1 more → FitsNext (next_along most w more)) → FitsNext (next_along (suc most) walk rest)
 unfolding next_along
 along_by most walk rest (Stops ending) is fits on = rw (next_along, is) tt
-along_by most walk rest (Skips behind more) is fits on = rw (next_along, is) (on behind more fits)
-along_by most walk rest (Gives given behind more) is fits on = rw (next_along, is) fits
+along_by most walk rest (Skips after more) is fits on = rw (next_along, is) (on after more fits)
+along_by most walk rest (Gives given after more) is fits on = rw (next_along, is) fits
 
 along_fits : (most : ℕ) (walk : Walk) (rest : List ℕ) → AllFit 1 rest → FitsNext (next_along most walk rest)
 unfolding next_along
@@ -170,8 +170,8 @@ blocks_by : (most : ℕ) (walk : Walk) (rest : List ℕ) (next : Next) → next_
     → ((w : Walk) (more : List ℕ) → AllFit 1 more → All FitsGiven (cut_up most w more).records) → All FitsGiven (cut_up (suc most) walk rest).records
 unfolding cut_up
 blocks_by most walk rest (Ends ending) is fits on = rw (cut_up, is) (All-nil FitsGiven)
-blocks_by most walk rest (Stands given behind more) is fits on =
-    rw (cut_up, is) (All-cons FitsGiven given (cut_up most behind more).records fits.0 (on behind more fits.1))
+blocks_by most walk rest (Follows given after more) is fits on =
+    rw (cut_up, is) (All-cons FitsGiven given (cut_up most after more).records fits.0 (on after more fits.1))
 
 blocks_cut_fits : (most : ℕ) (walk : Walk) (rest : List ℕ) → AllFit 1 rest → All FitsGiven (cut_up most walk rest).records
 unfolding cut_up

@@ -55,8 +55,8 @@ unfolding ng_records
 blocks_by limit bytes (blocks.Stops (Refused why)) is all =
     subst (λ read. All FitsRecord (recording_in_blocks read).records) (sym (ng_records-refused bytes limit why is)) (All-nil FitsRecord)
 blocks_by limit bytes (blocks.Stops Clean) is all = kept_fits limit bytes all (rw (is, ng_records) refl)
-blocks_by limit bytes (blocks.Skips behind more) is all = kept_fits limit bytes all (rw (is, ng_records) refl)
-blocks_by limit bytes (blocks.Gives given behind more) is all = kept_fits limit bytes all (rw (is, ng_records) refl)
+blocks_by limit bytes (blocks.Skips after more) is all = kept_fits limit bytes all (rw (is, ng_records) refl)
+blocks_by limit bytes (blocks.Gives given after more) is all = kept_fits limit bytes all (rw (is, ng_records) refl)
 
 either_fits : (limit : Option ℕ) (bytes : List ℕ) (test : Bool) → is_of_blocks bytes ≡ test → AllFit 1 bytes → All FitsRecord (records_in limit bytes).records
 unfolding records_in

@@ -5,7 +5,7 @@ use Rattle.std.specs.FinMap.{get}
 use Rattle.std.specs.List.{concat}
 use Rattle.std.proofs.lemmas.List.{append-nil}
 use mathlib.Core.List.{IsPrefix}
-use Rattle.edge_io.specs.Told.{behind, Rose}
+use Rattle.edge_io.specs.Told.{grown, Rose}
 use Rattle.edge_io.specs.Files.{Files}
 use Rattle.alert_lines.specs.Written.{WritesPart}
 use Rattle.alert_lines.proofs.Prefixes.{IsPrefix-same}
@@ -30,7 +30,7 @@ IsPlain status.NoMemory = ⊥
 
 -- a run ended as its answer says
 pub ends_met : (files : Files) (course : Course) (before after : Work) (ended : Status) (alerts message : List ℕ) → IsPlain ended
-    → after.alerts ≡ behind before.alerts alerts → IsAnswered (answer_of files course) ended alerts message → ReadsAhead files course before after ended
+    → after.alerts ≡ grown before.alerts alerts → IsAnswered (answer_of files course) ended alerts message → ReadsAhead files course before after ended
     → Ends files course before after ended message
 ends_met files course before after ended alerts message plain wrote answered ahead = record {
   alerts = alerts;
@@ -45,7 +45,7 @@ ends_met files course before after ended alerts message plain wrote answered ahe
 
 -- a run ended at a fault of the host, or at a file that is lacking
 pub ends_unread : (files : Files) (course : Course) (before after : Work) (alerts message : List ℕ)
-    → after.alerts ≡ behind before.alerts alerts → IsPrefix alerts (answer_of files course).alerts
+    → after.alerts ≡ grown before.alerts alerts → IsPrefix alerts (answer_of files course).alerts
     → ((¬ Rose before.host_faults after.host_faults) → IsAnswered (answer_of files course) status.HostFault alerts message)
     → IsAnswered (answer_of files course) status.HostFault alerts message ⊎ IsCutShort files course before after message
     → ReadsAhead files course before after status.HostFault
@@ -63,7 +63,7 @@ ends_unread files course before after alerts message wrote prefix stated how ahe
 
 -- a run ended at a file that is lacking
 pub ends_answered : (files : Files) (course : Course) (before after : Work) (alerts message : List ℕ)
-    → after.alerts ≡ behind before.alerts alerts → IsAnswered (answer_of files course) status.HostFault alerts message
+    → after.alerts ≡ grown before.alerts alerts → IsAnswered (answer_of files course) status.HostFault alerts message
     → ReadsAhead files course before after status.HostFault
     → Ends files course before after status.HostFault message
 ends_answered files course before after alerts message wrote answered ahead =

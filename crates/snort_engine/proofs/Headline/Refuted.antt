@@ -8,9 +8,9 @@ use Rattle.std.proofs.Common.{◌≡◌, ℕ, ◌+◌, ◌-◌, ◌≤◌, List,
 use Rattle.std.specs.FinMap.{get}
 use Rattle.std.proofs.lemmas.List.{length-append, take_at}
 use Rattle.std.proofs.Math.Seq.{take-append-add}
-use Rattle.edge_io.specs.Told.{behind, Rose}
+use Rattle.edge_io.specs.Told.{grown, Rose}
 use Rattle.edge_io.specs.Files.{Files}
-use Rattle.edge_io.proofs.Told.{behind-nil}
+use Rattle.edge_io.proofs.Told.{grown-nil}
 use Rattle.option_eval.specs.Places.{Means}
 use Rattle.command_words.specs.CommandLine.{command_line}
 use Rattle.snort_engine.specs.declared.status.Status.{Status}
@@ -29,20 +29,20 @@ use Rattle.snort_engine.specs.Headline.{HasOther, Headline}
 use Rattle.snort_engine.proofs.Lines.Laws.{lines_join}
 
 -- after what is told, a text and no text differ
-behind_apart : (old text : List ℕ) (byte : ℕ) (rest : List ℕ) → behind (Some old) text ≡ behind (Some old) (text ++ byte ∷ rest) → ⊥
-unfolding behind
-behind_apart old text byte rest same =
+after_apart : (old text : List ℕ) (byte : ℕ) (rest : List ℕ) → grown (Some old) text ≡ grown (Some old) (text ++ byte ∷ rest) → ⊥
+unfolding grown
+after_apart old text byte rest same =
     let joined : old ++ text ≡ old ++ (text ++ byte ∷ rest) = cc in
     let lengths : length (old ++ text) ≡ length (old ++ (text ++ byte ∷ rest)) = ap length joined in
     absurd (omega (arith, lengths, length-append old text, length-append old (text ++ byte ∷ rest), length-append text (byte ∷ rest)))
 
 -- the lines of the first record alone, where the answer has those of both: no run ends so as Done
 pub one_line_short : (files : Files) (course : Course) (before after : Work) (message old first : List ℕ) (byte : ℕ) (second : List ℕ) → before.alerts ≡ Some old
-    → (answer_of files course).alerts ≡ first ++ byte ∷ second → after.alerts ≡ behind (Some old) first → Ends files course before after status.Done message → ⊥
+    → (answer_of files course).alerts ≡ first ++ byte ∷ second → after.alerts ≡ grown (Some old) first → Ends files course before after status.Done message → ⊥
 one_line_short files course before after message old first byte second told answers wrote ends =
-    behind_apart old first byte second
-    (sym wrote ∙ ends.wrote ∙ ap (λ (b : Option (List ℕ)). behind b ends.alerts) told
-    ∙ ap (behind (Some old)) ((ends.ended_as_stated tt).alerts_are ∙ answers))
+    after_apart old first byte second
+    (sym wrote ∙ ends.wrote ∙ ap (λ (b : Option (List ℕ)). grown b ends.alerts) told
+    ∙ ap (grown (Some old)) ((ends.ended_as_stated tt).alerts_are ∙ answers))
 
 -- the first records of joined lists, where they go past the first list
 front_past : (count : ℕ) (first others : List LinkedRecord) → length first ≤ count → take count (first ++ others) ≡ first ++ take (count - length first) others
@@ -93,7 +93,7 @@ pub record IsTakenBeyond (plan : Plan) (held left : Option (List ℕ)) (text : L
 
 -- where a record was taken after a batch that has a line, and no more than this text was written, that is too little
 due_unwritten : (plan : Plan) (held : Option (List ℕ)) (before after : Work) (ended : Status) (old text : List ℕ) → IsTakenBeyond plan held after.left text
-    → before.alerts ≡ Some old → after.alerts ≡ behind (Some old) text → IsReadAhead plan held before after ended → ⊥
+    → before.alerts ≡ Some old → after.alerts ≡ grown (Some old) text → IsReadAhead plan held before after ended → ⊥
 due_unwritten plan held before after ended old text beyond told wrote read =
     let lefts : Some read.rest ≡ Some beyond.rest = sym read.still ∙ beyond.still in
     let rests : read.rest ≡ beyond.rest = cc in
@@ -104,10 +104,10 @@ due_unwritten plan held before after ended old text beyond told wrote read =
     let more = due.0 in
     let all : lines_due plan read.taken ≡ text ++ beyond.byte ∷ (beyond.line ++ more) =
     ap (lines_due plan) takens ∙ due.1 ∙ ap (λ (x : List ℕ). x ++ more) beyond.shown ∙ append_assoc text (beyond.byte ∷ beyond.line) more in
-    behind_apart old text beyond.byte ((beyond.line ++ more) ++ read.more)
-    (sym wrote ∙ read.wrote ∙ ap (λ (b : Option (List ℕ)). behind b (lines_due plan read.taken ++ read.more)) told
-    ∙ ap (λ (x : List ℕ). behind (Some old) (x ++ read.more)) all
-    ∙ ap (behind (Some old)) (append_assoc text (beyond.byte ∷ (beyond.line ++ more)) read.more))
+    after_apart old text beyond.byte ((beyond.line ++ more) ++ read.more)
+    (sym wrote ∙ read.wrote ∙ ap (λ (b : Option (List ℕ)). grown b (lines_due plan read.taken ++ read.more)) told
+    ∙ ap (λ (x : List ℕ). grown (Some old) (x ++ read.more)) all
+    ∙ ap (grown (Some old)) (append_assoc text (beyond.byte ∷ (beyond.line ++ more)) read.more))
 
 -- a batch that has a line was taken and a record after it, and no line was written: no run ends so at a write fault
 pub one_record_too_far : (files : Files) (course : Course) (plan : Plan) (before after : Work) (message old : List ℕ)
@@ -117,7 +117,7 @@ unfolding ReadsAhead
 one_record_too_far files course plan before after message old goes beyond told wrote ends =
     ⊎_elim
     (λ (read : IsReadAhead plan (get files plan.source) before after status.WriteFault).
-    due_unwritten plan (get files plan.source) before after status.WriteFault old [] beyond told (wrote ∙ sym (behind-nil (Some old))) read)
+    due_unwritten plan (get files plan.source) before after status.WriteFault old [] beyond told (wrote ∙ sym (grown-nil (Some old))) read)
     (λ cut. ⊎_elim (λ is. absurd cc) (λ is. absurd cc) cut.0)
     (subst (λ (way : Way). ReadsAheadOn files way before after status.WriteFault) goes ends.read_ahead)
 
@@ -125,7 +125,7 @@ one_record_too_far files course plan before after message old goes beyond told w
 -- so, whatever its status
 pub rest_read_after_the_fault : (files : Files) (course : Course) (plan : Plan) (before after : Work) (ended : Status) (message old text : List ℕ)
     → course.way ≡ Goes plan → before.opens + 1 ≤ after.opens → IsTakenBeyond plan (get files plan.source) after.left text
-    → before.alerts ≡ Some old → after.alerts ≡ behind (Some old) text → Ends files course before after ended message → ⊥
+    → before.alerts ≡ Some old → after.alerts ≡ grown (Some old) text → Ends files course before after ended message → ⊥
 unfolding ReadsAhead
 rest_read_after_the_fault files course plan before after ended message old text goes opened beyond told wrote ends =
     ⊎_elim
@@ -182,7 +182,7 @@ one_record_past_the_limit files course plan before after message taken rest limi
 -- run of a capture that is there ends so as a host fault
 pub flows_ended_after_a_read_fault : (files : Files) (course : Course) (plan : Plan) (before after : Work) (message old taken rest : List ℕ) (byte : ℕ) (more : List ℕ)
     → course.way ≡ Goes plan → get files plan.source ≡ Some (taken ++ rest) → after.left ≡ Some rest
-    → before.alerts ≡ Some old → after.alerts ≡ behind (Some old) (lines_within plan taken ++ byte ∷ more)
+    → before.alerts ≡ Some old → after.alerts ≡ grown (Some old) (lines_within plan taken ++ byte ∷ more)
     → ((answer_of files course).status ≡ status.HostFault → ⊥) → Ends files course before after status.HostFault message → ⊥
 flows_ended_after_a_read_fault files course plan before after message old taken rest byte more goes held left told wrote there ends =
     ⊎_elim
@@ -194,8 +194,8 @@ flows_ended_after_a_read_fault files course plan before after message old taken 
     let wholes : cut.taken ++ rest ≡ taken ++ rest = cc in
     let takens : cut.taken ≡ taken = same_front cut.taken taken rest rest refl wholes in
     let text : lines_within cut.plan cut.taken ≡ lines_within plan taken = ap (λ (p : Plan). lines_within p cut.taken) plans ∙ ap (lines_within plan) takens in
-    behind_apart old (lines_within plan taken) byte more
-    (sym (ap (behind (Some old)) text) ∙ sym (ap (λ (b : Option (List ℕ)). behind b (lines_within cut.plan cut.taken)) told) ∙ sym cut.wrote ∙ wrote))
+    after_apart old (lines_within plan taken) byte more
+    (sym (ap (grown (Some old)) text) ∙ sym (ap (λ (b : Option (List ℕ)). grown b (lines_within cut.plan cut.taken)) told) ∙ sym cut.wrote ∙ wrote))
     (ends.read_fault refl)
 
 -- a capture that was opened a third time

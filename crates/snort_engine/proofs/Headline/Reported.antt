@@ -3,10 +3,10 @@ use Rattle.std.proofs.Common.{◌≡◌, ℕ, ◌+◌, ◌<◌, ◌≤◌, Bool,
 use Rattle.std.specs.List.{concat}
 use Rattle.std.proofs.lemmas.List.{append-nil, take_more}
 use Rattle.std.proofs.lemmas.List.Concat.{concat_is, flat_map-append}
-use Rattle.edge_io.specs.Told.{behind, Rose}
-use Rattle.edge_io.proofs.Told.{behind-nil, behind-behind}
+use Rattle.edge_io.specs.Told.{grown, Rose}
+use Rattle.edge_io.proofs.Told.{grown-nil, grown-grown}
 use Rattle.alert_lines.specs.Written.{WritesPart}
-use Rattle.alert_lines.proofs.Prefixes.{WritesPart-none, WritesPart-all, WritesPart-longer, WritesPart-behind}
+use Rattle.alert_lines.proofs.Prefixes.{WritesPart-none, WritesPart-all, WritesPart-longer, WritesPart-after}
 use Rattle.snort_engine.specs.declared.status.Status.{Status}
 use Rattle.snort_engine.specs.declared.status.Status.TheVariants as status
 use Rattle.snort_engine.specs.declared.stop.Stop.{Stop}
@@ -23,7 +23,7 @@ pub tells_nothing : (text : List ℕ) (old : Option (List ℕ)) (rose : Type 0) 
 tells_nothing text old rose = record { part = WritesPart-none old text; whole = tt; failed = tt; silent = (refl, refl) }
 
 -- the text was told whole
-pub tells_whole : (text : List ℕ) (old new : Option (List ℕ)) (rose : Type 0) → new ≡ behind old text → TellsOn text true old new rose true
+pub tells_whole : (text : List ℕ) (old new : Option (List ℕ)) (rose : Type 0) → new ≡ grown old text → TellsOn text true old new rose true
 tells_whole text old new rose wrote = record { part = WritesPart-all old new text wrote; whole = wrote; failed = tt; silent = tt }
 
 -- the sink failed
@@ -32,7 +32,7 @@ tells_part text old new rose part failed = record { part = part; whole = tt; fai
 
 -- no text was told
 pub tells_none : (old : Option (List ℕ)) (rose : Type 0) → TellsOn [] true old old rose true
-tells_none old rose = record { part = WritesPart-none old []; whole = sym (behind-nil old); failed = tt; silent = tt }
+tells_none old rose = record { part = WritesPart-none old []; whole = sym (grown-nil old); failed = tt; silent = tt }
 
 -- ---- one text after another
 
@@ -49,13 +49,13 @@ pub tells_more : (so_far text : List ℕ) (first middle last : Option (List ℕ)
     → TellsOn so_far true first middle (Rose at_first at_middle) well → TellsOn text well middle last (Rose at_middle at_last) still
     → TellsOn (so_far ++ text) true first last (Rose at_first at_last) still
 tells_more so_far text first middle last at_first at_middle at_last true true later on one two = record {
-  part = WritesPart-behind first middle last so_far text one.whole two.part;
-  whole = two.whole ∙ ap (λ (x : Option (List ℕ)). behind x text) one.whole ∙ behind-behind first so_far text;
+  part = WritesPart-after first middle last so_far text one.whole two.part;
+  whole = two.whole ∙ ap (λ (x : Option (List ℕ)). grown x text) one.whole ∙ grown-grown first so_far text;
   failed = tt;
   silent = tt;
 }
 tells_more so_far text first middle last at_first at_middle at_last true false later on one two = record {
-  part = WritesPart-behind first middle last so_far text one.whole two.part;
+  part = WritesPart-after first middle last so_far text one.whole two.part;
   whole = tt;
   failed = rose_since at_first at_middle at_last later two.failed;
   silent = tt;
@@ -91,9 +91,9 @@ pub tells_message : (warnings text : List ℕ) (first middle last : Option (List
     → TellsOn warnings true first middle (Rose at_first at_middle) well → TellsLast text well middle last (Rose at_middle at_last)
     → TellsMessage (warnings ++ text) first last (Rose at_first at_last)
 tells_message warnings text first middle last at_first at_middle at_last true later on one two = record {
-  part = WritesPart-behind first middle last warnings text one.whole two.part;
+  part = WritesPart-after first middle last warnings text one.whole two.part;
   whole = ⊎_elim
-      (λ (wrote : last ≡ behind middle text). inl (wrote ∙ ap (λ (x : Option (List ℕ)). behind x text) one.whole ∙ behind-behind first warnings text))
+      (λ (wrote : last ≡ grown middle text). inl (wrote ∙ ap (λ (x : Option (List ℕ)). grown x text) one.whole ∙ grown-grown first warnings text))
       (λ (rose : Rose at_middle at_last). inr (rose_since at_first at_middle at_last later rose)) two.whole;
 }
 tells_message warnings text first middle last at_first at_middle at_last false later on one two = record {

@@ -2,7 +2,7 @@
 use Rattle.std.proofs.lemmas.Bool.Decides.{nat_tests}
 use Rattle.std.proofs.Common.{◌≡◌, ℕ, ◌+◌, ◌≤◌, Bool, true, false, List, [], ◌++◌, Option, Some, None, Result, Ok, Err, refl, sym, ap, subst, ◌∙◌, arith, inl, inr, ◌⊎◌, ⊎_elim}
 use Rattle.std.specs.List.{concat}
-use Rattle.edge_io.specs.Told.{behind, Rose, one_more}
+use Rattle.edge_io.specs.Told.{grown, Rose, one_more}
 use Rattle.edge_io.specs.Files.{Files, Lacks}
 use Rattle.snort_engine.specs.declared.plan.Source.{Source}
 use Rattle.snort_engine.specs.declared.plan.Source.TheVariants.{File, Made}
@@ -10,7 +10,7 @@ use Rattle.snort_engine.specs.Records.{IsToldOther}
 use Rattle.snort_engine.specs.Steps.Reader.{MayBeOther, OpensSo}
 use Rattle.snort_engine.specs.Steps.Sources.{IsMade, LacksCapture, OpensOn, way_from}
 use Rattle.snort_engine.specs.Records.{BeginsOtherwise}
-use Rattle.edge_io.proofs.Told.{behind-nil}
+use Rattle.edge_io.proofs.Told.{grown-nil}
 use Rattle.option_eval.specs.Places.{Means}
 use Rattle.command_words.specs.CommandLine.{Asked, command_line}
 use Rattle.rule_eval.specs.Hits.{Test, Tells}
@@ -60,8 +60,8 @@ stops_ends files course message ended before after is early unopened =
     text : List ℕ
     text = concat course.warnings ++ message
 
-    wrote : after.alerts ≡ behind before.alerts []
-    wrote = unopened.alerts ∙ sym (behind-nil before.alerts)
+    wrote : after.alerts ≡ grown before.alerts []
+    wrote = unopened.alerts ∙ sym (grown-nil before.alerts)
 
     meant : answer_of files course ≡ record { alerts = []; errors = concat course.warnings ++ message; status = ended }
     meant = stops_answered files course message ended is

@@ -15,13 +15,13 @@ use Rattle.alert_lines.specs.Sourcing.{sourced_items}
 use Rattle.alert_lines.proofs.Beside.{by_place-along, by_place-same, places_along-more, sources_are}
 use Rattle.snort_engine.specs.Trace.{job_items, last_of, no_record}
 use Rattle.snort_engine.specs.Steps.Detecting.{MakesJobs}
-use Rattle.snort_engine.specs.Steps.Sourcing.{PlacesJobs, last_behind}
+use Rattle.snort_engine.specs.Steps.Sourcing.{PlacesJobs, last_after}
 
 -- the last of records that come after others
 pub last_of-more : (before : List LinkedRecord) (last : LinkedRecord) (records : List LinkedRecord) → last ≡ last_of before
-    → last_behind last records ≡ last_of (before ++ records)
+    → last_after last records ≡ last_of (before ++ records)
 last_of-more before last records is =
-    ap (λ (l : LinkedRecord). last_behind l records) is ∙ sym (fold-append (λ (_ r : LinkedRecord). r) no_record before records)
+    ap (λ (l : LinkedRecord). last_after l records) is ∙ sym (fold-append (λ (_ r : LinkedRecord). r) no_record before records)
 
 -- the jobs of records that were read after others, each beside its record
 pub sources_made : (way : JobsWay) (records : List LinkedRecord) (last : LinkedRecord) (before : List LinkedRecord) (made : List Job) (places : List ℕ)
@@ -47,24 +47,24 @@ told_found d source before batch hits is =
 
 -- no record was taken
 pub places_none : (way : JobsWay) (front : FrontState) → PlacesJobs way [] front []
-places_none way front = λ before stands. refl
+places_none way front = λ before holds. refl
 
 -- one record more was taken
 pub places_more : (way : JobsWay) (records : List LinkedRecord) (i : ℕ) (one_more : LinkedRecord) (old middle new : FrontState) (made next : List Job) (places : List ℕ) (count size : ℕ) → i < length records → one_more ≡ get_or records i one_more
     → MakesJobs way (take i records) old middle made → TakesRecord way middle one_more new made next
     → PlacesJobs way (take i records) old places → length places ≡ length made → count ≡ length next → size ≡ length places
     → PlacesJobs way (take (i + 1) records) old (take count places ++ replicate (count - size) i)
-places_more way records i one_more old middle new made next places count size lt is makes takes so_far same all sized = λ before stands.
+places_more way records i one_more old middle new made next places count size lt is makes takes so_far same all sized = λ before holds.
     let front = take i records in
-    let one = makes before stands in
-    let two = takes (before ++ front) one.stands in
+    let one = makes before holds in
+    let two = takes (before ++ front) one.holds in
     let fresh = jobs way (before ++ front) one_more in
     let a = ap length two.added in
     let b = length-append made fresh in
     let kept : take count places ≡ places = take_all count places (omega (arith, a, b, same, all)) in
     let filled : count - size ≡ length fresh = omega (arith, a, b, same, all, sized) in
     let at : i ≡ 0 + length front = let d = length-take-le i records (omega (arith, lt)) in omega (arith, d) in
-    ap₂ (λ (p : List ℕ) (n : ℕ). p ++ replicate n i) (kept ∙ so_far before stands) filled
+    ap₂ (λ (p : List ℕ) (n : ℕ). p ++ replicate n i) (kept ∙ so_far before holds) filled
     ∙ ap (λ (n : ℕ). places_along (jobs way) before 0 front ++ replicate (length fresh) n) at
     ∙ sym (places_along-more (jobs way) before 0 front one_more)
     ∙ ap (places_along (jobs way) before 0) (ap (λ (r : LinkedRecord). take i records ++ r ∷ []) is ∙ sym (take_more records i one_more lt))

@@ -17,7 +17,7 @@ use Rattle.snort_engine.specs.Steps.Stop.{is_whole, write_stop}
 -- reading went no record further than what was read so far
 still_there : (first : RecordReader) (given : List LinkedRecord) (left_first : Option (List ℕ)) (reader : RecordReader) (left : Option (List ℕ)) → HasRead first reader given left_first left → HasStopped first given left_first left
 still_there first given left_first reader left read = record {
-  behind = reader;
+  following = reader;
   still = left;
   read = read;
   whole = reading-whole first reader given left_first left read;
@@ -43,7 +43,7 @@ pub reads_end : (old new : Place) → new.records ≡ old.records → AreWhole o
 reads_end old new same whole ends = λ first shown left_first read.
     let given = shown ++ old.records in
     let stopped : HasStopped first given left_first new.left =
-    record { behind = old.reader; still = old.left; read = read; whole = reading-stopped first old.reader given left_first old.left new.left read whole } in
+    record { following = old.reader; still = old.left; read = read; whole = reading-stopped first old.reader given left_first old.left new.left read whole } in
     let P : List LinkedRecord → Type 0 = λ records. Reaches first (shown ++ records) left_first (let place : Place = record { reader = new.reader; records = records; left = new.left } in place) End in
     subst P (sym same) (stopped, reading-ended first old.reader given left_first old.left Clean read ends)
 
@@ -52,7 +52,7 @@ pub reads_fault : (old new : Place) (why : ReadFault) → new.records ≡ old.re
 reads_fault old new why same whole refused = λ first shown left_first read.
     let given = shown ++ old.records in
     let stopped : HasStopped first given left_first new.left =
-    record { behind = old.reader; still = old.left; read = read; whole = reading-stopped first old.reader given left_first old.left new.left read whole } in
+    record { following = old.reader; still = old.left; read = read; whole = reading-stopped first old.reader given left_first old.left new.left read whole } in
     let P : List LinkedRecord → Type 0 = λ records. Reaches first (shown ++ records) left_first (let place : Place = record { reader = new.reader; records = records; left = new.left } in place) (Fault why) in
     subst P (sym same) (stopped, reading-refused first old.reader given why left_first old.left read refused)
 
@@ -78,5 +78,5 @@ more_reached (Fault why) is = absurd cc
 
 -- after a batch no more records were shown than a capture may have
 pub within_batch : (shown number count most : ℕ) → shown ≤ number → number ≤ most → (0 < count → number + count ≤ most) → shown + count ≤ most
-within_batch shown number zero most behind within more = omega arith
-within_batch shown number (suc count) most behind within more = let most_read = more (omega arith) in omega (arith, most_read)
+within_batch shown number zero most following within more = omega arith
+within_batch shown number (suc count) most following within more = let most_read = more (omega arith) in omega (arith, most_read)

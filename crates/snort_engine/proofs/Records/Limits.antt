@@ -8,7 +8,7 @@ use Rattle.pcap_input.specs.Cut.{AreWithin, Ending, Clean, no_more, first_record
 use Rattle.pcap_input.proofs.Cuts.{first_records-none, first_records-zero, first_records-no_more, first_records-front, front_of_none}
 use Rattle.snort_engine.specs.Records.{Recording}
 use Rattle.snort_engine.specs.ReadAhead.{batch, AreBatches, before_last_batch}
-use Rattle.snort_engine.specs.Steps.Showing.{IsRoom, most_at, room_behind}
+use Rattle.snort_engine.specs.Steps.Showing.{IsRoom, most_at, room_after}
 
 -- the records that were given come first, and then those that may still be read
 pub limit-front : (limit room : Option ℕ) (given : List LinkedRecord) (recording : Recording) → IsRoom limit (length given) room → first_records limit (with_front given recording) ≡ with_front given (first_records room recording)
@@ -82,14 +82,14 @@ room_first None = refl
 room_first (Some limit) = omega arith
 
 -- a batch more was given
-pub room_further : (limit room : Option ℕ) (given batch : List LinkedRecord) → IsRoom limit (length given) room → length batch ≤ most_at room → IsRoom limit (length (given ++ batch)) (room_behind room (length batch))
+pub room_further : (limit room : Option ℕ) (given batch : List LinkedRecord) → IsRoom limit (length given) room → length batch ≤ most_at room → IsRoom limit (length (given ++ batch)) (room_after room (length batch))
 room_further None None given batch is few = refl
 room_further None (Some room) given batch is few = absurd cc
 room_further (Some limit) None given batch is few = absurd is
 room_further (Some limit) (Some room) given batch is few = omega (arith, is, few, length-append given batch)
 
 -- a batch that was not full leaves room
-pub room_left : (room : Option ℕ) (count : ℕ) → count < most_at room → 0 < most_at (room_behind room count)
+pub room_left : (room : Option ℕ) (count : ℕ) → count < most_at room → 0 < most_at (room_after room count)
 room_left None count few = omega arith
 room_left (Some room) count few = omega (arith, few)
 
@@ -101,7 +101,7 @@ batches_none = (0, refl)
 
 -- after whole batches a full one ends another, or was the last that may be read
 pub batches_further : (room : Option ℕ) (given records : List LinkedRecord) → AreBatches given ⊎ (most_at room ≡ 0) → length records ≡ most_at room
-    → AreBatches (given ++ records) ⊎ (most_at (room_behind room (length records)) ≡ 0)
+    → AreBatches (given ++ records) ⊎ (most_at (room_after room (length records)) ≡ 0)
 batches_further None given records (inl (count, is)) full = inl (count + 1, omega (arith, is, full, length-append given records))
 batches_further None given records (inr none) full = absurd (omega (arith, none))
 batches_further (Some room) given records (inl (count, is)) full = ⊎_elim

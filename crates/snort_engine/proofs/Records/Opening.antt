@@ -42,7 +42,7 @@ use Rattle.pcap_input.specs.declared.capture.Record.{Record}
 use Rattle.pcapng_input.specs.declared.capture.NgRecord.{NgRecord}
 use Rattle.pcap_input.specs.Cut.{Refused, no_more, first_records, Cut, Clean}
 use Rattle.snort_engine.specs.Records.{Recording, of_savefile, of_blocks, recording_of, recording_in, recording_of_blocks, recording_in_blocks, with_link, is_of_blocks, records_in}
-use Rattle.snort_engine.specs.Steps.Reader.{IsFresh, number_of, recording_for, BeginsBehind, IsBarelyOpen, IsRefusedAtOnce, IsRefusedOpening, Opens, MayBeOther, OpensSo}
+use Rattle.snort_engine.specs.Steps.Reader.{IsFresh, number_of, recording_for, BeginsAfter, IsBarelyOpen, IsRefusedAtOnce, IsRefusedOpening, Opens, MayBeOther, OpensSo}
 use Rattle.snort_engine.specs.Records.{IsOther, IsToldOther}
 
 -- ---- which of the two a file is
@@ -98,7 +98,7 @@ opened_by bytes reader (Ok head) is opens = (head, is, cc)
 opened_by bytes reader (Err why) is opens = cc
 
 -- a reader begins after the head
-pub savefile_begins : (front : List ℕ) (head : CaptureHead) → head_of front ≡ Ok head → length front ≤ 24 → BeginsBehind front (Savefile (classic_reader.new_reader head))
+pub savefile_begins : (front : List ℕ) (head : CaptureHead) → head_of front ≡ Ok head → length front ≤ 24 → BeginsAfter front (Savefile (classic_reader.new_reader head))
 savefile_begins front head is few = λ limit more.
     let enough = long_enough front head is in
     let whole : length front ≡ 24 = omega (arith, enough) in
@@ -111,7 +111,7 @@ section_is : (bytes : List ℕ) → number_at false 0 4 bytes ≡ section_type �
 section_is bytes begins long = grind (arith, nat_tests, begins, long)
 
 -- a reader begins after the first block
-pub blocks_begin : (front : List ℕ) (reader : blocks_reader.Reading) → ((more : List ℕ) → opening (front ++ more) ≡ blocks.Skips reader.walk more) → BeginsBehind front (Blocks reader)
+pub blocks_begin : (front : List ℕ) (reader : blocks_reader.Reading) → ((more : List ℕ) → opening (front ++ more) ≡ blocks.Skips reader.walk more) → BeginsAfter front (Blocks reader)
 unfolding recording_for
 blocks_begin front reader opens = λ limit more.
     let section = opening_section (front ++ more) reader.walk more (opens more) in
@@ -199,7 +199,7 @@ savefile_opens files name reader left takes =
       rest = split.rest;
       of = held.1 ∙ ap Some split.joined;
       still = split.still;
-      begins = subst (λ (r : classic_reader.Reading). BeginsBehind takes.taken (Savefile r)) (sym opened.2) (savefile_begins takes.taken opened.0 opened.1 takes.few);
+      begins = subst (λ (r : classic_reader.Reading). BeginsAfter takes.taken (Savefile r)) (sym opened.2) (savefile_begins takes.taken opened.0 opened.1 takes.few);
     }
 
 -- the first block was read

@@ -20,7 +20,7 @@ use Rattle.pcapng_input.specs.Reader as blocks_reader
 use Rattle.pcapng_input.proofs.Blocks.Begins.{step_nothing}
 use Rattle.pcapng_input.proofs.Captures.Nexts.{next_of-stops}
 use Rattle.pcapng_input.proofs.Captures.Records as blocks_records
-use Rattle.pcapng_input.proofs.Captures.Numbers.{stands_counted}
+use Rattle.pcapng_input.proofs.Captures.Numbers.{follows_counted}
 use Rattle.record_jobs.specs.Way.{LinkedRecord, linked}
 use Rattle.snort_engine.specs.declared.fault.ReadFault.{ReadFault}
 use Rattle.snort_engine.specs.declared.fault.ReadFault.TheVariants as fault
@@ -112,7 +112,7 @@ savefile_gives old new given left left_next fresh takes is =
         fresh = fresh;
         taken = takes.taken;
         took = takes.took;
-        goes = λ more. ap (recording_of old.head.link) (classic_records.records_left-stands old.head old.number old.at (takes.taken ++ more) given more (takes.goes more));
+        goes = λ more. ap (recording_of old.head.link) (classic_records.records_left-follows old.head old.number old.at (takes.taken ++ more) given more (takes.goes more));
       },
       record { number = refl; within = (next_means old.head old.number old.at (takes.taken ++ []) given [] (takes.goes [])).few },
     )
@@ -164,12 +164,12 @@ pub blocks_give : (old new : blocks_reader.Reading) (given : NgRecord) (left lef
     → Gives (Blocks old) (Blocks new) (Ok (Some (with_link given))) left left_next
 unfolding recording_for
 blocks_give old new given left left_next takes =
-    let counted = stands_counted old.walk (takes.taken ++ []) given new.walk [] (takes.goes []) in (
+    let counted = follows_counted old.walk (takes.taken ++ []) given new.walk [] (takes.goes []) in (
       record {
         fresh = takes.fresh;
         taken = takes.taken;
         took = takes.took;
-        goes = λ more. ap recording_of_blocks (blocks_records.records_left-stands old.walk (takes.taken ++ more) given new.walk more (takes.goes more));
+        goes = λ more. ap recording_of_blocks (blocks_records.records_left-follows old.walk (takes.taken ++ more) given new.walk more (takes.goes more));
       },
       record { number = counted.one; within = counted.few },
     )

@@ -3,9 +3,9 @@ use Rattle.std.proofs.Common.{◌≡◌, ℕ, ◌≤◌, List, [], ◌++◌, Opt
 use Rattle.std.specs.FinMap.{get}
 use Rattle.std.specs.List.{concat}
 use Rattle.std.proofs.lemmas.List.{append-nil, take-append-drop, take-append-le}
-use Rattle.edge_io.specs.Told.{behind, Rose}
+use Rattle.edge_io.specs.Told.{grown, Rose}
 use Rattle.edge_io.specs.Files.{Files}
-use Rattle.edge_io.proofs.Told.{behind-nil}
+use Rattle.edge_io.proofs.Told.{grown-nil}
 use Rattle.pcap_input.proofs.Cuts.{first_records-none}
 use Rattle.pcap_input.proofs.Told.{split_told}
 use Rattle.record_jobs.specs.Way.{LinkedRecord}
@@ -21,7 +21,7 @@ use Rattle.snort_engine.specs.declared.stop.Stop.TheVariants as stop
 use Rattle.snort_engine.specs.Course.{Plan, Goes, Course}
 use Rattle.pcap_input.specs.Cut.{AreWithin, Ending, Clean, Refused}
 use Rattle.snort_engine.specs.Records.{Recording, records_in, records_of}
-use Rattle.snort_engine.specs.Steps.Reader.{BeginsBehind, IsBarelyOpen, IsRefusedAtOnce, Opens, recording_for}
+use Rattle.snort_engine.specs.Steps.Reader.{BeginsAfter, IsBarelyOpen, IsRefusedAtOnce, Opens, recording_for}
 use Rattle.snort_engine.specs.declared.counts.Counts.{Counts}
 use Rattle.snort_engine.specs.Trace.{Open, Closed}
 use Rattle.snort_engine.specs.Counts.{counts_of, no_counts, told_counts, with_counts}
@@ -33,7 +33,7 @@ use Rattle.snort_engine.specs.ReadAhead.{batch, before_last_batch, earlier_batch
 use Rattle.snort_engine.specs.Ending.{IsAnswered, IsTakenOf, lines_within, IsCutShort, Ends}
 use Rattle.snort_engine.specs.Steps.Stop.{stop_status, stop_text, outcome_status, outcome_text}
 use Rattle.snort_engine.specs.Steps.Reporting.{counts_due}
-use Rattle.snort_engine.specs.Steps.Showing.{recording_by, lines_of, IsReadOut, HasReadTo, IsReadCutShort, IsCloseBehind, ShowsTo, WritesSome, ShowsCapture}
+use Rattle.snort_engine.specs.Steps.Showing.{recording_by, lines_of, IsReadOut, HasReadTo, IsReadCutShort, IsCloseAfter, ShowsTo, WritesSome, ShowsCapture}
 use Rattle.snort_engine.proofs.Lines.Laws.{lines_join, lines-nil, lines-none, no_counts-are}
 use Rattle.snort_engine.proofs.Records.Limits.{batches_none, before_last}
 use Rattle.snort_engine.proofs.Records.Opening.{few_hold_none}
@@ -99,7 +99,7 @@ barely_ahead plan files before after ended same open_so = record {
   of = open_so.of;
   still = open_so.still;
   more = [];
-  wrote = same ∙ sym (behind-nil before.alerts) ∙ ap (behind before.alerts) (sym (append-nil (lines_due plan open_so.taken) ∙ none_due plan open_so.taken open_so.none));
+  wrote = same ∙ sym (grown-nil before.alerts) ∙ ap (grown before.alerts) (sym (append-nil (lines_due plan open_so.taken) ∙ none_due plan open_so.taken open_so.none));
   within = none_over plan.limit open_so.taken open_so.none;
   in_batches = λ is. inl (subst AreBatches (sym (open_so.none plan.limit)) batches_none);
 }
@@ -127,7 +127,7 @@ open_cut plan files course why before after goes same takes =
       goes = goes;
       taken = taken;
       of = of;
-      wrote = same ∙ sym (behind-nil before.alerts) ∙ ap (behind before.alerts) (sym (none_within plan taken none));
+      wrote = same ∙ sym (grown-nil before.alerts) ∙ ap (grown before.alerts) (sym (none_within plan taken none));
       says = refl;
     }
 
@@ -154,7 +154,7 @@ refused_ends plan files course why before after counts goes same counted plain o
     let is = answer_goes files course plan goes ∙ answer-err plan (warned course) bytes why (get files plan.source) open_so.of (gives bytes open_so.of plan.limit) in
     let text : Counts → List ℕ = λ (c : Counts). warned course ++ with_counts (fault_text plan.source why) (told_counts plan.counted c) in
     ends_met files course before after (fault_status why) (lines plan [] [] Closed) (text counts) plain
-    (same ∙ sym (behind-nil before.alerts) ∙ ap (behind before.alerts) (sym (lines-none plan)))
+    (same ∙ sym (grown-nil before.alerts) ∙ ap (grown before.alerts) (sym (lines-none plan)))
     (subst (λ (m : List ℕ). IsAnswered (answer_of files course) (fault_status why) (lines plan [] [] Closed) m) (ap text (sym counted)) (answered (answer_of files course) _ is))
     (ahead_goes files course plan before after (fault_status why) goes (barely_ahead plan files before after (fault_status why) same open_so))
 
@@ -186,7 +186,7 @@ open_ends plan files course fault.NoMemory before after counts goes same counted
     (open_ahead plan files course fault.NoMemory before after status.NoMemory goes same (inr refl) opens.1)
 open_ends plan files course fault.Failed before after counts goes same counted opens failed =
     ends_unread files course before after [] (warned course ++ cannot_read_text plan.source)
-    (same ∙ sym (behind-nil before.alerts))
+    (same ∙ sym (grown-nil before.alerts))
     (IsPrefix-nil (answer_of files course).alerts)
     (λ still. ⊎_elim (λ risen. absurd (still risen)) (λ lacks. lacking_answered plan files course goes lacks) (failed refl))
     (inr (open_cut plan files course fault.Failed before after goes same opens.1))
@@ -209,16 +209,16 @@ front_first plan given last batches few =
     )
 
 -- the records within what was taken by the opening and some more bytes
-records_behind : (plan : Plan) (front taken : List ℕ) (reader : RecordReader) → BeginsBehind front reader → (records_of plan (front ++ taken)).records ≡ (recording_by plan reader taken).records
-records_behind plan front taken reader begins = ap (λ (r : Recording). r.records) (begins plan.limit taken)
+records_after : (plan : Plan) (front taken : List ℕ) (reader : RecordReader) → BeginsAfter front reader → (records_of plan (front ++ taken)).records ≡ (recording_by plan reader taken).records
+records_after plan front taken reader begins = ap (λ (r : Recording). r.records) (begins plan.limit taken)
 
 -- all records within what was taken by the opening and some more bytes, without a limit
-all_behind : (front taken : List ℕ) (reader : RecordReader) → BeginsBehind front reader → (records_in None (front ++ taken)).records ≡ (recording_for reader taken).records
-all_behind front taken reader begins = ap (λ (r : Recording). r.records) (begins None taken ∙ first_records-none (recording_for reader taken))
+all_after : (front taken : List ℕ) (reader : RecordReader) → BeginsAfter front reader → (records_in None (front ++ taken)).records ≡ (recording_for reader taken).records
+all_after front taken reader begins = ap (λ (r : Recording). r.records) (begins None taken ∙ first_records-none (recording_for reader taken))
 
 -- what was taken by the opening and after it, and the rest
-joined_behind : (front taken rest : List ℕ) (whole : List ℕ) → whole ≡ taken ++ rest → (front ++ taken) ++ rest ≡ front ++ whole
-joined_behind front taken rest whole joined = append_assoc front taken rest ∙ ap (λ (x : List ℕ). front ++ x) (sym joined)
+joined_after : (front taken rest : List ℕ) (whole : List ℕ) → whole ≡ taken ++ rest → (front ++ taken) ++ rest ≡ front ++ whole
+joined_after front taken rest whole joined = append_assoc front taken rest ∙ ap (λ (x : List ℕ). front ++ x) (sym joined)
 
 -- what is known of a capture whose records are to be read: that the answer is for its bytes, and that the
 -- reader begins after the first of them
@@ -228,7 +228,7 @@ pub record IsOpenCapture (plan : Plan) (files : Files) (course : Course) (left_f
   pub rest : List ℕ
   pub joined : bytes ≡ front ++ rest
   pub told : left_first ≡ Some rest
-  pub begins : BeginsBehind front reader
+  pub begins : BeginsAfter front reader
 
 -- how far was read where a write failed
 written_to : (plan : Plan) (reader : RecordReader) (taken : List ℕ) (left : Option (List ℕ)) (failed : Type 0) (outcome : Result (Unit {0}) Stop) → outcome_status outcome ≡ status.WriteFault → HasReadTo plan reader taken left failed outcome
@@ -241,55 +241,55 @@ written_to plan reader taken left failed (Err stop.CannotWrite) is to = to
 written_to plan reader taken left failed (Err why) is to = absurd cc
 
 -- how far was read of the whole capture where a write failed
-batches_behind : (plan : Plan) (front taken rest back : List ℕ) (reader : RecordReader) (left : Option (List ℕ)) (failed since : Type 0) → BeginsBehind front reader → left ≡ Some back → (front ++ taken) ++ rest ≡ front ++ back → (failed → since)
+batches_after : (plan : Plan) (front taken rest back : List ℕ) (reader : RecordReader) (left : Option (List ℕ)) (failed since : Type 0) → BeginsAfter front reader → left ≡ Some back → (front ++ taken) ++ rest ≡ front ++ back → (failed → since)
     → AreBatches (recording_by plan reader taken).records ⊎ (IsReadOut plan reader taken left ⊎ failed) → IsReadInBatches plan (front ++ taken) rest since
-batches_behind plan front taken rest back reader left failed since begins told joined rises (inl whole) = inl (subst AreBatches (sym (records_behind plan front taken reader begins)) whole)
-batches_behind plan front taken rest back reader left failed since begins told joined rises (inr (inl out)) =
-    inr (inl (ap (λ (x : List ℕ). (records_of plan x).records) joined ∙ records_behind plan front back reader begins ∙ out back told ∙ sym (records_behind plan front taken reader begins)))
-batches_behind plan front taken rest back reader left failed since begins told joined rises (inr (inr rose)) = inr (inr (rises rose))
+batches_after plan front taken rest back reader left failed since begins told joined rises (inl whole) = inl (subst AreBatches (sym (records_after plan front taken reader begins)) whole)
+batches_after plan front taken rest back reader left failed since begins told joined rises (inr (inl out)) =
+    inr (inl (ap (λ (x : List ℕ). (records_of plan x).records) joined ∙ records_after plan front back reader begins ∙ out back told ∙ sym (records_after plan front taken reader begins)))
+batches_after plan front taken rest back reader left failed since begins told joined rises (inr (inr rose)) = inr (inr (rises rose))
 
 -- the lines follow closely the records of a capture that was opened
-ahead_behind : (plan : Plan) (files : Files) (course : Course) (held : Option (List ℕ)) (bytes : List ℕ) (reader : RecordReader) (left_first : Option (List ℕ)) (before after : Work) (failed : Type 0) (outcome : Result (Unit {0}) Stop) → held ≡ Some bytes
+ahead_after : (plan : Plan) (files : Files) (course : Course) (held : Option (List ℕ)) (bytes : List ℕ) (reader : RecordReader) (left_first : Option (List ℕ)) (before after : Work) (failed : Type 0) (outcome : Result (Unit {0}) Stop) → held ≡ Some bytes
     → IsOpenCapture plan files course left_first bytes reader
-    → IsCloseBehind plan reader (record { left = left_first; written = before.alerts }) (record { left = after.left; written = after.alerts }) failed outcome
+    → IsCloseAfter plan reader (record { left = left_first; written = before.alerts }) (record { left = after.left; written = after.alerts }) failed outcome
     → (failed → Rose before.host_faults after.host_faults)
     → IsReadAhead plan held before after (outcome_status outcome)
 unfolding lines_of lines_due
-ahead_behind plan files course held bytes reader left_first before after failed outcome holds o close rises =
+ahead_after plan files course held bytes reader left_first before after failed outcome holds o close rises =
     let split = split_told left_first after.left close.taken o.rest close.took o.told in
     let given = close.given in
     let last = close.last in
     let front = front_first plan given last close.batches close.few in
     let others = front.0 in
-    let records : (records_of plan (o.front ++ close.taken)).records ≡ given ++ last = records_behind plan o.front close.taken reader o.begins ∙ close.are in
+    let records : (records_of plan (o.front ++ close.taken)).records ≡ given ++ last = records_after plan o.front close.taken reader o.begins ∙ close.are in
     let shown : lines plan [] given Open ≡ lines_due plan (o.front ++ close.taken) ++ others =
     front.1 ∙ ap (λ (x : List LinkedRecord). lines plan [] (earlier_batches x) Open ++ others) (sym records) in
     record {
       taken = o.front ++ close.taken;
       rest = split.rest;
-      of = holds ∙ ap Some (o.joined ∙ sym (joined_behind o.front close.taken split.rest o.rest split.joined));
+      of = holds ∙ ap Some (o.joined ∙ sym (joined_after o.front close.taken split.rest o.rest split.joined));
       still = split.still;
       more = others ++ close.more;
-      wrote = close.wrote ∙ ap (λ (x : List ℕ). behind before.alerts (x ++ close.more)) shown ∙ ap (behind before.alerts) (append_assoc (lines_due plan (o.front ++ close.taken)) others close.more);
-      within = subst (AreWithin plan.limit) (sym (all_behind o.front close.taken reader o.begins)) close.within;
-      in_batches = λ is. batches_behind plan o.front close.taken split.rest o.rest reader left_first failed (Rose before.host_faults after.host_faults) o.begins o.told
-          (joined_behind o.front close.taken split.rest o.rest split.joined) rises (written_to plan reader close.taken left_first failed outcome is close.to);
+      wrote = close.wrote ∙ ap (λ (x : List ℕ). grown before.alerts (x ++ close.more)) shown ∙ ap (grown before.alerts) (append_assoc (lines_due plan (o.front ++ close.taken)) others close.more);
+      within = subst (AreWithin plan.limit) (sym (all_after o.front close.taken reader o.begins)) close.within;
+      in_batches = λ is. batches_after plan o.front close.taken split.rest o.rest reader left_first failed (Rose before.host_faults after.host_faults) o.begins o.told
+          (joined_after o.front close.taken split.rest o.rest split.joined) rises (written_to plan reader close.taken left_first failed outcome is close.to);
     }
 
 -- the reading was cut off after what the opening took
-cut_behind : (plan : Plan) (files : Files) (course : Course) (bytes : List ℕ) (reader : RecordReader) (left_first : Option (List ℕ)) (before after : Work) → course.way ≡ Goes plan
+cut_after : (plan : Plan) (files : Files) (course : Course) (bytes : List ℕ) (reader : RecordReader) (left_first : Option (List ℕ)) (before after : Work) → course.way ≡ Goes plan
     → get files plan.source ≡ Some bytes → IsOpenCapture plan files course left_first bytes reader
     → IsReadCutShort plan reader (record { left = left_first; written = before.alerts }) (record { left = after.left; written = after.alerts })
     → IsCutShort files course before after (warned course ++ cannot_read_text plan.source)
 unfolding lines_of lines_within
-cut_behind plan files course bytes reader left_first before after goes held o cut =
+cut_after plan files course bytes reader left_first before after goes held o cut =
     let split = split_told left_first after.left cut.taken o.rest cut.took o.told in
     record {
       plan = plan;
       goes = goes;
       taken = o.front ++ cut.taken;
-      of = subst (IsTakenOf (get files plan.source) (o.front ++ cut.taken)) (sym split.still) (held ∙ ap Some (o.joined ∙ sym (joined_behind o.front cut.taken split.rest o.rest split.joined)));
-      wrote = cut.wrote ∙ ap (λ (x : List LinkedRecord). behind before.alerts (lines plan [] x Open)) (sym (records_behind plan o.front cut.taken reader o.begins));
+      of = subst (IsTakenOf (get files plan.source) (o.front ++ cut.taken)) (sym split.still) (held ∙ ap Some (o.joined ∙ sym (joined_after o.front cut.taken split.rest o.rest split.joined)));
+      wrote = cut.wrote ∙ ap (λ (x : List LinkedRecord). grown before.alerts (lines plan [] x Open)) (sym (records_after plan o.front cut.taken reader o.begins));
       says = refl;
     }
 
@@ -358,7 +358,7 @@ pub capture_ends : (plan : Plan) (files : Files) (course : Course) (reader : Rec
     → course.way ≡ Goes plan
     → Opens (get files plan.source) (Ok reader) left_first
     → ShowsCapture plan reader (record { left = left_first; written = before.alerts }) (record { left = after.left; written = after.alerts }) counts outcome
-    → IsCloseBehind plan reader (record { left = left_first; written = before.alerts }) (record { left = after.left; written = after.alerts }) failed outcome
+    → IsCloseAfter plan reader (record { left = left_first; written = before.alerts }) (record { left = after.left; written = after.alerts }) failed outcome
     → (failed → Rose before.host_faults after.host_faults)
     → (outcome_status outcome ≡ status.HostFault → Rose before.host_faults after.host_faults)
     → Ends files course before after (outcome_status outcome) (warned course ++ said plan outcome counts)
@@ -373,9 +373,9 @@ capture_ends plan files course reader left_first before after counts failed outc
       told = opens.still;
       begins = opens.begins;
     } in
-    let ahead : IsReadAhead plan (get files plan.source) before after (outcome_status outcome) = ahead_behind plan files course (get files plan.source) bytes reader left_first before after failed outcome opens.of o close rises in
+    let ahead : IsReadAhead plan (get files plan.source) before after (outcome_status outcome) = ahead_after plan files course (get files plan.source) bytes reader left_first before after failed outcome opens.of o close rises in
     shown_by plan files course left_first after.left bytes reader before after counts outcome o shows
-    (λ failed cut. cut_behind plan files course bytes reader left_first before after goes opens.of o cut)
+    (λ failed cut. cut_after plan files course bytes reader left_first before after goes opens.of o cut)
     risen
     (λ ended is. subst (λ (s : Status). ReadsAhead files course before after s) is (ahead_goes files course plan before after (outcome_status outcome) goes ahead))
 

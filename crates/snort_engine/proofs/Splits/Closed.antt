@@ -69,13 +69,13 @@ module _ (plan : Plan) (pairs : Pairs) where
   carried-mine before [] = refl
   carried-mine before (hits ∷ later) =
       let front : List Event = events before hits in
-      let behind : List (Beside ItemHead Event) = carried events (before ++ hits ∷ []) (items_by_head later) in
+      let after : List (Beside ItemHead Event) = carried events (before ++ hits ∷ []) (items_by_head later) in
       let own : Event → Bool = λ event. own_head event.head in
       let same : All (λ (event : Event). own_head event.head ≡ own_head hits.head) front =
       All-weaker (λ (event : Event). event.head ≡ hits.head) (λ (event : Event). own_head event.head ≡ own_head hits.head) (λ event is. ap own_head is) front
       (events-head plan.config plan.rules before hits) in
-      ap whats (filter-append (λ (b : Beside ItemHead Event). own_head b.source) (map (beside hits.head) front) behind)
-      ∙ whats-append (mine own_head (map (beside hits.head) front)) (mine own_head behind)
+      ap whats (filter-append (λ (b : Beside ItemHead Event). own_head b.source) (map (beside hits.head) front) after)
+      ∙ whats-append (mine own_head (map (beside hits.head) front)) (mine own_head after)
       ∙ ap₂ (λ (xs ys : List Event). xs ++ ys)
       (ap whats (mine-beside own_head hits.head front) ∙ whats-cond (own_head hits.head) hits.head front ∙ sym (filter-same own (own_head hits.head) front same))
       (carried-mine (before ++ hits ∷ []) later)

@@ -107,11 +107,11 @@ module _ {S : Type 0} (part : S → Bool) where
   mine-carried Q f own before [] each_before each = refl
   mine-carried {A} {B} Q f own before (b ∷ later) each_before each =
       let front = map (beside b.source) (f (whats before) b.what) in
-      let behind = whats-append before (b ∷ []) in
+      let after = whats-append before (b ∷ []) in
       let rest = mine-carried Q f own (before ++ b ∷ []) later (each-both Q before (b ∷ []) each_before (each-front Q (b ∷ []) later each)) (each-back Q (b ∷ []) later each) in
       filter-append (λ (c : Beside S B). part c.source) front (carried f (whats before ++ b.what ∷ []) later)
       ∙ ap (λ (xs : List (Beside S B)). xs ++ mine (carried f (whats before ++ b.what ∷ []) later)) (mine-beside b.source (f (whats before) b.what))
-      ∙ ap (λ (xs : List A). cond (part b.source) front [] ++ mine (carried f xs later)) (sym behind)
+      ∙ ap (λ (xs : List A). cond (part b.source) front [] ++ mine (carried f xs later)) (sym after)
       ∙ ap (λ (xs : List (Beside S B)). cond (part b.source) front [] ++ xs) rest
       ∙ by_part (part b.source) refl
     where

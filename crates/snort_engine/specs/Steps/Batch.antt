@@ -31,9 +31,9 @@ place h reader records host = record { reader = reader; records = records; left 
 
 -- reading was at a reader after these records, and went no record further
 pub record HasStopped (first : RecordReader) (given : List LinkedRecord) (left_first left : Option (List ℕ)) : Type 0 where
-  pub behind : RecordReader
+  pub following : RecordReader
   pub still : Option (List ℕ)
-  pub read : HasRead first behind given left_first still
+  pub read : HasRead first following given left_first still
   pub whole : AreWhole first given left_first left
 
 -- the first reader gave these records, and what it reached after them

@@ -9,21 +9,21 @@ use Rattle.edge_io.specs.Along.{trail, trail_from}
 use Rattle.conf_types.specs.Sound as conf
 use Rattle.rule_types.specs.Sound.{IsSound}
 use Rattle.rule_types.specs.declared.rule.Rule.{Rule}
-use Rattle.fast_pattern.specs.Grouping.{StandFor}
+use Rattle.fast_pattern.specs.Grouping.{AreFor}
 use Rattle.snort_setup.specs.Rules.{most_rules}
 use Rattle.pcap_input.specs.Savefile.{most_records}
 use Rattle.flow_lanes.specs.declared.job.Job.{Job}
-use Rattle.flow_lanes.specs.Standing.{AreNew, LanesStand, LearnsBatch}
+use Rattle.flow_lanes.specs.LanesAfter.{AreNew, AreAfter, LearnsBatch}
 use Rattle.record_jobs.specs.declared.counts.RecordCounts.{RecordCounts}
 use Rattle.record_jobs.specs.Way.{LinkedRecord, Way as JobsWay}
 use Rattle.record_jobs.specs.Jobs.{jobs}
-use Rattle.record_jobs.specs.Fronts.{FrontState, StandsFor}
+use Rattle.record_jobs.specs.Fronts.{FrontState, IsFrontAfter}
 use Rattle.record_jobs.specs.Ready.{HaveLearnt}
 use Rattle.alert_lines.specs.Lines.{text_of, texts_from}
 use Rattle.alert_lines.specs.declared.fault.WriteFault.{WriteFault}
 use Rattle.alert_lines.specs.Written.{WritesPart}
 use Rattle.alert_lines.specs.Gathering.{Sending, EmitsBy}
-use Rattle.alert_lines.specs.Showing.{EventsStand, items_lines, tally_in, waiting_in}
+use Rattle.alert_lines.specs.Showing.{IsWriterAfter, items_lines, tally_in, waiting_in}
 use Rattle.alert_lines.specs.Beside.{carried, whats}
 use Rattle.snort_engine.specs.declared.counts.Counts.{Counts}
 use Rattle.snort_engine.specs.declared.plan.Plan as code
@@ -40,19 +40,19 @@ use Rattle.snort_engine.specs.Steps.Sourcing.{Sourced}
 -- a stage from records to lines: what it is in where it was given these inputs, what inputs are that come with more, and
 -- the text of these
 pub record Stage (S X Y : Type 0) : Type 1 where
-  pub stands : List X → S → Type 0
+  pub holds : List X → S → Type 0
   pub what : List Y → List X
   pub text : List X → List Y → List ℕ
 
 -- inputs that came before
 pub record Earlier {S X Y : Type 0} (stage : Stage S X Y) (state : S) : Type 0 where
   pub inputs : List X
-  pub stand : stage.stands inputs state
+  pub hold : stage.holds inputs state
 
 -- whatever inputs came before: it was given these too, and their text is on its way, or a part of it
 pub record Advances {S X Y A : Type 0} (stage : Stage S X Y) (inputs : List Y) (old new : S) (first end : Sending)
     (outcome : Result A WriteFault) : Type 0 where
-  pub stands : OnOk outcome ((before : List X) → stage.stands before old → stage.stands (before ++ stage.what inputs) new)
+  pub holds : OnOk outcome ((before : List X) → stage.holds before old → stage.holds (before ++ stage.what inputs) new)
   pub emits : EmitsBy (λ (before : Earlier stage old). stage.text before.inputs inputs) first end outcome
 
 -- ---- plans
@@ -75,16 +75,16 @@ pub record IsSoundPlan {P : Type 0} (plan : code.Plan P) : Type 0 where
 -- ---- jobs
 
 -- the lanes and the writer were given these jobs, and the tries of these were counted
-pub record InspectionStands (plan : Plan) (before : List Job) (inspection : Inspection) : Type 0 where
-  pub lanes : LanesStand (detection_of plan) inspection.lanes before
-  pub writer : EventsStand plan.config plan.rules (trail (job_items (detection_of plan)) before) inspection.writer
+pub record IsInspectionAfter (plan : Plan) (before : List Job) (inspection : Inspection) : Type 0 where
+  pub lanes : AreAfter (detection_of plan) inspection.lanes before
+  pub writer : IsWriterAfter plan.config plan.rules (trail (job_items (detection_of plan)) before) inspection.writer
   pub tries : inspection.tries ≡ try_count (detection_of plan) before
 
 -- an inspection that was given nothing
 pub record IsNewInspection {P : Type 0} (plan : code.Plan P) (inspection : Inspection) : Type 0 where
   pub lanes : AreNew plan.lanes plan.flush plan.setup.config.inserts inspection.lanes
-  pub groups : StandFor inspection.groups plan.setup.set.rules
-  pub writer : EventsStand plan.setup.config plan.setup.set.rules [] inspection.writer
+  pub groups : AreFor inspection.groups plan.setup.set.rules
+  pub writer : IsWriterAfter plan.setup.config plan.setup.set.rules [] inspection.writer
   pub none : waiting_in inspection.writer ≡ []
   pub tries : inspection.tries ≡ 0
   pub last : inspection.last ≡ no_record
@@ -97,7 +97,7 @@ jobs_lines plan before batch =
 
 -- jobs beside their records, as they go through an inspection
 abbrev pub jobs_stage : Plan → Stage Inspection Job Sourced
-jobs_stage plan = record { stands = InspectionStands plan; what = whats; text = jobs_lines plan }
+jobs_stage plan = record { holds = IsInspectionAfter plan; what = whats; text = jobs_lines plan }
 
 -- an inspection ran jobs, and all their lines were written: the lanes have learnt of them, and what else it knows stays
 pub record HasRun (old : Inspection) (batch : List Job) (new : Inspection) : Type 0 where
@@ -111,25 +111,25 @@ pub record HasRun (old : Inspection) (batch : List Job) (new : Inspection) : Typ
 -- the front took records after these records: these are their jobs, and it stands for all
 pub record AreTaken (way : JobsWay) (before records : List LinkedRecord) (new : FrontState) (made : List Job) : Type 0 where
   pub jobs_are : made ≡ trail_from (jobs way) before records
-  pub stands : StandsFor way new (before ++ records)
+  pub holds : IsFrontAfter way new (before ++ records)
 
 -- these are the jobs of records that the front took, whatever records came before
 abbrev pub MakesJobs : JobsWay → List LinkedRecord → FrontState → FrontState → List Job → Type 0
 MakesJobs way records old new made =
-    (before : List LinkedRecord) → StandsFor way old before → AreTaken way before records new made
+    (before : List LinkedRecord) → IsFrontAfter way old before → AreTaken way before records new made
 
 -- a detector was given these records
-pub record DetectorStands (plan : Plan) (records : List LinkedRecord) (detector : Detector) : Type 0 where
-  pub front : StandsFor (jobs_way plan) detector.front records
-  pub inspection : InspectionStands plan (jobs_of plan records) detector.inspection
+pub record IsDetectorAfter (plan : Plan) (records : List LinkedRecord) (detector : Detector) : Type 0 where
+  pub front : IsFrontAfter (jobs_way plan) detector.front records
+  pub inspection : IsInspectionAfter plan (jobs_of plan records) detector.inspection
   pub last : detector.inspection.last ≡ last_of records
 
 -- a detector was given some records, the lanes have learnt of all their jobs, and no line waits
 pub record IsKnown (way : JobsWay) (rules : List Rule) (detector : Detector) : Type 0 where
   pub records : List LinkedRecord
-  pub front : StandsFor way detector.front records
+  pub front : IsFrontAfter way detector.front records
   pub learnt : HaveLearnt detector.inspection.lanes (trail (jobs way) records)
-  pub groups : StandFor detector.inspection.groups rules
+  pub groups : AreFor detector.inspection.groups rules
   pub none : waiting_in detector.inspection.writer ≡ []
 
 abbrev pub Knows : {P : Type 0} → code.Plan P → Detector → Type 0
@@ -143,12 +143,12 @@ pub record IsClosable {P : Type 0} (plan : code.Plan P) (detector : Detector) : 
 -- records, as they go through a detector
 abbrev pub records_stage : Plan → Stage Detector LinkedRecord LinkedRecord
 records_stage plan =
-    record { stands = DetectorStands plan; what = λ records. records; text = λ before records. lines plan before records Open }
+    record { holds = IsDetectorAfter plan; what = λ records. records; text = λ before records. lines plan before records Open }
 
 -- no more than a part of their lines was written
 unfoldable pub ShowsRecordsPart : Plan → List LinkedRecord → Detector → Option (List ℕ) → Option (List ℕ) → Type 0
 ShowsRecordsPart plan batch detector old new =
-    (before : List LinkedRecord) → DetectorStands plan before detector → WritesPart old (lines plan before batch Open) new
+    (before : List LinkedRecord) → IsDetectorAfter plan before detector → WritesPart old (lines plan before batch Open) new
 
 -- ---- the end
 
@@ -170,5 +170,5 @@ closing_lines plan records =
 -- whatever records came before: these lines were written, or a part of them, and all was counted
 pub record Closes (plan : Plan) (detector : Detector) (old new : Sending) (outcome : Result Counts WriteFault) : Type 0 where
   pub counted : IfOk outcome (λ counts.
-      (records : List LinkedRecord) → DetectorStands plan records detector → counts ≡ counts_of plan records)
+      (records : List LinkedRecord) → IsDetectorAfter plan records detector → counts ≡ counts_of plan records)
   pub emits : EmitsBy (λ (before : Earlier (records_stage plan) detector). closing_lines plan before.inputs) old new outcome

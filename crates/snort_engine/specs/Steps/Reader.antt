@@ -101,8 +101,8 @@ Gives old new (Err why) left_old left_new = AreWhole old [] left_old left_new ×
 
 -- whatever follows these first bytes of a capture, and whatever the limit, its records are those that the
 -- reader has yet to give
-abbrev pub BeginsBehind : List ℕ → RecordReader → Type 0
-BeginsBehind front reader =
+abbrev pub BeginsAfter : List ℕ → RecordReader → Type 0
+BeginsAfter front reader =
     (limit : Option ℕ) (more : List ℕ) → records_in limit (front ++ more) ≡ first_records limit (recording_for reader more)
 
 -- the capture that holds these bytes was opened, and the reader begins after those that were taken
@@ -111,7 +111,7 @@ pub record IsBegun (held : Option (List ℕ)) (reader : RecordReader) (left : Op
   pub rest : List ℕ
   pub of : held ≡ Some (front ++ rest)
   pub still : left ≡ Some rest
-  pub begins : BeginsBehind front reader
+  pub begins : BeginsAfter front reader
 
 -- a capture was opened, and no record is whole within the bytes that were taken
 pub record IsBarelyOpen (held left : Option (List ℕ)) : Type 0 where

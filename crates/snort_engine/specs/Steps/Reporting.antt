@@ -5,7 +5,7 @@
 -- `ERROR: no memory` and NoMemory.
 use Rattle.std.specs.Prelude.{◌≡◌, ℕ, Bool, ◌&&◌, List, Option, Result, ◌⊎◌}
 use Rattle.std.specs.Bool.{OnTrue, OnFalse}
-use Rattle.edge_io.specs.Told.{behind}
+use Rattle.edge_io.specs.Told.{grown}
 use Rattle.alert_lines.specs.Written.{WritesPart}
 use Rattle.snort_engine.specs.declared.status.Status.{Status}
 use Rattle.snort_engine.specs.declared.status.Status.TheVariants as status
@@ -18,14 +18,14 @@ use Rattle.snort_engine.specs.Messages.{no_memory_text}
 -- a text was told, if the sink was well; it is well still where the whole text was written
 pub record TellsOn (text : List ℕ) (well : Bool) (old new : Option (List ℕ)) (rose : Type 0) (still : Bool) : Type 0 where
   pub part : WritesPart old text new
-  pub whole : OnTrue still (new ≡ behind old text)
+  pub whole : OnTrue still (new ≡ grown old text)
   pub failed : OnTrue well (OnFalse still rose)
   pub silent : OnFalse well ((new ≡ old) × (still ≡ well))
 
 -- a text was told last, if the sink was well
 pub record TellsLast (text : List ℕ) (well : Bool) (old new : Option (List ℕ)) (rose : Type 0) : Type 0 where
   pub part : WritesPart old text new
-  pub whole : OnTrue well ((new ≡ behind old text) ⊎ rose)
+  pub whole : OnTrue well ((new ≡ grown old text) ⊎ rose)
   pub silent : OnFalse well (new ≡ old)
 
 -- the counts that are told of a capture: none where they aren't asked for, and none where the work on it

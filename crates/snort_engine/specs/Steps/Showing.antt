@@ -5,7 +5,7 @@
 -- may be, and the bytes of two batches were taken.
 use Rattle.std.specs.Prelude.{◌≡◌, ℕ, ◌+◌, ◌-◌, ◌<◌, ◌≤◌, min, ◌⊎◌, Bool, true, false, List, [], ◌++◌, length, Option}
 use Rattle.std.specs.Prelude.{None, Some, Result, Ok, Err, ⊤}
-use Rattle.edge_io.specs.Told.{before, behind}
+use Rattle.edge_io.specs.Told.{before, grown}
 use Rattle.edge_io.specs.declared.host.Host.{Ghosts as HostOf}
 use Rattle.edge_io.specs.declared.pattern.Span.{Span}
 use Rattle.edge_io.specs.declared.sink.Sink.{Ghosts as SinkOf}
@@ -36,7 +36,7 @@ use Rattle.snort_engine.specs.Lines.{lines}
 use Rattle.snort_engine.specs.Counts.{counts_of}
 use Rattle.snort_engine.specs.ReadAhead.{batch, AreBatches}
 use Rattle.snort_engine.specs.Steps.Stop.{is_whole, write_stop}
-use Rattle.snort_engine.specs.Steps.Detecting.{DetectorStands, IsClosable, Knows, Closes}
+use Rattle.snort_engine.specs.Steps.Detecting.{IsDetectorAfter, IsClosable, Knows, Closes}
 
 -- the test says which rules of a set match, by what its patterns find
 pub record IsTest {P : Type 0} (finds : P → List ℕ → Option Span) (set : Rules P) (test : Test) : Type 0 where
@@ -99,14 +99,14 @@ counts_left plan reader rest = counts_of plan (recording_by plan reader rest).re
 pub record IsShownWhole (plan : Plan) (reader : RecordReader) (rest : List ℕ) (ending : Ending ReadFault) (old new : Streams)
     (counts : Counts) : Type 0 where
   pub ends : (recording_by plan reader rest).ending ≡ ending
-  pub wrote : new.written ≡ behind old.written (lines_left plan reader rest Closed)
+  pub wrote : new.written ≡ grown old.written (lines_left plan reader rest Closed)
   pub counted : counts ≡ counts_left plan reader rest
 
 -- the lines of the records that are whole within the bytes taken were written
 pub record IsReadCutShort (plan : Plan) (reader : RecordReader) (old new : Streams) : Type 0 where
   pub taken : List ℕ
   pub took : old.left ≡ before taken new.left
-  pub wrote : new.written ≡ behind old.written (lines_left plan reader taken Open)
+  pub wrote : new.written ≡ grown old.written (lines_left plan reader taken Open)
 
 -- all records that the plan reads of the bytes that were left are whole within those that were taken
 abbrev pub IsReadOut : Plan → RecordReader → List ℕ → Option (List ℕ) → Type 0
@@ -127,7 +127,7 @@ HasReadTo plan reader taken left failed (Err why) = IsReadOut plan reader taken 
 -- of the records that are whole within the bytes taken, the lines of those given were written, and maybe more: of whole
 -- batches, after which at most one more was read, or of all; without the limit there are no more of them than it lets;
 -- where the showing ends so, and the host failed or did not, no more was read than may be
-pub record IsCloseBehind (plan : Plan) (reader : RecordReader) (old new : Streams) (failed : Type 0)
+pub record IsCloseAfter (plan : Plan) (reader : RecordReader) (old new : Streams) (failed : Type 0)
     (outcome : Result (Unit {0}) Stop) : Type 0 where
   pub taken : List ℕ
   pub took : old.left ≡ before taken new.left
@@ -137,7 +137,7 @@ pub record IsCloseBehind (plan : Plan) (reader : RecordReader) (old new : Stream
   pub batches : AreBatches given ⊎ (last ≡ [])
   pub few : length last ≤ batch
   pub more : List ℕ
-  pub wrote : new.written ≡ behind old.written (lines_of plan given Open ++ more)
+  pub wrote : new.written ≡ grown old.written (lines_of plan given Open ++ more)
   pub within : AreWithin plan.limit (recording_for reader taken).records
   pub to : HasReadTo plan reader taken old.left failed outcome
 
@@ -177,26 +177,26 @@ most_at None = batch
 most_at (Some room) = min batch room
 
 -- how many may still be read after this many more
-abbrev pub room_behind : Option ℕ → ℕ → Option ℕ
-room_behind None count = None
-room_behind (Some room) count = Some (room - count)
+abbrev pub room_after : Option ℕ → ℕ → Option ℕ
+room_after None count = None
+room_after (Some room) count = Some (room - count)
 
 -- how far a showing has come: the reader, how many records may still be read, the detector, and what is told
-pub record Standing : Type 0 where
+pub record Point : Type 0 where
   pub reader : RecordReader
   pub room : Option ℕ
   pub detector : Detector
   pub streams : Streams
 
-abbrev pub standing : RecordReader → Option ℕ → Detector → Streams → Standing
-standing reader room detector told = record { reader = reader; room = room; detector = detector; streams = told }
+abbrev pub point : RecordReader → Option ℕ → Detector → Streams → Point
+point reader room detector told = record { reader = reader; room = room; detector = detector; streams = told }
 
 -- a batch may come: the reader may be asked for records, and the detector is known and was given no more than the
 -- reader gave
 pub record MayGoOn {P : Type 0} (plan : code.Plan P) (reader : RecordReader) (detector : Detector) : Type 0 where
   pub readable : IsReadable reader
   pub known : Knows plan detector
-  pub behind : detector.front.counts.records ≤ number_of reader
+  pub after : detector.front.counts.records ≤ number_of reader
 
 -- a batch came: the reader has given more records, and another batch may come
 pub record MayGoFurther {P : Type 0} (plan : code.Plan P) (old new : RecordReader) (detector : Detector) : Type 0 where
@@ -205,13 +205,13 @@ pub record MayGoFurther {P : Type 0} (plan : code.Plan P) (old new : RecordReade
 
 -- from the first reader on some records were given, in whole batches or all that may be, the detector stands for
 -- them, and their lines were written
-pub record IsUnderWay (plan : Plan) (first : RecordReader) (start : Streams) (now : Standing) : Type 0 where
+pub record IsUnderWay (plan : Plan) (first : RecordReader) (start : Streams) (now : Point) : Type 0 where
   pub given : List LinkedRecord
   pub read : HasRead first now.reader given start.left now.streams.left
   pub room_is : IsRoom plan.limit (length given) now.room
   pub batches : AreBatches given ⊎ (most_at now.room ≡ 0)
-  pub stands : DetectorStands plan given now.detector
-  pub wrote : now.streams.written ≡ behind start.written (lines_of plan given Open)
+  pub holds : IsDetectorAfter plan given now.detector
+  pub wrote : now.streams.written ≡ grown start.written (lines_of plan given Open)
 
 -- all records were given, up to this ending, the detector stands for them, and their lines were written:
 -- nothing is closed yet
@@ -219,8 +219,8 @@ pub record IsAtEnd (plan : Plan) (first : RecordReader) (start : Streams) (now :
     (ending : Ending ReadFault) : Type 0 where
   pub given : List LinkedRecord
   pub ends : (rest : List ℕ) → start.left ≡ Some rest → recording_by plan first rest ≡ record { records = given; ending = ending }
-  pub stands : DetectorStands plan given detector
-  pub wrote : now.written ≡ behind start.written (lines_of plan given Open)
+  pub holds : IsDetectorAfter plan given detector
+  pub wrote : now.written ≡ grown start.written (lines_of plan given Open)
 
 -- how the reading of all batches ends
 abbrev pub Comes : Plan → RecordReader → Streams → Streams → Detector → Result (Unit {0}) Stop → Type 0
@@ -236,10 +236,10 @@ Comes plan first start now detector (Err why) = ⊥
 -- how the reading of all batches ends, and the lines follow its records closely
 abbrev pub ComesOver : Plan → RecordReader → Streams → Streams → Type 0 → Detector → Result (Unit {0}) Stop → Type 0
 ComesOver plan first start now failed detector outcome =
-    Comes plan first start now detector outcome × IsCloseBehind plan first start now failed outcome
+    Comes plan first start now detector outcome × IsCloseAfter plan first start now failed outcome
 
 -- a showing that was under way is so still, after one more batch, or all batches are read
-abbrev pub ShowsOn : Plan → Standing → Standing → Type 0 → Result Bool Stop → Type 0
+abbrev pub ShowsOn : Plan → Point → Point → Type 0 → Result Bool Stop → Type 0
 ShowsOn plan old new failed (Ok true) =
     (first : RecordReader) (start : Streams) → IsUnderWay plan first start old → IsUnderWay plan first start new
 ShowsOn plan old new failed (Ok false) =

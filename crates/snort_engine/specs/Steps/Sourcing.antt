@@ -7,12 +7,12 @@ use Rattle.std.specs.Prelude.{◌≡◌, ℕ, List, fold}
 use Rattle.flow_lanes.specs.declared.job.Job.{Job}
 use Rattle.record_jobs.specs.Way.{LinkedRecord, Way as JobsWay}
 use Rattle.record_jobs.specs.Jobs.{jobs}
-use Rattle.record_jobs.specs.Fronts.{FrontState, StandsFor}
+use Rattle.record_jobs.specs.Fronts.{FrontState, IsFrontAfter}
 use Rattle.alert_lines.specs.Beside.{Beside, places_along}
 
 -- the last of these records, or this one where there is none
-abbrev pub last_behind : LinkedRecord → List LinkedRecord → LinkedRecord
-last_behind last records = fold (λ _ r. r) last records
+abbrev pub last_after : LinkedRecord → List LinkedRecord → LinkedRecord
+last_after last records = fold (λ _ r. r) last records
 
 -- a job, beside its record
 abbrev pub Sourced : Type 0
@@ -21,4 +21,4 @@ Sourced = Beside LinkedRecord Job
 -- whatever records came before, these are the places of the jobs of these records
 abbrev pub PlacesJobs : JobsWay → List LinkedRecord → FrontState → List ℕ → Type 0
 PlacesJobs way records old places =
-    (before : List LinkedRecord) → StandsFor way old before → places ≡ places_along (jobs way) before 0 records
+    (before : List LinkedRecord) → IsFrontAfter way old before → places ≡ places_along (jobs way) before 0 records

@@ -61,8 +61,8 @@ flow_number-apart max (touch ∷ earlier) one other h g same = (elim (same_key o
 lookup-touched : (es : List (Key × ℕ)) (key : Key) (flow : ℕ) → lookup (same_key key) es ≡ Some flow → is_touched (keys_of es) key ≡ true
 lookup-touched es key flow h = sym (is_some-lookup (same_key key) es) ∙ ap is_some h
 
-lookup_behind : (e : Key × ℕ) (es : List (Key × ℕ)) → Apart (keys_of (e ∷ es)) → (key : Key) (f : ℕ) → lookup (same_key key) es ≡ Some f → lookup (same_key key) (e ∷ es) ≡ Some f
-lookup_behind e es apart key f g = (elim (same_key key e.0) as (λ x. same_key key e.0 ≡ x → cond x (Some e.1) (lookup (same_key key) es) ≡ Some f) [
+lookup_after : (e : Key × ℕ) (es : List (Key × ℕ)) → Apart (keys_of (e ∷ es)) → (key : Key) (f : ℕ) → lookup (same_key key) es ≡ Some f → lookup (same_key key) (e ∷ es) ≡ Some f
+lookup_after e es apart key f g = (elim (same_key key e.0) as (λ x. same_key key e.0 ≡ x → cond x (Some e.1) (lookup (same_key key) es) ≡ Some f) [
   | true ↦ λ t. absurd (false≢true (sym apart.0 ∙ ap (is_touched (keys_of es)) (sym (same_key-is key e.0 t)) ∙ lookup-touched es key f g))
   | false ↦ λ t. g
 ]) refl
@@ -71,7 +71,7 @@ pub key_of_value : (es : List (Key × ℕ)) → Apart (keys_of es) → (f : ℕ)
 key_of_value [] apart f h = absurd (false≢true h)
 key_of_value (e ∷ es) apart f h = (elim (eqb f e.1) as (λ x. eqb f e.1 ≡ x → (x || among (values_of es) f) ≡ true → (key : Key) × (lookup (same_key key) (e ∷ es) ≡ Some f)) [
   | true ↦ λ t h. (e.0, rw (same_key-self e.0) (ap (λ (n : ℕ). Some n) (sym (eqb-true f e.1 t))))
-  | false ↦ λ t h. let on = key_of_value es apart.1 f h in (on.0, lookup_behind e es apart on.0 f on.1)
+  | false ↦ λ t h. let on = key_of_value es apart.1 f h in (on.0, lookup_after e es apart on.0 f on.1)
 ]) refl h
 
 pub value_among : (es : List (Key × ℕ)) (key : Key) (f : ℕ) → lookup (same_key key) es ≡ Some f → among (values_of es) f ≡ true
@@ -130,11 +130,11 @@ Apart-append : (xs ys : List Key) → Apart xs → Apart ys → ((key : Key) →
 Apart-append [] ys a b other = b
 Apart-append (x ∷ xs) ys a b other = (
   list_any-append (same_key x) xs ys ∙ ap (λ (c : Bool). c || is_touched ys x) a.0 ∙ other x (ap (λ (c : Bool). c || is_touched xs x) (same_key-self x)),
-  Apart-append xs ys a.1 b (λ key h. other key (behind key h)),
+  Apart-append xs ys a.1 b (λ key h. other key (after key h)),
 )
   where
-    behind : (key : Key) → is_touched xs key ≡ true → (same_key key x || is_touched xs key) ≡ true
-    behind key h = (elim (same_key key x) as (λ c. (c || is_touched xs key) ≡ true) [ true ↦ refl | false ↦ h ])
+    after : (key : Key) → is_touched xs key ≡ true → (same_key key x || is_touched xs key) ≡ true
+    after key h = (elim (same_key key x) as (λ c. (c || is_touched xs key) ≡ true) [ true ↦ refl | false ↦ h ])
 
 Apart-kept : (max : MaxFlows) (tcp : Bool) (touches : List Key) → Apart (keys_of (kept max tcp touches))
 Apart-kept max tcp touches = subst Apart (sym (keys_of-kept max tcp touches)) (Apart-take (max_for max tcp) (recent (filter (is_of tcp) touches)) (Apart-recent (filter (is_of tcp) touches)))
@@ -158,7 +158,7 @@ unfolding IsDistinct
 distinct_values [] apart single = tt
 distinct_values (e ∷ es) apart single = (
   none_equal e.1 (values_of es) once,
-  distinct_values es apart.1 (λ one other f h g. single one other f (lookup_behind e es apart one f h) (lookup_behind e es apart other f g)),
+  distinct_values es apart.1 (λ one other f h g. single one other f (lookup_after e es apart one f h) (lookup_after e es apart other f g)),
 )
   where
     none_equal : (v : ℕ) (xs : List ℕ) → among xs v ≡ false → AllByRecursion (λ y. eqb v y ≡ false) xs
@@ -172,7 +172,7 @@ distinct_values (e ∷ es) apart single = (
     once = (elim (among (values_of es) e.1) as (λ x. among (values_of es) e.1 ≡ x → x ≡ false) [
       | true ↦ λ t.
           let at = key_of_value es apart.1 e.1 t in
-          let same : at.0 ≡ e.0 = single at.0 e.0 e.1 (lookup_behind e es apart at.0 e.1 at.1) first_found in
+          let same : at.0 ≡ e.0 = single at.0 e.0 e.1 (lookup_after e es apart at.0 e.1 at.1) first_found in
           sym (sym apart.0 ∙ ap (is_touched (keys_of es)) (sym same) ∙ lookup-touched es at.0 e.1 at.1)
       | false ↦ λ t. refl
     ]) refl
@@ -229,7 +229,7 @@ live_flows-sorted flows touches sorted seen moved up =
 fits : (keys places : List Key) → ((key : Key) → is_touched keys key ≡ true → is_touched places key ≡ true) → distinct_count keys ≤ length places
 fits [] places within = omega arith
 fits (first ∷ keys) places within = (elim (is_touched keys first) as (λ x. is_touched keys first ≡ x → cond x (distinct_count keys) (distinct_count keys + 1) ≤ length places) [
-  | true ↦ λ t. fits keys places (λ key h. within key (behind key h))
+  | true ↦ λ t. fits keys places (λ key h. within key (after key h))
   | false ↦ λ t.
       let fewer : distinct_count keys ≤ length (remove_key first places) = fits keys (remove_key first places) (λ key h. left t key h) in
       let there : length (remove_key first places) + cond (is_touched places first) 1 0 ≡ length places = length-remove_key first places in
@@ -238,13 +238,13 @@ fits (first ∷ keys) places within = (elim (is_touched keys first) as (λ x. is
       omega arith
 ]) refl
   where
-    behind : (key : Key) → is_touched keys key ≡ true → (same_key key first || is_touched keys key) ≡ true
-    behind key h = (elim (same_key key first) as (λ c. (c || is_touched keys key) ≡ true) [ true ↦ refl | false ↦ h ])
+    after : (key : Key) → is_touched keys key ≡ true → (same_key key first || is_touched keys key) ≡ true
+    after key h = (elim (same_key key first) as (λ c. (c || is_touched keys key) ≡ true) [ true ↦ refl | false ↦ h ])
 
     left : is_touched keys first ≡ false → (key : Key) → is_touched keys key ≡ true → is_touched (remove_key first places) key ≡ true
     left t key h = (elim (same_key key first) as (λ c. same_key key first ≡ c → is_touched (remove_key first places) key ≡ true) [
       | true ↦ λ u. absurd (false≢true (sym t ∙ ap (is_touched keys) (sym (same_key-is key first u)) ∙ h))
-      | false ↦ λ u. is_touched-remove_key first key u places ∙ within key (behind key h)
+      | false ↦ λ u. is_touched-remove_key first key u places ∙ within key (after key h)
     ]) refl
 
 length-keys_of : (es : List (Key × ℕ)) → length (keys_of es) ≡ length es

@@ -145,9 +145,9 @@ take-remove_entry test (suc n) (e ∷ es) h = (elim (test e.0) as (λ x. is_some
 ]) h
 
 -- what is kept after a touch, where `room` keys may live
-behind : (max : MaxFlows) (key : Key) (touches : List Key) (room : ℕ) → 0 < room → max_for max key.tcp ≡ room → kept_by (take room (stretches max key.tcp touches)) room (begun max touches) key (cond (is_live max touches key) (Some (flow_number max touches key)) None) ≡ take room ((key, cond (is_live max touches key) (flow_number max touches key) (begun max touches)) ∷ remove_entry (same_key key) (stretches max key.tcp touches))
-behind max key touches zero some is = absurd (omega arith)
-behind max key touches (suc n) some is =
+after : (max : MaxFlows) (key : Key) (touches : List Key) (room : ℕ) → 0 < room → max_for max key.tcp ≡ room → kept_by (take room (stretches max key.tcp touches)) room (begun max touches) key (cond (is_live max touches key) (Some (flow_number max touches key)) None) ≡ take room ((key, cond (is_live max touches key) (flow_number max touches key) (begun max touches)) ∷ remove_entry (same_key key) (stretches max key.tcp touches))
+after max key touches zero some is = absurd (omega arith)
+after max key touches (suc n) some is =
     let S : List (Key × ℕ) = stretches max key.tcp touches in
     let kept_is : is_some (lookup (same_key key) (take (suc n) S)) ≡ is_live max touches key = ap (λ (m : ℕ). is_some (lookup (same_key key) (take m S))) (sym is) ∙ is_some-kept max touches key in
     let less : suc n - 1 ≡ n = omega arith in
@@ -159,5 +159,5 @@ behind max key touches (suc n) some is =
 pub kept-touched : (max : MaxFlows) (key : Key) (touches : List Key) → 0 < max_for max key.tcp → kept_by (kept max key.tcp touches) (max_for max key.tcp) (begun max touches) key (lookup (same_key key) (kept max key.tcp touches)) ≡ kept max key.tcp (key ∷ touches)
 kept-touched max key touches some =
     ap (kept_by (kept max key.tcp touches) (max_for max key.tcp) (begun max touches) key) (lookup-kept max touches key)
-    ∙ behind max key touches (max_for max key.tcp) some refl
+    ∙ after max key touches (max_for max key.tcp) some refl
     ∙ ap (take (max_for max key.tcp)) (sym (stretches-touched max key touches))

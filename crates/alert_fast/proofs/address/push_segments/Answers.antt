@@ -8,5 +8,5 @@ use Rattle.alert_fast.proofs.address.push_segments.Goals as goal
 pub returns-in_ok-push_pieces-clause-kept : goal.returns-in_ok-push_pieces-clause-kept
 returns-in_ok-push_pieces-clause-kept c =
     let old = c.args.out.now.items in
-    let behind = c.in_ok-push_pieces.ensures.appended ∙ ap (λ (x : List ℕ). x ++ _) c.in_ok-push_groups.ensures.appended ∙ append_assoc old _ _ in
-    on_err_weaker c.push_groups-then-is_gap.result (take-kept old _ _ _ behind) c.push_groups-then-is_gap.ensures.kept
+    let following = c.in_ok-push_pieces.ensures.appended ∙ ap (λ (x : List ℕ). x ++ _) c.in_ok-push_groups.ensures.appended ∙ append_assoc old _ _ in
+    on_err_weaker c.push_groups-then-is_gap.result (take-kept old _ _ _ following) c.push_groups-then-is_gap.ensures.kept

@@ -5,7 +5,7 @@ use Rattle.clap.specs.Matches.{found_of, ids_left}
 use Rattle.clap.specs.Walk.{Row, Text, rows_of}
 use Rattle.command_words.proofs.Ids.{at_end, at_first, at_other, past_beside, past_default}
 use Rattle.command_words.proofs.given.has_others.Goals as goal
-use Rattle.command_words.proofs.given.has_others.Goals.{else-not-stands_beside-via-then-not-stands_beside+else-is_given, else-not-stands_beside-via-else-not-stands_beside}
+use Rattle.command_words.proofs.given.has_others.Goals.{else-not-may_be_beside-via-then-not-may_be_beside+else-is_given, else-not-may_be_beside-via-else-not-may_be_beside}
 
 pub loop-id-init : goal.loop-id-init
 loop-id-init c = record {
@@ -20,7 +20,7 @@ returns-then-is_given c =
     let rows : List Row = rows_of (found_of c.args.matches.now) in
     sym (c.loop-id.invariant.same
     ∙ at_other rows (ids_left c.loop-id.id-iterator) (ids_left c.next.new.self) c.in-Some.id.now c.in-Some.ensures.steps.0 c.in-Some.ensures.steps.1
-    (sym c.stands_beside.ensures ∙ c.if-not-stands_beside.true) (sym c.is_given.ensures ∙ c.if-is_given.true))
+    (sym c.may_be_beside.ensures ∙ c.if-not-may_be_beside.true) (sym c.is_given.ensures ∙ c.if-is_given.true))
 
 pub loop-id-preserved : goal.loop-id-preserved
 loop-id-preserved c =
@@ -30,11 +30,11 @@ loop-id-preserved c =
     record {
       can = search rules;
       finite = search rules;
-      same = c.loop-id.invariant.same ∙ elim c.else-not-stands_beside.branch [
-        | else-not-stands_beside-via-then-not-stands_beside+else-is_given w ↦
+      same = c.loop-id.invariant.same ∙ elim c.else-not-may_be_beside.branch [
+        | else-not-may_be_beside-via-then-not-may_be_beside+else-is_given w ↦
             past_default rows left later c.in-Some.id.now c.in-Some.ensures.steps.0 c.in-Some.ensures.steps.1 (sym w.is_given.ensures ∙ w.if-is_given.false)
-        | else-not-stands_beside-via-else-not-stands_beside w ↦
-            past_beside rows left later c.in-Some.id.now c.in-Some.ensures.steps.0 c.in-Some.ensures.steps.1 (sym c.stands_beside.ensures ∙ w.if-not-stands_beside.false)
+        | else-not-may_be_beside-via-else-not-may_be_beside w ↦
+            past_beside rows left later c.in-Some.id.now c.in-Some.ensures.steps.0 c.in-Some.ensures.steps.1 (sym c.may_be_beside.ensures ∙ w.if-not-may_be_beside.false)
       ];
     }
 

@@ -67,13 +67,13 @@ pub read_lines-returns-in_err-read-clause-goes : goal.read_lines-returns-in_err-
 read_lines-returns-in_err-read-clause-goes g t c = λ seen may.
     let p = err_from_is_err_and c.from_residual.result c.from_residual.ensures.1 in
     rw (p.1, p.2) (lines-stop seen (file_count c.args.read) (file_count c.lines.read) c.args.left c.args.source.now
-    (lines_of c.args.left c.args.source.now c.args.lines.now c.args.read) c.lines.rest.now c.in-Some.behind.now c.in-Some.line.now c.lines.read c.in_err-read.field-0.0
+    (lines_of c.args.left c.args.source.now c.args.lines.now c.args.read) c.lines.rest.now c.in-Some.after.now c.in-Some.line.now c.lines.read c.in_err-read.field-0.0
     c.in-Some.ensures.cases.0 (c.lines.invariant.goes seen (c.read_line.ensures.only_loaded.earlier seen may)) (c.in_err-read.ensures.goes seen may))
 
 pub read_lines-lines-preserved : goal.read_lines-lines-preserved
 read_lines-lines-preserved g t c = record {
   goes = λ seen may. lines-next seen (file_count c.args.read) (file_count c.lines.read) (file_count c.in_ok-read.read) c.args.left c.args.source.now
-      (lines_of c.args.left c.args.source.now c.args.lines.now c.args.read) c.lines.rest.now c.in-Some.behind.now c.in-Some.line.now c.lines.read c.in_ok-read.read
+      (lines_of c.args.left c.args.source.now c.args.lines.now c.args.read) c.lines.rest.now c.in-Some.after.now c.in-Some.line.now c.lines.read c.in_ok-read.read
       c.in-Some.ensures.cases.0 (c.lines.invariant.goes seen (c.read_line.ensures.only_loaded.earlier seen may)) (c.in_ok-read.ensures.goes seen may);
   few = c.in_ok-read.ensures.few;
   contents = c.read_line.ensures.only_loaded.files ∙ c.lines.invariant.contents;

@@ -6,7 +6,7 @@ use Rattle.conf_parser.specs.Reading.{file_count, nothing_read}
 use Rattle.conf_parser.proofs.Readings.Goings.{seen_by, tells-seen_by}
 use Rattle.conf_parser.proofs.Readings.Finishing.{first-may, first-goes, whole, stopped_at, loading-whole, told-whole, loading-stopped, told-stopped}
 use Rattle.conf_parser.proofs.Readings.Seeing.{told_before, seen_cause}
-use Rattle.conf_parser.proofs.Readings.Placing.{stand-in}
+use Rattle.conf_parser.proofs.Readings.Placing.{hold-in}
 use Rattle.conf_parser.proofs.Sound.Reading.{loading-sound}
 use Rattle.conf_parser.proofs.loading.load.Goals as goal
 
@@ -76,11 +76,11 @@ returns-in-Err-read_file-clause-told g c = λ files is.
 
 pub returns-in-Ok-read_file-clause-places : goal.returns-in-Ok-read_file-clause-places
 returns-in-Ok-read_file-clause-places g c =
-    stand-in (g.H.Host.contents c.args.host.now) c.args.name.now c.args.vars.now (Ok (tt {0})) c.hand_out.new.vars c.hand_out.new.out (returns-in-Ok-read_file-clause-reading g c)
+    hold-in (g.H.Host.contents c.args.host.now) c.args.name.now c.args.vars.now (Ok (tt {0})) c.hand_out.new.vars c.hand_out.new.out (returns-in-Ok-read_file-clause-reading g c)
 
 pub returns-in-Err-read_file-clause-places : goal.returns-in-Err-read_file-clause-places
 returns-in-Err-read_file-clause-places g c =
-    stand-in {A = Unit {0}} (g.H.Host.contents c.args.host.now) c.args.name.now c.args.vars.now (Err c.stop_out.result) c.replace.new.dest c.stop_out.new.out (returns-in-Err-read_file-clause-reading g c)
+    hold-in {A = Unit {0}} (g.H.Host.contents c.args.host.now) c.args.name.now c.args.vars.now (Err c.stop_out.result) c.replace.new.dest c.stop_out.new.out (returns-in-Err-read_file-clause-reading g c)
 
 pub returns-in-Ok-read_file-clause-sound : goal.returns-in-Ok-read_file-clause-sound
 returns-in-Ok-read_file-clause-sound g c =

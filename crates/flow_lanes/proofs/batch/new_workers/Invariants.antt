@@ -1,7 +1,7 @@
 -- The loop of `new_workers` has made a new lane for each place so far.
 use Rattle.std.proofs.Common.{◌≡◌}
 use Rattle.std.specs.Prelude.{replicate}
-use Rattle.flow_lanes.specs.Standing.{new_lane}
+use Rattle.flow_lanes.specs.LanesAfter.{new_lane}
 use Rattle.flow_lanes.specs.Batching.{lanes_of}
 use Rattle.flow_lanes.proofs.batch.new_workers.Given as goal
 

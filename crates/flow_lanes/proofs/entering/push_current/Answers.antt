@@ -3,7 +3,7 @@
 use Rattle.std.proofs.Common.{subst, Bool}
 use Rattle.flow_lanes.specs.Flows.{session_at_hand}
 use Rattle.flow_lanes.specs.Given.{making_of, packet_of}
-use Rattle.flow_lanes.specs.Items.{session_behind}
+use Rattle.flow_lanes.specs.Items.{session_after}
 use Rattle.flow_lanes.specs.Kept.{IsOf}
 use Rattle.flow_lanes.proofs.Sessions.IsKeptBy.{IsFound-more}
 use Rattle.flow_lanes.proofs.Sessions.ItemsOn.{items-on}
@@ -29,4 +29,4 @@ returns-clause-items c =
     let session = session_at_hand c.enter.new.found in
     items-on (making_of c.args.settings.now) p c.args.step.now c.args.state.now found session c.in_ok-left.left c.in_ok-queued.queued c.own_facts.result c.args.out.now.items c.accept_packet.new.out.items
     c.in_ok-left.ensures.left (c.enter.ensures.session found c.in_ok-left.ensures.session) c.in_ok-queued.ensures.items c.in_ok-queued.ensures.queued
-    (c.own_facts.ensures (session_behind p c.args.step.now session) c.in_ok-queued.ensures.sizes)
+    (c.own_facts.ensures (session_after p c.args.step.now session) c.in_ok-queued.ensures.sizes)

@@ -2,7 +2,7 @@
 -- which is below the count.
 use Rattle.std.proofs.Common.{ap, ◌∙◌, arith}
 use Rattle.flow_lanes.specs.Flows.{flow_of}
-use Rattle.flow_lanes.specs.Standing.{lane_of}
+use Rattle.flow_lanes.specs.LanesAfter.{lane_of}
 use Rattle.flow_lanes.proofs.Jobs.HaveSearched.{below_count}
 use Rattle.flow_lanes.proofs.Jobs.AddsFound.{one_lane}
 use Rattle.flow_lanes.proofs.in_turn.place_of.Goals as goal

@@ -7,7 +7,7 @@ use Rattle.flow_lanes.specs.Given.{inspection_of}
 use Rattle.flow_lanes.specs.declared.answer.JobFound.{JobFound}
 use Rattle.flow_lanes.specs.declared.job.Job.{Job}
 use Rattle.flow_lanes.specs.Flows.{flow_of}
-use Rattle.flow_lanes.specs.Standing.{lane_of}
+use Rattle.flow_lanes.specs.LanesAfter.{lane_of}
 use Rattle.flow_lanes.specs.Batching.{HaveLearnt, HaveSearched, lanes_of}
 use Rattle.flow_lanes.proofs.Jobs.OwnJobs.{split_at_read, take_read}
 use Rattle.flow_lanes.proofs.Jobs.AddsFound.{learnt-none, searched-none, turn_learnt, turn_searched, turn_sound}

@@ -5,7 +5,7 @@ use Rattle.rule_eval.specs.declared.item.Item.{Item}
 use Rattle.flow_lanes.specs.Detecting.{Settles, bits_now}
 use Rattle.flow_lanes.specs.Flows.{session_at_hand}
 use Rattle.flow_lanes.specs.Given.{inspection_of, making_of, packet_of}
-use Rattle.flow_lanes.specs.Items.{session_behind}
+use Rattle.flow_lanes.specs.Items.{session_after}
 use Rattle.flow_lanes.specs.Tried.{Tallies, of_session, so_far}
 use Rattle.flow_lanes.specs.Working.{own_item}
 use Rattle.flow_lanes.proofs.Sessions.StaysAt.{staying-gain, staying-items, staying-on}
@@ -27,7 +27,7 @@ returns-clause-tallies g c = λ before stays.
     let own = c.own_facts-own.result in
     let are = staying-items making p before found step stays c.none.result c.in_ok-queued.queued own c.new-items.result.items c.accept_packet.new.out.items
     c.none.ensures c.new-items.ensures.items c.in_ok-queued.ensures.items c.in_ok-queued.ensures.queued
-    (c.own_facts-own.ensures (session_behind p step (session_at_hand found)) c.in_ok-queued.ensures.sizes) in
+    (c.own_facts-own.ensures (session_after p step (session_at_hand found)) c.in_ok-queued.ensures.sizes) in
     staying-gain making p before found step stays (c.accept_packet.new.out.items ++ own_item p own) c.accept_packet.new.found are c.accept_packet.ensures.bits by (so_far c.args.tally.now)
     (so_far c.try_and_settle.new.tally)
     (subst (λ (xs : List Item). Tallies by (of_session (bits_now step.tracked c.accept_packet.new.found) (xs ++ own_item p own)) (so_far c.args.tally.now) (so_far c.try_and_settle.new.tally))
@@ -42,7 +42,7 @@ returns-clause-goes g c = λ before stays means trying tried.
     let own = c.own_facts-own.result in
     let are = staying-items making p before found step stays c.none.result c.in_ok-queued.queued own c.new-items.result.items c.accept_packet.new.out.items
     c.none.ensures c.new-items.ensures.items c.in_ok-queued.ensures.items c.in_ok-queued.ensures.queued
-    (c.own_facts-own.ensures (session_behind p step (session_at_hand found)) c.in_ok-queued.ensures.sizes) in
+    (c.own_facts-own.ensures (session_after p step (session_at_hand found)) c.in_ok-queued.ensures.sizes) in
     staying-on making p before found step stays (c.accept_packet.new.out.items ++ own_item p own) c.accept_packet.new.found are c.accept_packet.ensures.bits trying c.try_and_settle.new.found
     c.in_ok-queued.ensures.state
     (subst (λ (xs : List Item). Settles trying (xs ++ own_item p own) step c.accept_packet.new.found c.try_and_settle.new.found)

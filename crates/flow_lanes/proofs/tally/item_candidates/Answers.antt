@@ -1,4 +1,4 @@
--- The inspector's groups are those of its rules (its fact `stand`), so that what they append to an
+-- The inspector's groups are those of its rules (its fact `hold`), so that what they append to an
 -- empty list are the candidates.
 use Rattle.std.proofs.Common.{ℕ, List, ◌++◌, ap, ◌∙◌}
 use Rattle.std.proofs.Math.Logic.{∥∥₁_elim}
@@ -8,5 +8,5 @@ use Rattle.flow_lanes.proofs.tally.item_candidates.Goals as goal
 
 pub returns : goal.returns
 returns g c =
-    ∥∥₁_elim c.args.inspector.now.stand (Coded-set (coded_list coded_ℕ) _ _) (c.in_ok-effort.ensures.appended.appended c.args.inspector.now.set.now.rules)
+    ∥∥₁_elim c.args.inspector.now.hold (Coded-set (coded_list coded_ℕ) _ _) (c.in_ok-effort.ensures.appended.appended c.args.inspector.now.set.now.rules)
     ∙ ap (λ (xs : List ℕ). xs ++ candidates c.args.inspector.now.set.now.rules c.args.head.now.body c.args.payload.now) c.new-places.ensures.items

@@ -4,7 +4,7 @@ use Rattle.std.proofs.Common.{◌+◌, Option, Some, length, ap, subst, sym, ◌
 use Rattle.flow_lanes.specs.Given.{inspection_of, making_of, packet_of}
 use Rattle.flow_lanes.specs.Kept.{kept_in}
 use Rattle.flow_lanes.specs.Sound.{FlowEnds, IsSoundPacket}
-use Rattle.flow_lanes.specs.Standing.{KeptFlow, facts_kept}
+use Rattle.flow_lanes.specs.LanesAfter.{KeptFlow, facts_kept}
 use Rattle.flow_lanes.specs.Tried.{so_far}
 use Rattle.flow_lanes.proofs.Jobs.IsDone.{do-packet}
 use Rattle.flow_lanes.proofs.Jobs.KeptIn.{looked_up, sets-from}

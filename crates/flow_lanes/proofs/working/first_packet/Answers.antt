@@ -7,7 +7,7 @@ use Rattle.flow_lanes.specs.Detecting.{Leaves, gain_of}
 use Rattle.flow_lanes.specs.Flows.{FlowState}
 use Rattle.flow_lanes.specs.Given.{inspection_of, making_of, packet_of}
 use Rattle.flow_lanes.specs.Sound.{FlowFacts}
-use Rattle.flow_lanes.specs.Standing.{KeptFlow}
+use Rattle.flow_lanes.specs.LanesAfter.{KeptFlow}
 use Rattle.flow_lanes.specs.Tried.{Tallied, so_far}
 use Rattle.flow_lanes.specs.Whole.{IsDone}
 use Rattle.flow_lanes.proofs.Jobs.IsDone.{do-packet}

@@ -4,12 +4,12 @@ use Rattle.std.proofs.Common.{◌≡◌, ◌+◌, ◌≤◌, length}
 use Rattle.std.specs.Str.Lines.{lines}
 use Rattle.net_lists.specs.Lines.{kept}
 use Rattle.host_table.specs.Lines.{numbered_lines}
-use Rattle.host_table.specs.Hosts.{hosts_of, hosts_behind}
+use Rattle.host_table.specs.Hosts.{hosts_of, hosts_after}
 use Rattle.host_table.proofs.read.read_hosts.Given as goal
 
 abbrev pub invariant-loop-line : goal.invariant-loop-line
 invariant-loop-line l =
-    (l.number + length l.rest ≤ length l.fn.text) × (hosts_of l.fn.text ≡ hosts_behind l.hosts (kept (numbered_lines (l.number + 1) (lines l.rest))))
+    (l.number + length l.rest ≤ length l.fn.text) × (hosts_of l.fn.text ≡ hosts_after l.hosts (kept (numbered_lines (l.number + 1) (lines l.rest))))
 
 abbrev pub decreases-loop-line : goal.decreases-loop-line
 decreases-loop-line l = length l.rest

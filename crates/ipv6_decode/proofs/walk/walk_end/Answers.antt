@@ -9,5 +9,5 @@ pub returns-in_err-walk-clause-exact : goal.returns-in_err-walk-clause-exact
 returns-in_err-walk-clause-exact c =
     let p = err_from_is_err_and c.from_residual.result c.from_residual.ensures.1 in
     let there : is_at_header c.loop-walk.walk ≡ true = cc in
-    let fault = failed c.loop-walk.left c.loop-walk.walk c.in_err-walk.field-0.0 c.args.packet.now there c.if-left-eq0.false (sym c.behind_header.ensures.exact ∙ c.in_err-walk.was) in
+    let fault = failed c.loop-walk.left c.loop-walk.walk c.in_err-walk.field-0.0 c.args.packet.now there c.if-left-eq0.false (sym c.after_header.ensures.exact ∙ c.in_err-walk.was) in
     rw (p.1, p.2) (sym fault ∙ c.loop-walk.invariant.same)

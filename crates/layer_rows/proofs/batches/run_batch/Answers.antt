@@ -1,7 +1,7 @@
 -- Jobs that are numbered on from those of a course are sound after it and next to be taken; with them it is a course of as
 -- many jobs more (`course_goes_on`).
 use Rattle.std.proofs.Common.{arith, sym, subst}
-use Rattle.flow_lanes.specs.Standing.{AreSoundFor}
+use Rattle.flow_lanes.specs.LanesAfter.{AreSoundFor}
 use Rattle.flow_lanes.proofs.Course.{course_goes_on, course_next, course_sound}
 use Rattle.layer_rows.proofs.batches.run_batch.Goals as goal
 

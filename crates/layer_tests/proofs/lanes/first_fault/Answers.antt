@@ -1,7 +1,7 @@
 -- New lanes are after a course of no job, so that jobs that are numbered from 0 on are sound for them (`course_sound`)
 -- and next (`course_next`).
 use Rattle.std.proofs.Common.{arith, sym, subst}
-use Rattle.flow_lanes.specs.Standing.{AreSoundFor}
+use Rattle.flow_lanes.specs.LanesAfter.{AreSoundFor}
 use Rattle.flow_lanes.proofs.Course.{course_next, course_sound}
 use Rattle.layer_tests.proofs.lanes.first_fault.Goals as goal
 

@@ -19,7 +19,7 @@ returns g c = is_done g.B.Spelled.bounds_of _ _ _ _ c.loop-token.invariant.so_fa
 
 pub loop-token-preserved : goal.loop-token-preserved
 loop-token-preserved g c = record {
-  shallow = omega (arith, c.in-Some.ensures.behind, c.in-Some-step.ensures.next, c.loop-token.invariant.shallow);
+  shallow = omega (arith, c.in-Some.ensures.after, c.in-Some-step.ensures.next, c.loop-token.invariant.shallow);
   negated = c.in-Some-step.ensures.next.1 c.loop-token.invariant.negated;
   so_far = goes_on g.B.Spelled.bounds_of _ _ _ _ c.loop-token.invariant.so_far _ _ c.in-Some-step.step _ c.in-Some.ensures.token c.in-Some-step.ensures.step c.in_ok-push_part.ensures;
 }

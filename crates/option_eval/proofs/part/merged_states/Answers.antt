@@ -1,5 +1,5 @@
 -- States are taken out and put back one by one with each place once: those left
--- and those done have all standings, and are no more than any list of these.
+-- and those done have all points, and are no more than any list of these.
 use Rattle.std.proofs.Common.{◌^◌, ℕ, List, Contains, subst, sym}
 use Rattle.option_eval.proofs.Extractions.Parting.{merged_first, merged_next, merged_all, listed_first, listed_next, listed_end}
 use Rattle.option_eval.proofs.Extractions.Stating.{left_was}

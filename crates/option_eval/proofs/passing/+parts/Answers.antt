@@ -4,9 +4,9 @@ use Rattle.std.proofs.Common.{◌≡◌, ℕ, ◌+◌, ◌*◌, ◌<◌, ◌≤�
 use Rattle.std.specs.Prelude.{⊤}
 use Rattle.std.proofs.lemmas.Result.{IfOk-weaker}
 use Rattle.rule_types.specs.declared.option.Opt.{Opt}
-use Rattle.option_eval.specs.Sets.{standing}
+use Rattle.option_eval.specs.Sets.{point}
 use Rattle.option_eval.specs.States.{places_at, MatchesFromSome, HaveValues, AreAmong}
-use Rattle.option_eval.specs.Walks.{MatchesFrom, IsListed, HasValues, visits_of, visits_apart, part_standings, upto_extraction, behind_extraction}
+use Rattle.option_eval.specs.Walks.{MatchesFrom, IsListed, HasValues, visits_of, visits_apart, part_points, upto_extraction, after_extraction}
 use Rattle.option_eval.specs.declared.states.States.{States}
 use Rattle.option_eval.proofs.Extractions.Knowing.{known_nothing, rising_nothing}
 use Rattle.option_eval.proofs.Extractions.Parting.{always, part_tried, owing_first, owing_walked, owing_parted, owing_spent, owing_end}
@@ -14,20 +14,20 @@ use Rattle.option_eval.proofs.Extractions.Stating.{left_was, some_among, each_am
 use Rattle.option_eval.proofs.Extractions.Stepping.{Counted, match_true, match_false, gone_first, gone_next, gone_fewer, gone_all, some_here, counted_first, counted_next, counted_end, visits_split, apart_split, sum_of_lists, part_of_lists}
 use Rattle.option_eval.proofs.passing.+parts.Goals as goal
 
-pub is_passed_behind-returns-clause-right : goal.is_passed_behind-returns-clause-right
-is_passed_behind-returns-clause-right g t c = λ means made.
+pub is_passed_after-returns-clause-right : goal.is_passed_after-returns-clause-right
+is_passed_after-returns-clause-right g t c = λ means made.
     subst (λ (os : List Opt). IfOk c.is_passed_from.result (λ passed. (IsTrue passed → MatchesFromSome means c.args.payload.now os c.args.states) × (MatchesFromSome means c.args.payload.now os c.args.states → IsTrue passed))) c.in-Some.ensures.options
     (c.is_passed_from.ensures.right means (c.in-Some.ensures.made g.P.Pattern.finds means made))
 
-pub is_passed_behind-returns-clause-bounded : goal.is_passed_behind-returns-clause-bounded
-is_passed_behind-returns-clause-bounded g t c = λ means made lists listed have few.
+pub is_passed_after-returns-clause-bounded : goal.is_passed_after-returns-clause-bounded
+is_passed_after-returns-clause-bounded g t c = λ means made lists listed have few.
     let is = c.in-Some.ensures.options in
     let have_later = subst (λ (os : List Opt). HaveValues means c.args.payload.now lists (Some listed) os c.args.states) (sym is) have in
     subst (λ (os : List Opt). c.is_passed_from.new.visits ≤ c.args.visits.now + length lists * visits_of os (length c.args.payload.now)) is
     (c.is_passed_from.ensures.bounded means (c.in-Some.ensures.made g.P.Pattern.finds means made) lists listed have_later few)
 
-pub is_passed_behind-returns-clause-bounded_in_parts : goal.is_passed_behind-returns-clause-bounded_in_parts
-is_passed_behind-returns-clause-bounded_in_parts g t c = λ means made lists have.
+pub is_passed_after-returns-clause-bounded_in_parts : goal.is_passed_after-returns-clause-bounded_in_parts
+is_passed_after-returns-clause-bounded_in_parts g t c = λ means made lists have.
     let is = c.in-Some.ensures.options in
     let have_later = subst (λ (os : List Opt). HaveValues means c.args.payload.now lists None os c.args.states) (sym is) have in
     subst (λ (os : List Opt). c.is_passed_from.new.visits ≤ c.args.visits.now + length lists * visits_apart (length lists) os (length c.args.payload.now)) is
@@ -39,7 +39,7 @@ is_part_passed-taken_part-requires g t c = record { small = each_weaker c.args.s
 pub is_part_passed-returns-in-None-clause-right : goal.is_part_passed-returns-in-None-clause-right
 is_part_passed-returns-in-None-clause-right g t c = λ means made m.
     let same = rw c.in-None.is at c.in_ok-part.ensures.same in
-    some_among c.args.states.now c.taken_part.new.states same.0 (λ v p. MatchesFrom means c.args.payload.now (behind_extraction c.args.options.now) (standing v p)) m
+    some_among c.args.states.now c.taken_part.new.states same.0 (λ v p. MatchesFrom means c.args.payload.now (after_extraction c.args.options.now) (point v p)) m
 
 pub is_part_passed-returns-in-None-clause-among : goal.is_part_passed-returns-in-None-clause-among
 is_part_passed-returns-in-None-clause-among g t c = let same = rw c.in-None.is at c.in_ok-part.ensures.same in same.1
@@ -47,42 +47,42 @@ is_part_passed-returns-in-None-clause-among g t c = let same = rw c.in-None.is a
 pub is_part_passed-returns-in-None-clause-forgotten : goal.is_part_passed-returns-in-None-clause-forgotten
 is_part_passed-returns-in-None-clause-forgotten g t c = inl refl
 
-pub is_part_passed-is_passed_behind-requires-clause-inside : goal.is_part_passed-is_passed_behind-requires-clause-inside
-is_part_passed-is_passed_behind-requires-clause-inside g t c κs within = let same = rw c.in-Some.is at c.in_ok-part.ensures.part in
+pub is_part_passed-is_passed_after-requires-clause-inside : goal.is_part_passed-is_passed_after-requires-clause-inside
+is_part_passed-is_passed_after-requires-clause-inside g t c κs within = let same = rw c.in-Some.is at c.in_ok-part.ensures.part in
     each_among c.in-Some.taken c.args.states.now same.1 (λ v. ⊤) (λ v p. p ≤ length c.args.payload.now) c.requires.inside
 
-pub is_part_passed-is_passed_behind-requires-clause-nowhere : goal.is_part_passed-is_passed_behind-requires-clause-nowhere
-is_part_passed-is_passed_behind-requires-clause-nowhere g t c κs within = λ nothing.
+pub is_part_passed-is_passed_after-requires-clause-nowhere : goal.is_part_passed-is_passed_after-requires-clause-nowhere
+is_part_passed-is_passed_after-requires-clause-nowhere g t c κs within = λ nothing.
     let same = rw c.in-Some.is at c.in_ok-part.ensures.part in
     nowhere_among c.in-Some.taken c.args.states.now same.1 (c.requires.nowhere nothing)
 
 pub is_part_passed-returns-in-Some-clause-right : goal.is_part_passed-returns-in-Some-clause-right
 is_part_passed-returns-in-Some-clause-right g t c = λ means made.
     let same = rw c.in-Some.is at c.in_ok-part.ensures.part in
-    IfOk-weaker c.is_passed_behind.result _ _ (λ passed told. part_tried (λ v p. MatchesFrom means c.args.payload.now (behind_extraction c.args.options.now) (standing v p)) c.args.states.now c.taken_part.new.states c.in-Some.taken passed same told) (c.is_passed_behind.ensures.right means made)
+    IfOk-weaker c.is_passed_after.result _ _ (λ passed told. part_tried (λ v p. MatchesFrom means c.args.payload.now (after_extraction c.args.options.now) (point v p)) c.args.states.now c.taken_part.new.states c.in-Some.taken passed same told) (c.is_passed_after.ensures.right means made)
 
 pub is_part_passed-returns-in-Some-clause-among : goal.is_part_passed-returns-in-Some-clause-among
 is_part_passed-returns-in-Some-clause-among g t c = let none = rw c.in-Some.is at c.in_ok-part.ensures.nowhere in
-    always c.is_passed_behind.result (λ passed. AreAmong c.taken_part.new.states c.args.states.now) (λ passed. among_nowhere c.taken_part.new.states c.args.states.now none)
+    always c.is_passed_after.result (λ passed. AreAmong c.taken_part.new.states c.args.states.now) (λ passed. among_nowhere c.taken_part.new.states c.args.states.now none)
 
 pub is_part_passed-returns-in-Some-clause-few : goal.is_part_passed-returns-in-Some-clause-few
-is_part_passed-returns-in-Some-clause-few g t c = always c.is_passed_behind.result (λ passed. c.taken_part.new.states.place_count ≤ 2 * part_standings) (λ passed. c.in_ok-part.ensures.few)
+is_part_passed-returns-in-Some-clause-few g t c = always c.is_passed_after.result (λ passed. c.taken_part.new.states.place_count ≤ 2 * part_points) (λ passed. c.in_ok-part.ensures.few)
 
 pub is_part_passed-returns-in-Some-clause-bounded : goal.is_part_passed-returns-in-Some-clause-bounded
 is_part_passed-returns-in-Some-clause-bounded g t c = λ means lists listed have few.
-    let listed_before = each_weaker c.args.states.now (Contains lists) (λ v. ⊤) (λ v p. IsListed (Some listed) v p × HasValues means c.args.payload.now lists (Some listed) (behind_extraction c.args.options.now) (standing v p)) (λ v p. Contains listed (standing v p)) (λ v key. tt) (λ v p both. both.0) have in
+    let listed_before = each_weaker c.args.states.now (Contains lists) (λ v. ⊤) (λ v p. IsListed (Some listed) v p × HasValues means c.args.payload.now lists (Some listed) (after_extraction c.args.options.now) (point v p)) (λ v p. Contains listed (point v p)) (λ v key. tt) (λ v p both. both.0) have in
     let many = rw c.in-Some.is at c.in_ok-part.ensures.many listed listed_before in
     absurd (omega (arith, many, few))
 
 pub is_part_passed-returns-in-Some-clause-bounded_in_parts : goal.is_part_passed-returns-in-Some-clause-bounded_in_parts
 is_part_passed-returns-in-Some-clause-bounded_in_parts g t c = λ means made lists have.
     let same = rw c.in-Some.is at c.in_ok-part.ensures.part in
-    c.is_passed_behind.ensures.bounded_in_parts means made lists
-    (each_among c.in-Some.taken c.args.states.now same.1 (Contains lists) (λ v p. IsListed None v p × HasValues means c.args.payload.now lists None (behind_extraction c.args.options.now) (standing v p)) have)
+    c.is_passed_after.ensures.bounded_in_parts means made lists
+    (each_among c.in-Some.taken c.args.states.now same.1 (Contains lists) (λ v p. IsListed None v p × HasValues means c.args.payload.now lists None (after_extraction c.args.options.now) (point v p)) have)
 
 pub is_part_passed-returns-in-Some-clause-forgotten : goal.is_part_passed-returns-in-Some-clause-forgotten
 is_part_passed-returns-in-Some-clause-forgotten g t c = let none = rw c.in-Some.is at c.in_ok-part.ensures.nowhere in
-    always c.is_passed_behind.result (λ passed. (c.is_passed_behind.new.visits ≡ c.args.visits.now) ⊎ ((values : List ℕ) → places_at c.taken_part.new.states values ≡ None)) (λ passed. inr none)
+    always c.is_passed_after.result (λ passed. (c.is_passed_after.new.visits ≡ c.args.visits.now) ⊎ ((values : List ℕ) → places_at c.taken_part.new.states values ≡ None)) (λ passed. inr none)
 
 pub is_passed_from-loop-state-init : goal.is_passed_from-loop-state-init
 is_passed_from-loop-state-init g t c = record {
@@ -92,8 +92,8 @@ is_passed_from-loop-state-init g t c = record {
   nowhere = λ nothing. c.new.ensures.nowhere;
   known = λ means made. known_nothing means c.args.payload.now c.args.options.now c.in_ok-known.known c.in_ok-known.ensures;
   known_rising = rising_nothing c.in_ok-known.known (length c.args.payload.now + 1) c.in_ok-known.ensures;
-  together = λ means made lists listed have few. counted_first (visits_of (upto_extraction c.args.options.now) (length c.args.payload.now)) lists c.args.states (λ v p. IsListed (Some listed) v p × HasValues means c.args.payload.now lists (Some listed) c.args.options.now (standing v p)) c.args.visits.now have;
-  owing = λ means made lists have. owing_first (visits_apart (length lists) c.args.options.now (length c.args.payload.now)) (length lists * visits_apart (length lists) (behind_extraction c.args.options.now) (length c.args.payload.now)) lists c.args.states c.new.result (λ v p. IsListed None v p × HasValues means c.args.payload.now lists None c.args.options.now (standing v p)) c.args.visits.now c.new.ensures.nowhere have;
+  together = λ means made lists listed have few. counted_first (visits_of (upto_extraction c.args.options.now) (length c.args.payload.now)) lists c.args.states (λ v p. IsListed (Some listed) v p × HasValues means c.args.payload.now lists (Some listed) c.args.options.now (point v p)) c.args.visits.now have;
+  owing = λ means made lists have. owing_first (visits_apart (length lists) c.args.options.now (length c.args.payload.now)) (length lists * visits_apart (length lists) (after_extraction c.args.options.now) (length c.args.payload.now)) lists c.args.states c.new.result (λ v p. IsListed None v p × HasValues means c.args.payload.now lists None c.args.options.now (point v p)) c.args.visits.now c.new.ensures.nowhere have;
 }
 
 pub is_passed_from-is_state_walked-requires-clause-inside : goal.is_passed_from-is_state_walked-requires-clause-inside
@@ -111,24 +111,24 @@ is_passed_from-loop-state-preserved g t c =
     let old = c.loop-state.invariant in
     record {
       gone = λ means made.
-          let gone = gone_next means c.args.payload.now c.args.options.now c.args.states c.loop-state.left c.take_first.new.self c.loop-state.behind.states c.is_state_walked.new.behind.states c.in-Some.state.values c.in-Some.state.places.items c.loop-state.invariant.left_was c.in-Some.ensures.taken c.in-Some.ensures.left (c.loop-state.invariant.gone means made)
+          let gone = gone_next means c.args.payload.now c.args.options.now c.args.states c.loop-state.left c.take_first.new.self c.loop-state.after.states c.is_state_walked.new.after.states c.in-Some.state.values c.in-Some.state.places.items c.loop-state.invariant.left_was c.in-Some.ensures.taken c.in-Some.ensures.left (c.loop-state.invariant.gone means made)
           (match_false _ _ _ c.if-walked.false (c.in_ok-walked.ensures.right means made (c.loop-state.invariant.known means made))) in
-          gone_fewer means c.args.payload.now c.args.options.now c.args.states c.take_first.new.self c.is_state_walked.new.behind.states c.is_part_passed.new.states c.in_ok-passed.ensures.among (match_false _ _ _ c.if-passed.false (c.in_ok-passed.ensures.right means made)) gone;
+          gone_fewer means c.args.payload.now c.args.options.now c.args.states c.take_first.new.self c.is_state_walked.new.after.states c.is_part_passed.new.states c.in_ok-passed.ensures.among (match_false _ _ _ c.if-passed.false (c.in_ok-passed.ensures.right means made)) gone;
       left_was = λ v ps found. old.left_was v ps (left_was c.loop-state.left c.take_first.new.self c.in-Some.state.values c.in-Some.state.places.items c.in-Some.ensures.taken c.in-Some.ensures.left v ps found).0;
-      within = each_among c.is_part_passed.new.states c.is_state_walked.new.behind.states c.in_ok-passed.ensures.among (λ v. ⊤) (λ v p. p ≤ length c.args.payload.now) (c.in_ok-walked.ensures.inside old.within);
-      nowhere = λ nothing. nowhere_among c.is_part_passed.new.states c.is_state_walked.new.behind.states c.in_ok-passed.ensures.among (subst (λ (s : States). (q : List ℕ) → places_at s q ≡ None) (sym (c.is_state_walked.ensures.nowhere nothing)) (old.nowhere nothing));
+      within = each_among c.is_part_passed.new.states c.is_state_walked.new.after.states c.in_ok-passed.ensures.among (λ v. ⊤) (λ v p. p ≤ length c.args.payload.now) (c.in_ok-walked.ensures.inside old.within);
+      nowhere = λ nothing. nowhere_among c.is_part_passed.new.states c.is_state_walked.new.after.states c.in_ok-passed.ensures.among (subst (λ (s : States). (q : List ℕ) → places_at s q ≡ None) (sym (c.is_state_walked.ensures.nowhere nothing)) (old.nowhere nothing));
       known = λ means made. c.in_ok-walked.ensures.known means made (old.known means made);
       known_rising = c.in_ok-walked.ensures.known_rising;
       together = λ means made lists listed have few.
-          let gone = gone_next means c.args.payload.now c.args.options.now c.args.states c.loop-state.left c.take_first.new.self c.loop-state.behind.states c.is_state_walked.new.behind.states c.in-Some.state.values c.in-Some.state.places.items c.loop-state.invariant.left_was c.in-Some.ensures.taken c.in-Some.ensures.left (c.loop-state.invariant.gone means made)
+          let gone = gone_next means c.args.payload.now c.args.options.now c.args.states c.loop-state.left c.take_first.new.self c.loop-state.after.states c.is_state_walked.new.after.states c.in-Some.state.values c.in-Some.state.places.items c.loop-state.invariant.left_was c.in-Some.ensures.taken c.in-Some.ensures.left (c.loop-state.invariant.gone means made)
           (match_false _ _ _ c.if-walked.false (c.in_ok-walked.ensures.right means made (c.loop-state.invariant.known means made))) in
           subst (λ (n : ℕ). Counted (visits_of (upto_extraction c.args.options.now) (length c.args.payload.now)) lists c.take_first.new.self c.args.visits.now n) (sym (c.is_part_passed.ensures.bounded means lists listed (gone.have lists (Some listed) have) few))
           (counted_next (visits_of (upto_extraction c.args.options.now) (length c.args.payload.now)) lists c.loop-state.left c.take_first.new.self c.in-Some.state.values c.in-Some.state.places.items c.args.visits.now c.loop-state.visits c.is_state_walked.new.visits c.in-Some.ensures.taken c.in-Some.ensures.left c.is_state_walked.ensures.bounded (c.loop-state.invariant.together means made lists listed have few));
       owing = λ means made lists have.
-          let gone = gone_next means c.args.payload.now c.args.options.now c.args.states c.loop-state.left c.take_first.new.self c.loop-state.behind.states c.is_state_walked.new.behind.states c.in-Some.state.values c.in-Some.state.places.items c.loop-state.invariant.left_was c.in-Some.ensures.taken c.in-Some.ensures.left (c.loop-state.invariant.gone means made)
+          let gone = gone_next means c.args.payload.now c.args.options.now c.args.states c.loop-state.left c.take_first.new.self c.loop-state.after.states c.is_state_walked.new.after.states c.in-Some.state.values c.in-Some.state.places.items c.loop-state.invariant.left_was c.in-Some.ensures.taken c.in-Some.ensures.left (c.loop-state.invariant.gone means made)
           (match_false _ _ _ c.if-walked.false (c.in_ok-walked.ensures.right means made (c.loop-state.invariant.known means made))) in
-          owing_parted (visits_apart (length lists) c.args.options.now (length c.args.payload.now)) (length lists * visits_apart (length lists) (behind_extraction c.args.options.now) (length c.args.payload.now)) lists c.take_first.new.self c.is_part_passed.new.states c.args.visits.now c.is_state_walked.new.visits c.is_part_passed.new.visits (c.is_part_passed.ensures.bounded_in_parts means made lists (gone.have lists None have)) c.in_ok-passed.ensures.forgotten
-          (owing_walked (visits_apart (length lists) c.args.options.now (length c.args.payload.now)) (length lists * visits_apart (length lists) (behind_extraction c.args.options.now) (length c.args.payload.now)) lists (visits_of (upto_extraction c.args.options.now) (length c.args.payload.now)) c.loop-state.left c.take_first.new.self c.loop-state.behind.states c.in-Some.state.values c.in-Some.state.places.items c.args.visits.now c.loop-state.visits c.is_state_walked.new.visits (apart_split (length lists) c.args.options.now (length c.args.payload.now)) c.in-Some.ensures.taken c.in-Some.ensures.left c.is_state_walked.ensures.bounded (c.loop-state.invariant.owing means made lists have));
+          owing_parted (visits_apart (length lists) c.args.options.now (length c.args.payload.now)) (length lists * visits_apart (length lists) (after_extraction c.args.options.now) (length c.args.payload.now)) lists c.take_first.new.self c.is_part_passed.new.states c.args.visits.now c.is_state_walked.new.visits c.is_part_passed.new.visits (c.is_part_passed.ensures.bounded_in_parts means made lists (gone.have lists None have)) c.in_ok-passed.ensures.forgotten
+          (owing_walked (visits_apart (length lists) c.args.options.now (length c.args.payload.now)) (length lists * visits_apart (length lists) (after_extraction c.args.options.now) (length c.args.payload.now)) lists (visits_of (upto_extraction c.args.options.now) (length c.args.payload.now)) c.loop-state.left c.take_first.new.self c.loop-state.after.states c.in-Some.state.values c.in-Some.state.places.items c.args.visits.now c.loop-state.visits c.is_state_walked.new.visits (apart_split (length lists) c.args.options.now (length c.args.payload.now)) c.in-Some.ensures.taken c.in-Some.ensures.left c.is_state_walked.ensures.bounded (c.loop-state.invariant.owing means made lists have));
     }
 
 pub is_passed_from-returns-then-walked-clause-right : goal.is_passed_from-returns-then-walked-clause-right
@@ -140,28 +140,28 @@ is_passed_from-returns-then-walked-clause-right g t c = λ means made. (
 
 pub is_passed_from-returns-then-walked-clause-bounded : goal.is_passed_from-returns-then-walked-clause-bounded
 is_passed_from-returns-then-walked-clause-bounded g t c = λ means made lists listed have few.
-    part_of_lists (length lists) (visits_of (upto_extraction c.args.options.now) (length c.args.payload.now)) (visits_of (behind_extraction c.args.options.now) (length c.args.payload.now)) (visits_of c.args.options.now (length c.args.payload.now)) c.args.visits.now c.is_state_walked.new.visits (visits_split c.args.options.now (length c.args.payload.now))
+    part_of_lists (length lists) (visits_of (upto_extraction c.args.options.now) (length c.args.payload.now)) (visits_of (after_extraction c.args.options.now) (length c.args.payload.now)) (visits_of c.args.options.now (length c.args.payload.now)) c.args.visits.now c.is_state_walked.new.visits (visits_split c.args.options.now (length c.args.payload.now))
     (counted_end (visits_of (upto_extraction c.args.options.now) (length c.args.payload.now)) lists c.take_first.new.self c.args.visits.now c.is_state_walked.new.visits (counted_next (visits_of (upto_extraction c.args.options.now) (length c.args.payload.now)) lists c.loop-state.left c.take_first.new.self c.in-Some.state.values c.in-Some.state.places.items c.args.visits.now c.loop-state.visits c.is_state_walked.new.visits c.in-Some.ensures.taken c.in-Some.ensures.left c.is_state_walked.ensures.bounded (c.loop-state.invariant.together means made lists listed have few)))
 
 pub is_passed_from-returns-then-walked-clause-bounded_in_parts : goal.is_passed_from-returns-then-walked-clause-bounded_in_parts
 is_passed_from-returns-then-walked-clause-bounded_in_parts g t c = λ means made lists have.
-    let spent = owing_spent (visits_apart (length lists) c.args.options.now (length c.args.payload.now)) (length lists * visits_apart (length lists) (behind_extraction c.args.options.now) (length c.args.payload.now)) lists c.take_first.new.self c.args.visits.now c.is_state_walked.new.visits (owing_walked (visits_apart (length lists) c.args.options.now (length c.args.payload.now)) (length lists * visits_apart (length lists) (behind_extraction c.args.options.now) (length c.args.payload.now)) lists (visits_of (upto_extraction c.args.options.now) (length c.args.payload.now)) c.loop-state.left c.take_first.new.self c.loop-state.behind.states c.in-Some.state.values c.in-Some.state.places.items c.args.visits.now c.loop-state.visits c.is_state_walked.new.visits (apart_split (length lists) c.args.options.now (length c.args.payload.now)) c.in-Some.ensures.taken c.in-Some.ensures.left c.is_state_walked.ensures.bounded (c.loop-state.invariant.owing means made lists have)) in
+    let spent = owing_spent (visits_apart (length lists) c.args.options.now (length c.args.payload.now)) (length lists * visits_apart (length lists) (after_extraction c.args.options.now) (length c.args.payload.now)) lists c.take_first.new.self c.args.visits.now c.is_state_walked.new.visits (owing_walked (visits_apart (length lists) c.args.options.now (length c.args.payload.now)) (length lists * visits_apart (length lists) (after_extraction c.args.options.now) (length c.args.payload.now)) lists (visits_of (upto_extraction c.args.options.now) (length c.args.payload.now)) c.loop-state.left c.take_first.new.self c.loop-state.after.states c.in-Some.state.values c.in-Some.state.places.items c.args.visits.now c.loop-state.visits c.is_state_walked.new.visits (apart_split (length lists) c.args.options.now (length c.args.payload.now)) c.in-Some.ensures.taken c.in-Some.ensures.left c.is_state_walked.ensures.bounded (c.loop-state.invariant.owing means made lists have)) in
     omega (arith, spent)
 
 pub is_passed_from-returns-in_err-walked-clause-bounded : goal.is_passed_from-returns-in_err-walked-clause-bounded
 is_passed_from-returns-in_err-walked-clause-bounded g t c = λ means made lists listed have few.
-    part_of_lists (length lists) (visits_of (upto_extraction c.args.options.now) (length c.args.payload.now)) (visits_of (behind_extraction c.args.options.now) (length c.args.payload.now)) (visits_of c.args.options.now (length c.args.payload.now)) c.args.visits.now c.is_state_walked.new.visits (visits_split c.args.options.now (length c.args.payload.now))
+    part_of_lists (length lists) (visits_of (upto_extraction c.args.options.now) (length c.args.payload.now)) (visits_of (after_extraction c.args.options.now) (length c.args.payload.now)) (visits_of c.args.options.now (length c.args.payload.now)) c.args.visits.now c.is_state_walked.new.visits (visits_split c.args.options.now (length c.args.payload.now))
     (counted_end (visits_of (upto_extraction c.args.options.now) (length c.args.payload.now)) lists c.take_first.new.self c.args.visits.now c.is_state_walked.new.visits (counted_next (visits_of (upto_extraction c.args.options.now) (length c.args.payload.now)) lists c.loop-state.left c.take_first.new.self c.in-Some.state.values c.in-Some.state.places.items c.args.visits.now c.loop-state.visits c.is_state_walked.new.visits c.in-Some.ensures.taken c.in-Some.ensures.left c.is_state_walked.ensures.bounded (c.loop-state.invariant.together means made lists listed have few)))
 
 pub is_passed_from-returns-in_err-walked-clause-bounded_in_parts : goal.is_passed_from-returns-in_err-walked-clause-bounded_in_parts
 is_passed_from-returns-in_err-walked-clause-bounded_in_parts g t c = λ means made lists have.
-    let spent = owing_spent (visits_apart (length lists) c.args.options.now (length c.args.payload.now)) (length lists * visits_apart (length lists) (behind_extraction c.args.options.now) (length c.args.payload.now)) lists c.take_first.new.self c.args.visits.now c.is_state_walked.new.visits (owing_walked (visits_apart (length lists) c.args.options.now (length c.args.payload.now)) (length lists * visits_apart (length lists) (behind_extraction c.args.options.now) (length c.args.payload.now)) lists (visits_of (upto_extraction c.args.options.now) (length c.args.payload.now)) c.loop-state.left c.take_first.new.self c.loop-state.behind.states c.in-Some.state.values c.in-Some.state.places.items c.args.visits.now c.loop-state.visits c.is_state_walked.new.visits (apart_split (length lists) c.args.options.now (length c.args.payload.now)) c.in-Some.ensures.taken c.in-Some.ensures.left c.is_state_walked.ensures.bounded (c.loop-state.invariant.owing means made lists have)) in
+    let spent = owing_spent (visits_apart (length lists) c.args.options.now (length c.args.payload.now)) (length lists * visits_apart (length lists) (after_extraction c.args.options.now) (length c.args.payload.now)) lists c.take_first.new.self c.args.visits.now c.is_state_walked.new.visits (owing_walked (visits_apart (length lists) c.args.options.now (length c.args.payload.now)) (length lists * visits_apart (length lists) (after_extraction c.args.options.now) (length c.args.payload.now)) lists (visits_of (upto_extraction c.args.options.now) (length c.args.payload.now)) c.loop-state.left c.take_first.new.self c.loop-state.after.states c.in-Some.state.values c.in-Some.state.places.items c.args.visits.now c.loop-state.visits c.is_state_walked.new.visits (apart_split (length lists) c.args.options.now (length c.args.payload.now)) c.in-Some.ensures.taken c.in-Some.ensures.left c.is_state_walked.ensures.bounded (c.loop-state.invariant.owing means made lists have)) in
     omega (arith, spent)
 
 pub is_passed_from-returns-then-passed-clause-right : goal.is_passed_from-returns-then-passed-clause-right
 is_passed_from-returns-then-passed-clause-right g t c = λ means made. (
   λ yes.
-      let gone = gone_next means c.args.payload.now c.args.options.now c.args.states c.loop-state.left c.take_first.new.self c.loop-state.behind.states c.is_state_walked.new.behind.states c.in-Some.state.values c.in-Some.state.places.items c.loop-state.invariant.left_was c.in-Some.ensures.taken c.in-Some.ensures.left (c.loop-state.invariant.gone means made)
+      let gone = gone_next means c.args.payload.now c.args.options.now c.args.states c.loop-state.left c.take_first.new.self c.loop-state.after.states c.is_state_walked.new.after.states c.in-Some.state.values c.in-Some.state.places.items c.loop-state.invariant.left_was c.in-Some.ensures.taken c.in-Some.ensures.left (c.loop-state.invariant.gone means made)
       (match_false _ _ _ c.if-walked.false (c.in_ok-walked.ensures.right means made (c.loop-state.invariant.known means made))) in
       gone.sound (match_true _ _ _ c.if-passed.true (c.in_ok-passed.ensures.right means made)),
   λ m. refl,
@@ -169,56 +169,56 @@ is_passed_from-returns-then-passed-clause-right g t c = λ means made. (
 
 pub is_passed_from-returns-then-passed-clause-bounded : goal.is_passed_from-returns-then-passed-clause-bounded
 is_passed_from-returns-then-passed-clause-bounded g t c = λ means made lists listed have few.
-    let gone = gone_next means c.args.payload.now c.args.options.now c.args.states c.loop-state.left c.take_first.new.self c.loop-state.behind.states c.is_state_walked.new.behind.states c.in-Some.state.values c.in-Some.state.places.items c.loop-state.invariant.left_was c.in-Some.ensures.taken c.in-Some.ensures.left (c.loop-state.invariant.gone means made)
+    let gone = gone_next means c.args.payload.now c.args.options.now c.args.states c.loop-state.left c.take_first.new.self c.loop-state.after.states c.is_state_walked.new.after.states c.in-Some.state.values c.in-Some.state.places.items c.loop-state.invariant.left_was c.in-Some.ensures.taken c.in-Some.ensures.left (c.loop-state.invariant.gone means made)
     (match_false _ _ _ c.if-walked.false (c.in_ok-walked.ensures.right means made (c.loop-state.invariant.known means made))) in
     subst (λ (n : ℕ). n ≤ c.args.visits.now + length lists * (visits_of c.args.options.now (length c.args.payload.now))) (sym (c.is_part_passed.ensures.bounded means lists listed (gone.have lists (Some listed) have) few))
-    (part_of_lists (length lists) (visits_of (upto_extraction c.args.options.now) (length c.args.payload.now)) (visits_of (behind_extraction c.args.options.now) (length c.args.payload.now)) (visits_of c.args.options.now (length c.args.payload.now)) c.args.visits.now c.is_state_walked.new.visits (visits_split c.args.options.now (length c.args.payload.now))
+    (part_of_lists (length lists) (visits_of (upto_extraction c.args.options.now) (length c.args.payload.now)) (visits_of (after_extraction c.args.options.now) (length c.args.payload.now)) (visits_of c.args.options.now (length c.args.payload.now)) c.args.visits.now c.is_state_walked.new.visits (visits_split c.args.options.now (length c.args.payload.now))
     (counted_end (visits_of (upto_extraction c.args.options.now) (length c.args.payload.now)) lists c.take_first.new.self c.args.visits.now c.is_state_walked.new.visits (counted_next (visits_of (upto_extraction c.args.options.now) (length c.args.payload.now)) lists c.loop-state.left c.take_first.new.self c.in-Some.state.values c.in-Some.state.places.items c.args.visits.now c.loop-state.visits c.is_state_walked.new.visits c.in-Some.ensures.taken c.in-Some.ensures.left c.is_state_walked.ensures.bounded (c.loop-state.invariant.together means made lists listed have few))))
 
 pub is_passed_from-returns-then-passed-clause-bounded_in_parts : goal.is_passed_from-returns-then-passed-clause-bounded_in_parts
 is_passed_from-returns-then-passed-clause-bounded_in_parts g t c = λ means made lists have.
-    let gone = gone_next means c.args.payload.now c.args.options.now c.args.states c.loop-state.left c.take_first.new.self c.loop-state.behind.states c.is_state_walked.new.behind.states c.in-Some.state.values c.in-Some.state.places.items c.loop-state.invariant.left_was c.in-Some.ensures.taken c.in-Some.ensures.left (c.loop-state.invariant.gone means made)
+    let gone = gone_next means c.args.payload.now c.args.options.now c.args.states c.loop-state.left c.take_first.new.self c.loop-state.after.states c.is_state_walked.new.after.states c.in-Some.state.values c.in-Some.state.places.items c.loop-state.invariant.left_was c.in-Some.ensures.taken c.in-Some.ensures.left (c.loop-state.invariant.gone means made)
     (match_false _ _ _ c.if-walked.false (c.in_ok-walked.ensures.right means made (c.loop-state.invariant.known means made))) in
-    let spent = owing_spent (visits_apart (length lists) c.args.options.now (length c.args.payload.now)) (length lists * visits_apart (length lists) (behind_extraction c.args.options.now) (length c.args.payload.now)) lists c.take_first.new.self c.args.visits.now c.is_state_walked.new.visits (owing_walked (visits_apart (length lists) c.args.options.now (length c.args.payload.now)) (length lists * visits_apart (length lists) (behind_extraction c.args.options.now) (length c.args.payload.now)) lists (visits_of (upto_extraction c.args.options.now) (length c.args.payload.now)) c.loop-state.left c.take_first.new.self c.loop-state.behind.states c.in-Some.state.values c.in-Some.state.places.items c.args.visits.now c.loop-state.visits c.is_state_walked.new.visits (apart_split (length lists) c.args.options.now (length c.args.payload.now)) c.in-Some.ensures.taken c.in-Some.ensures.left c.is_state_walked.ensures.bounded (c.loop-state.invariant.owing means made lists have)) in
+    let spent = owing_spent (visits_apart (length lists) c.args.options.now (length c.args.payload.now)) (length lists * visits_apart (length lists) (after_extraction c.args.options.now) (length c.args.payload.now)) lists c.take_first.new.self c.args.visits.now c.is_state_walked.new.visits (owing_walked (visits_apart (length lists) c.args.options.now (length c.args.payload.now)) (length lists * visits_apart (length lists) (after_extraction c.args.options.now) (length c.args.payload.now)) lists (visits_of (upto_extraction c.args.options.now) (length c.args.payload.now)) c.loop-state.left c.take_first.new.self c.loop-state.after.states c.in-Some.state.values c.in-Some.state.places.items c.args.visits.now c.loop-state.visits c.is_state_walked.new.visits (apart_split (length lists) c.args.options.now (length c.args.payload.now)) c.in-Some.ensures.taken c.in-Some.ensures.left c.is_state_walked.ensures.bounded (c.loop-state.invariant.owing means made lists have)) in
     omega (arith, spent, c.is_part_passed.ensures.bounded_in_parts means made lists (gone.have lists None have))
 
 pub is_passed_from-returns-in_err-passed-clause-bounded : goal.is_passed_from-returns-in_err-passed-clause-bounded
 is_passed_from-returns-in_err-passed-clause-bounded g t c = λ means made lists listed have few.
-    let gone = gone_next means c.args.payload.now c.args.options.now c.args.states c.loop-state.left c.take_first.new.self c.loop-state.behind.states c.is_state_walked.new.behind.states c.in-Some.state.values c.in-Some.state.places.items c.loop-state.invariant.left_was c.in-Some.ensures.taken c.in-Some.ensures.left (c.loop-state.invariant.gone means made)
+    let gone = gone_next means c.args.payload.now c.args.options.now c.args.states c.loop-state.left c.take_first.new.self c.loop-state.after.states c.is_state_walked.new.after.states c.in-Some.state.values c.in-Some.state.places.items c.loop-state.invariant.left_was c.in-Some.ensures.taken c.in-Some.ensures.left (c.loop-state.invariant.gone means made)
     (match_false _ _ _ c.if-walked.false (c.in_ok-walked.ensures.right means made (c.loop-state.invariant.known means made))) in
     subst (λ (n : ℕ). n ≤ c.args.visits.now + length lists * (visits_of c.args.options.now (length c.args.payload.now))) (sym (c.is_part_passed.ensures.bounded means lists listed (gone.have lists (Some listed) have) few))
-    (part_of_lists (length lists) (visits_of (upto_extraction c.args.options.now) (length c.args.payload.now)) (visits_of (behind_extraction c.args.options.now) (length c.args.payload.now)) (visits_of c.args.options.now (length c.args.payload.now)) c.args.visits.now c.is_state_walked.new.visits (visits_split c.args.options.now (length c.args.payload.now))
+    (part_of_lists (length lists) (visits_of (upto_extraction c.args.options.now) (length c.args.payload.now)) (visits_of (after_extraction c.args.options.now) (length c.args.payload.now)) (visits_of c.args.options.now (length c.args.payload.now)) c.args.visits.now c.is_state_walked.new.visits (visits_split c.args.options.now (length c.args.payload.now))
     (counted_end (visits_of (upto_extraction c.args.options.now) (length c.args.payload.now)) lists c.take_first.new.self c.args.visits.now c.is_state_walked.new.visits (counted_next (visits_of (upto_extraction c.args.options.now) (length c.args.payload.now)) lists c.loop-state.left c.take_first.new.self c.in-Some.state.values c.in-Some.state.places.items c.args.visits.now c.loop-state.visits c.is_state_walked.new.visits c.in-Some.ensures.taken c.in-Some.ensures.left c.is_state_walked.ensures.bounded (c.loop-state.invariant.together means made lists listed have few))))
 
 pub is_passed_from-returns-in_err-passed-clause-bounded_in_parts : goal.is_passed_from-returns-in_err-passed-clause-bounded_in_parts
 is_passed_from-returns-in_err-passed-clause-bounded_in_parts g t c = λ means made lists have.
-    let gone = gone_next means c.args.payload.now c.args.options.now c.args.states c.loop-state.left c.take_first.new.self c.loop-state.behind.states c.is_state_walked.new.behind.states c.in-Some.state.values c.in-Some.state.places.items c.loop-state.invariant.left_was c.in-Some.ensures.taken c.in-Some.ensures.left (c.loop-state.invariant.gone means made)
+    let gone = gone_next means c.args.payload.now c.args.options.now c.args.states c.loop-state.left c.take_first.new.self c.loop-state.after.states c.is_state_walked.new.after.states c.in-Some.state.values c.in-Some.state.places.items c.loop-state.invariant.left_was c.in-Some.ensures.taken c.in-Some.ensures.left (c.loop-state.invariant.gone means made)
     (match_false _ _ _ c.if-walked.false (c.in_ok-walked.ensures.right means made (c.loop-state.invariant.known means made))) in
-    let spent = owing_spent (visits_apart (length lists) c.args.options.now (length c.args.payload.now)) (length lists * visits_apart (length lists) (behind_extraction c.args.options.now) (length c.args.payload.now)) lists c.take_first.new.self c.args.visits.now c.is_state_walked.new.visits (owing_walked (visits_apart (length lists) c.args.options.now (length c.args.payload.now)) (length lists * visits_apart (length lists) (behind_extraction c.args.options.now) (length c.args.payload.now)) lists (visits_of (upto_extraction c.args.options.now) (length c.args.payload.now)) c.loop-state.left c.take_first.new.self c.loop-state.behind.states c.in-Some.state.values c.in-Some.state.places.items c.args.visits.now c.loop-state.visits c.is_state_walked.new.visits (apart_split (length lists) c.args.options.now (length c.args.payload.now)) c.in-Some.ensures.taken c.in-Some.ensures.left c.is_state_walked.ensures.bounded (c.loop-state.invariant.owing means made lists have)) in
+    let spent = owing_spent (visits_apart (length lists) c.args.options.now (length c.args.payload.now)) (length lists * visits_apart (length lists) (after_extraction c.args.options.now) (length c.args.payload.now)) lists c.take_first.new.self c.args.visits.now c.is_state_walked.new.visits (owing_walked (visits_apart (length lists) c.args.options.now (length c.args.payload.now)) (length lists * visits_apart (length lists) (after_extraction c.args.options.now) (length c.args.payload.now)) lists (visits_of (upto_extraction c.args.options.now) (length c.args.payload.now)) c.loop-state.left c.take_first.new.self c.loop-state.after.states c.in-Some.state.values c.in-Some.state.places.items c.args.visits.now c.loop-state.visits c.is_state_walked.new.visits (apart_split (length lists) c.args.options.now (length c.args.payload.now)) c.in-Some.ensures.taken c.in-Some.ensures.left c.is_state_walked.ensures.bounded (c.loop-state.invariant.owing means made lists have)) in
     omega (arith, spent, c.is_part_passed.ensures.bounded_in_parts means made lists (gone.have lists None have))
 
 pub is_passed_from-returns-clause-right : goal.is_passed_from-returns-clause-right
 is_passed_from-returns-clause-right g t c = λ means made.
     let gone = c.loop-state.invariant.gone means made in
-    IfOk-weaker c.is_passed_behind.result _ _
+    IfOk-weaker c.is_passed_after.result _ _
     (λ passed told. (
       λ yes. gone.sound (told.0 yes),
-      λ m. told.1 (gone_all means c.args.payload.now c.args.options.now c.args.states c.loop-state.left c.loop-state.behind.states c.in_default.ensures.empty gone m),
+      λ m. told.1 (gone_all means c.args.payload.now c.args.options.now c.args.states c.loop-state.left c.loop-state.after.states c.in_default.ensures.empty gone m),
     ))
-    (c.is_passed_behind.ensures.right means made)
+    (c.is_passed_after.ensures.right means made)
 
 pub is_passed_from-returns-clause-bounded : goal.is_passed_from-returns-clause-bounded
 is_passed_from-returns-clause-bounded g t c = λ means made lists listed have few.
     let gone = c.loop-state.invariant.gone means made in
-    sum_of_lists (length lists) (visits_of (upto_extraction c.args.options.now) (length c.args.payload.now)) (visits_of (behind_extraction c.args.options.now) (length c.args.payload.now)) (visits_of c.args.options.now (length c.args.payload.now)) c.args.visits.now c.loop-state.visits c.is_passed_behind.new.visits (visits_split c.args.options.now (length c.args.payload.now))
+    sum_of_lists (length lists) (visits_of (upto_extraction c.args.options.now) (length c.args.payload.now)) (visits_of (after_extraction c.args.options.now) (length c.args.payload.now)) (visits_of c.args.options.now (length c.args.payload.now)) c.args.visits.now c.loop-state.visits c.is_passed_after.new.visits (visits_split c.args.options.now (length c.args.payload.now))
     (counted_end (visits_of (upto_extraction c.args.options.now) (length c.args.payload.now)) lists c.loop-state.left c.args.visits.now c.loop-state.visits (c.loop-state.invariant.together means made lists listed have few))
-    (c.is_passed_behind.ensures.bounded means made lists listed (gone.have lists (Some listed) have) few)
+    (c.is_passed_after.ensures.bounded means made lists listed (gone.have lists (Some listed) have) few)
 
 pub is_passed_from-returns-clause-bounded_in_parts : goal.is_passed_from-returns-clause-bounded_in_parts
 is_passed_from-returns-clause-bounded_in_parts g t c = λ means made lists have.
     let gone = c.loop-state.invariant.gone means made in
-    let alone : ((q : List ℕ) → places_at c.loop-state.behind.states q ≡ None) → c.is_passed_behind.new.visits ≤ c.loop-state.visits = λ none.
-    let spent = c.is_passed_behind.ensures.bounded_in_parts means made [] (each_nowhere (Contains []) (λ v p. IsListed None v p × HasValues means c.args.payload.now [] None (behind_extraction c.args.options.now) (standing v p)) c.loop-state.behind.states none) in
+    let alone : ((q : List ℕ) → places_at c.loop-state.after.states q ≡ None) → c.is_passed_after.new.visits ≤ c.loop-state.visits = λ none.
+    let spent = c.is_passed_after.ensures.bounded_in_parts means made [] (each_nowhere (Contains []) (λ v p. IsListed None v p × HasValues means c.args.payload.now [] None (after_extraction c.args.options.now) (point v p)) c.loop-state.after.states none) in
     omega (arith, spent)
     in
-    owing_end (visits_apart (length lists) c.args.options.now (length c.args.payload.now)) (length lists * visits_apart (length lists) (behind_extraction c.args.options.now) (length c.args.payload.now)) lists c.loop-state.left c.loop-state.behind.states c.args.visits.now c.loop-state.visits c.is_passed_behind.new.visits (c.is_passed_behind.ensures.bounded_in_parts means made lists (gone.have lists None have)) alone (c.loop-state.invariant.owing means made lists have)
+    owing_end (visits_apart (length lists) c.args.options.now (length c.args.payload.now)) (length lists * visits_apart (length lists) (after_extraction c.args.options.now) (length c.args.payload.now)) lists c.loop-state.left c.loop-state.after.states c.args.visits.now c.loop-state.visits c.is_passed_after.new.visits (c.is_passed_after.ensures.bounded_in_parts means made lists (gone.have lists None have)) alone (c.loop-state.invariant.owing means made lists have)

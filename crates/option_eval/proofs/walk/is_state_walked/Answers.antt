@@ -17,8 +17,8 @@ pub returns-then-is_empty-clause-right : goal.returns-then-is_empty-clause-right
 returns-then-is_empty-clause-right g c = λ means made known.
     let places = c.in_ok-places.places.items in
     let same = sorted_same c.args.state.places.items c.sorted.result.items c.as_slice-2.result.now places c.sorted.ensures.same c.as_slice-2.ensures c.in_ok-places.ensures.same in
-    leaves_same means c.args.payload.now c.args.options.now c.args.state.values places c.args.state.places.items c.args.behind.now.states c.args.behind.now.states (λ q. (same q).0) (λ q. (same q).1)
-    (leaves_nowhere means c.args.payload.now c.args.options.now c.args.state.values places c.args.behind.now.states (eqb-true _ 0 (sym c.is_empty.ensures ∙ c.if-is_empty.true)))
+    leaves_same means c.args.payload.now c.args.options.now c.args.state.values places c.args.state.places.items c.args.after.now.states c.args.after.now.states (λ q. (same q).0) (λ q. (same q).1)
+    (leaves_nowhere means c.args.payload.now c.args.options.now c.args.state.values places c.args.after.now.states (eqb-true _ 0 (sym c.is_empty.ensures ∙ c.if-is_empty.true)))
 
 pub is_walked-requires-clause-rising : goal.is_walked-requires-clause-rising
 is_walked-requires-clause-rising g c κs within =
@@ -35,5 +35,5 @@ returns-clause-right g c = λ means made known.
     IfOk-weaker c.is_walked.result _ _
     (λ walked h. walked_by walked _ _ _ _ h
     (λ m. one_same means c.args.payload.now c.args.options.now c.args.state.values c.as_slice-3.result.now c.args.state.places.items up m)
-    (λ left. leaves_same means c.args.payload.now c.args.options.now c.args.state.values c.as_slice-3.result.now c.args.state.places.items c.args.behind.now.states c.is_walked.new.behind.states up down left))
+    (λ left. leaves_same means c.args.payload.now c.args.options.now c.args.state.values c.as_slice-3.result.now c.args.state.places.items c.args.after.now.states c.is_walked.new.after.states up down left))
     (c.is_walked.ensures.right means made known)

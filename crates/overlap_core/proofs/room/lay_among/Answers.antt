@@ -5,7 +5,7 @@ use Rattle.overlap_core.specs.declared.segment.Bounds.{Bounds}
 use Rattle.overlap_core.specs.Overlap.{end_of}
 use Rattle.overlap_core.specs.Pieces.{IsRow}
 use Rattle.overlap_core.specs.Rows.{BeginBelow, BeginFrom, IsReady, laid}
-use Rattle.overlap_core.proofs.Rows.Standing.{parted}
+use Rattle.overlap_core.proofs.Rows.Places.{parted}
 use Rattle.overlap_core.proofs.Rows.Telling.{rest-row}
 use Rattle.overlap_core.proofs.Rows.Overlaying.{IsLaidOver, laid_over-holds, laid_over-row}
 use Rattle.overlap_core.proofs.room.lay_among.Goals as goal
@@ -20,7 +20,7 @@ lay-requires-clause-ready c =
     let ready : IsReady c.seek.new.pieces c.args.buffers.items low (end_of new) = record {
       front = two.front;
       rest = two.rest;
-      stands = record {
+      between = record {
         list = c.seek.ensures.list ∙ two.list;
         place = c.seek.ensures.place two.front two.rest two.list (subst (λ n. BeginBelow n two.front) (sym same) two.below) (subst (λ n. BeginFrom n two.rest) (sym same) two.from);
       };

@@ -2,7 +2,7 @@
 -- to where the row parts, so the gaps from there on are measured.
 use Rattle.std.proofs.Common.{◌≡◌, ◌++◌, max, ap, subst, sym, ◌∙◌, arith}
 use Rattle.overlap_core.specs.Pieces.{IsRow}
-use Rattle.overlap_core.specs.Rows.{BeginBelow, BeginFrom, gap_sizes, IsCutAt, StandsAt}
+use Rattle.overlap_core.specs.Rows.{BeginBelow, BeginFrom, gap_sizes, IsCutAt, Between}
 use Rattle.overlap_core.proofs.Rows.Recut.{room-cuts}
 use Rattle.overlap_core.proofs.Rows.Telling.{rest-row}
 use Rattle.overlap_core.proofs.room.room_among.Goals as goal
@@ -21,8 +21,8 @@ returns-clause-room c = λ top row.
           let here : c.cut-2.new.pieces.list ≡ front ++ rest = sym list ∙ is in
           let below_low = subst (λ n. BeginBelow n front) (sym same) below in
           let from_low = subst (λ n. BeginFrom n rest) (sym same) from in
-          let stands : StandsAt c.seek.new.pieces front rest = record { list = c.seek.ensures.list ∙ here; place = c.seek.ensures.place front rest here below_low from_low } in
+          let between : Between c.seek.new.pieces front rest = record { list = c.seek.ensures.list ∙ here; place = c.seek.ensures.place front rest here below_low from_low } in
           let rest_row = rest-row c.max-low.result c.args.floor top front rest (subst (λ ps. IsRow c.args.floor ps top) here cuts.2) from_low in
-          c.in_ok-buffers.ensures.sizes front rest (max c.max-low.result top) stands rest_row ∙ ap (λ n. gap_sizes n c.args.bounds.end rest) same;
+          c.in_ok-buffers.ensures.sizes front rest (max c.max-low.result top) between rest_row ∙ ap (λ n. gap_sizes n c.args.bounds.end rest) same;
       nodes = omega (arith, c.in_ok-reserve.ensures.enough, c.len.ensures, c.in_ok-buffers.buffers.ok);
     }

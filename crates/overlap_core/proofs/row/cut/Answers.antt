@@ -3,7 +3,7 @@
 use Rattle.std.proofs.Common.{◌≡◌, ℕ, ap, ◌∙◌, arith}
 use Rattle.overlap_core.specs.Pieces.{IsRow}
 use Rattle.overlap_core.specs.Rows.{cut_row}
-use Rattle.overlap_core.proofs.Rows.Standing.{cut_whole, on_err_list, on_ok2}
+use Rattle.overlap_core.proofs.Rows.Places.{cut_whole, on_err_list, on_ok2}
 use Rattle.overlap_core.proofs.Rows.Recut.{recut_of}
 use Rattle.overlap_core.proofs.row.cut.Goals as goal
 

@@ -1,7 +1,7 @@
 -- A piece that begins below the one sought is before it (`place_below`), so the walk back, which ends at such a piece or at
 -- the first, ends no later.
 use Rattle.std.proofs.Common.{ap, ◌∙◌, arith}
-use Rattle.overlap_core.proofs.Rows.Standing.{place_below}
+use Rattle.overlap_core.proofs.Rows.Places.{place_below}
 use Rattle.overlap_core.proofs.row.step_back.Goals as goal
 
 pub returns-then-not-prev-clause-place : goal.returns-then-not-prev-clause-place

@@ -2,7 +2,7 @@
 -- it doesn't, the place is found (`sought`).
 use Rattle.std.proofs.Common.{length, ap, ◌∙◌}
 use Rattle.std.proofs.lemmas.Option.{slice_get_within}
-use Rattle.overlap_core.proofs.Rows.Standing.{moved_to, place_below, smaller_next, sought}
+use Rattle.overlap_core.proofs.Rows.Places.{moved_to, place_below, smaller_next, sought}
 use Rattle.overlap_core.proofs.row.step_on.Goals as goal
 
 pub loop-pieces-smaller : goal.loop-pieces-smaller

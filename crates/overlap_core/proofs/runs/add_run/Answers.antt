@@ -3,7 +3,7 @@
 use Rattle.std.proofs.Common.{◌≡◌, [], ◌∷◌, ◌++◌, ap, sym, ◌∙◌, arith}
 use Rattle.overlap_core.specs.Joined.{with_run}
 use Rattle.overlap_core.proofs.Joined.Joining.{make_run, with_run-apart, with_run-first, with_run-meets}
-use Rattle.overlap_core.proofs.Rows.Standing.{on_ok1}
+use Rattle.overlap_core.proofs.Rows.Places.{on_ok1}
 use Rattle.overlap_core.proofs.runs.add_run.Goals as goal
 
 pub returns-then-ends_at : goal.returns-then-ends_at

@@ -69,7 +69,7 @@ pub returns-in_err-given-clause-partial : goal.returns-in_err-given-clause-parti
 returns-in_err-given-clause-partial g c = λ seen may.
     let p = err_from_is_err_and c.from_residual.result c.from_residual.ensures.1 in
     let took = (c.in-Ok.ensures.seen_taken seen (c.in_err-given.ensures.only_read.earlier seen may)) ∙ ap (λ header. before header (left_by (g.H.Host.left_of c.fill.new.host) seen)) (take_all c.in-Ok.count c.fill.new.buf (omega (arith, c.in-Ok.ensures.within))) in
-    rw (p.1, p.2) (fewer_with_header c.args.head c.args.number c.args.at c.fill.new.buf c.in_err-given.field-0.0 (left_by (g.H.Host.left_of c.args.host.now) seen) (left_by (g.H.Host.left_of c.fill.new.host) seen) (left_by (g.H.Host.left_of c.read_behind.new.host) seen)
+    rw (p.1, p.2) (fewer_with_header c.args.head c.args.number c.args.at c.fill.new.buf c.in_err-given.field-0.0 (left_by (g.H.Host.left_of c.args.host.now) seen) (left_by (g.H.Host.left_of c.fill.new.host) seen) (left_by (g.H.Host.left_of c.read_after.new.host) seen)
     (omega arith) (omega arith) took (c.in_err-given.ensures.partial seen may))
 
 pub returns-clause-gives : goal.returns-clause-gives
@@ -81,5 +81,5 @@ returns-clause-gives g c = λ seen may.
 pub returns-clause-takes : goal.returns-clause-takes
 returns-clause-takes g c = λ seen may.
     let took = (c.in-Ok.ensures.seen_taken seen (c.in_ok-given.ensures.only_read.earlier seen may)) ∙ ap (λ header. before header (left_by (g.H.Host.left_of c.fill.new.host) seen)) (take_all c.in-Ok.count c.fill.new.buf (omega (arith, c.in-Ok.ensures.within))) in
-    with_header c.args.head c.args.number c.args.at c.fill.new.buf c.in_ok-given.given (left_by (g.H.Host.left_of c.args.host.now) seen) (left_by (g.H.Host.left_of c.fill.new.host) seen) (left_by (g.H.Host.left_of c.read_behind.new.host) seen)
+    with_header c.args.head c.args.number c.args.at c.fill.new.buf c.in_ok-given.given (left_by (g.H.Host.left_of c.args.host.now) seen) (left_by (g.H.Host.left_of c.fill.new.host) seen) (left_by (g.H.Host.left_of c.read_after.new.host) seen)
     (omega arith) (omega arith) took (c.in_ok-given.ensures.takes seen may)

@@ -3,7 +3,7 @@ use Rattle.std.proofs.Common.{ℕ, ◌-◌, refl, ◌∙◌, arith}
 use Rattle.std.proofs.lemmas.List.{length-take}
 use Rattle.std.proofs.lemmas.Result.{err_from_is_err_and}
 use Rattle.edge_io.specs.Files.{left_by}
-use Rattle.pcapng_input.proofs.Blocks.Taking.{less_behind, bytes_start, bytes_more}
+use Rattle.pcapng_input.proofs.Blocks.Taking.{less_after, bytes_start, bytes_more}
 use Rattle.pcapng_input.proofs.piece.skip.Goals as goal
 
 pub loop-left-init : goal.loop-left-init
@@ -19,7 +19,7 @@ loop-left-init g c = record {
 pub returns-in_err-read_piece-clause-partial : goal.returns-in_err-read_piece-clause-partial
 returns-in_err-read_piece-clause-partial g c = λ seen may.
     let p = err_from_is_err_and c.from_residual.result c.from_residual.ensures.1 in
-    rw (p.1, p.2) (less_behind c.args.at _ c.args.count c.in_err-read_piece.field-0.0 (c.loop-left.invariant.passed seen (c.in_err-read_piece.ensures.only_read.earlier seen may)).taken (left_by (g.H.Host.left_of c.args.host.now) seen) (left_by (g.H.Host.left_of c.loop-left.host) seen) (left_by (g.H.Host.left_of c.read_piece.new.host) seen)
+    rw (p.1, p.2) (less_after c.args.at _ c.args.count c.in_err-read_piece.field-0.0 (c.loop-left.invariant.passed seen (c.in_err-read_piece.ensures.only_read.earlier seen may)).taken (left_by (g.H.Host.left_of c.args.host.now) seen) (left_by (g.H.Host.left_of c.loop-left.host) seen) (left_by (g.H.Host.left_of c.read_piece.new.host) seen)
     (c.loop-left.invariant.passed seen (c.in_err-read_piece.ensures.only_read.earlier seen may)).took (c.in_err-read_piece.ensures.partial seen may) (omega (arith, (c.loop-left.invariant.passed seen (c.in_err-read_piece.ensures.only_read.earlier seen may)).size, c.min-size.ensures, length-take {A = ℕ})))
 
 pub loop-left-preserved : goal.loop-left-preserved

@@ -3,9 +3,9 @@ use Rattle.std.proofs.Common.{◌≡◌, ◌+◌, Some, None, false, true, sym, 
 use Rattle.std.proofs.lemmas.Result.{err_from_is_err_and}
 use Rattle.edge_io.specs.Files.{left_by}
 use Rattle.pcapng_input.specs.declared.content.Content.TheVariants as content
-use Rattle.pcapng_input.specs.Blocks.{inner_length, behind_interface}
+use Rattle.pcapng_input.specs.Blocks.{inner_length, after_interface}
 use Rattle.pcapng_input.specs.Options.{resolution_told}
-use Rattle.pcapng_input.proofs.Blocks.Taking.{last_same, less_behind}
+use Rattle.pcapng_input.proofs.Blocks.Taking.{last_same, less_after}
 use Rattle.pcapng_input.proofs.Blocks.Closing.{closing_less, closing_differs, closing_refused, closing_skipped, closing_lacking, given-interface, given-no_resolution}
 use Rattle.pcapng_input.proofs.Blocks.Reading.{whole_front}
 use Rattle.pcapng_input.proofs.step.read_interface.Goals as goal
@@ -22,7 +22,7 @@ returns-in_err-closed-clause-shows g c = λ seen may.
     let whole = (c.in_ok-options.ensures.whole seen (c.in_err-closed.ensures.only_read.earlier seen may)) in
     rw (p.1, p.2) (closing_less c.args.walk.now c.args.walk.now c.args.block (content.Interface c.args.link c.args.snaplen) (inner_length c.args.block + 4) c.in_err-closed.field-0.0 (left_by (g.H.Host.left_of c.args.host.now) seen) (left_by (g.H.Host.left_of c.is_closed.new.host) seen)
     (omega arith)
-    (less_behind c.args.walk.now.at 4 (inner_length c.args.block + 4) c.in_err-closed.field-0.0 c.in_ok-options.options.items (left_by (g.H.Host.left_of c.args.host.now) seen) (left_by (g.H.Host.left_of c.read_bytes.new.host) seen) (left_by (g.H.Host.left_of c.is_closed.new.host) seen)
+    (less_after c.args.walk.now.at 4 (inner_length c.args.block + 4) c.in_err-closed.field-0.0 c.in_ok-options.options.items (left_by (g.H.Host.left_of c.args.host.now) seen) (left_by (g.H.Host.left_of c.read_bytes.new.host) seen) (left_by (g.H.Host.left_of c.is_closed.new.host) seen)
     whole.1 (c.in_err-closed.ensures.partial seen may) (omega (arith, whole.0, c.inner.ensures))))
 
 pub returns-then-not-closed-clause-shows : goal.returns-then-not-closed-clause-shows
@@ -59,7 +59,7 @@ returns-clause-shows g c = λ seen may.
     let whole = (c.in_ok-options.ensures.whole seen (c.in_ok-closed.ensures.only_read.earlier seen may)) in
     let last = last_same _ _ _ _ true _ _ c.if-not-closed.false (c.in_ok-closed.ensures.whole seen may) in
     let some : resolution_told c.args.walk.now.section.swapped c.in_ok-options.options.items ≡ Some c.in-Some.resolution = ap (resolution_told c.args.walk.now.section.swapped) (sym c.as_slice.ensures.value) ∙ sym c.in-Some.ensures in
-    rw (c.from.ensures, c.in_ok-push-in-Some.ensures.pushed) (closing_skipped c.args.walk.now (behind_interface c.args.walk.now c.args.block (record { link = c.args.link; snaplen = c.args.snaplen; resolution = c.in-Some.resolution })) c.args.block (content.Interface c.args.link c.args.snaplen) c.in_ok-options.options.items (left_by (g.H.Host.left_of c.args.host.now) seen) (left_by (g.H.Host.left_of c.is_closed.new.host) seen)
+    rw (c.from.ensures, c.in_ok-push-in-Some.ensures.pushed) (closing_skipped c.args.walk.now (after_interface c.args.walk.now c.args.block (record { link = c.args.link; snaplen = c.args.snaplen; resolution = c.in-Some.resolution })) c.args.block (content.Interface c.args.link c.args.snaplen) c.in_ok-options.options.items (left_by (g.H.Host.left_of c.args.host.now) seen) (left_by (g.H.Host.left_of c.is_closed.new.host) seen)
     (whole_front c.args.walk.now c.args.block (content.Interface c.args.link c.args.snaplen) true c.in_ok-options.options.items (left_by (g.H.Host.left_of c.args.host.now) seen) (left_by (g.H.Host.left_of c.read_bytes.new.host) seen) (left_by (g.H.Host.left_of c.is_closed.new.host) seen)
     whole.1 (omega (arith, whole.0, c.inner.ensures)) last)
     (λ more. given-interface c.args.walk.now c.args.block c.args.link c.args.snaplen c.in_ok-options.options.items more c.in-Some.resolution some))

@@ -4,7 +4,7 @@ use Rattle.std.proofs.lemmas.Result.{err_from_is_err_and}
 use Rattle.edge_io.specs.Files.{left_by}
 use Rattle.pcapng_input.specs.declared.content.Content.TheVariants as content
 use Rattle.pcapng_input.specs.Blocks.{inner_length}
-use Rattle.pcapng_input.proofs.Blocks.Taking.{last_same, less_behind}
+use Rattle.pcapng_input.proofs.Blocks.Taking.{last_same, less_after}
 use Rattle.pcapng_input.proofs.Blocks.Closing.{whole, closing_less, closing_differs, closing_packet}
 use Rattle.pcapng_input.proofs.step.read_packet.Goals as goal
 
@@ -20,7 +20,7 @@ returns-in_err-closed-clause-shows g c = λ seen may.
     let read = (c.in_ok-bytes.ensures.whole seen (c.in_err-closed.ensures.only_read.earlier seen may)) in
     rw (p.1, p.2) (closing_less c.args.walk.now c.args.walk.now c.args.block (content.Packet c.args.packet) (inner_length c.args.block + 4) c.in_err-closed.field-0.0 (left_by (g.H.Host.left_of c.args.host.now) seen) (left_by (g.H.Host.left_of c.is_closed.new.host) seen)
     (omega arith)
-    (less_behind c.args.walk.now.at _ (inner_length c.args.block + 4) c.in_err-closed.field-0.0 c.in_ok-bytes.bytes.items (left_by (g.H.Host.left_of c.args.host.now) seen) (left_by (g.H.Host.left_of c.read_bytes.new.host) seen) (left_by (g.H.Host.left_of c.is_closed.new.host) seen)
+    (less_after c.args.walk.now.at _ (inner_length c.args.block + 4) c.in_err-closed.field-0.0 c.in_ok-bytes.bytes.items (left_by (g.H.Host.left_of c.args.host.now) seen) (left_by (g.H.Host.left_of c.read_bytes.new.host) seen) (left_by (g.H.Host.left_of c.is_closed.new.host) seen)
     read.1 (c.in_err-closed.ensures.partial seen may) (omega (arith, read.0, c.inner.ensures, c.requires.fits))))
 
 pub returns-then-not-closed-clause-shows : goal.returns-then-not-closed-clause-shows

@@ -36,7 +36,7 @@ returns-in_err-show-clause-shown g c = λ matches test.
     let plan = plan_of matches c.args.context.now.plan.now in
     let shows = rw c.rules.ensures at c.in_err-show.ensures in
     rw (p.1, p.2) (runs_stopped plan (source_in c.args.records.now c.args.inspection.now.last c.args.places.now) c.args.jobs.now _ _ _ _ _ _ c.search.new.out c.in_err-show.field-0.0
-    (λ before stands. c.in_ok-search.ensures.finds test.means (detection_of plan) before (detects_by {P = g.row.P.Denot} g.P.Pattern.finds c.args.context.now.plan.now matches test) stands)
+    (λ before holds. c.in_ok-search.ensures.finds test.means (detection_of plan) before (detects_by {P = g.row.P.Denot} g.P.Pattern.finds c.args.context.now.plan.now matches test) holds)
     c.in_ok-inspection.ensures shows c.requires.none)
 
 pub returns-in_err-show-clause-ends : goal.returns-in_err-show-clause-ends
@@ -49,8 +49,8 @@ returns-clause-shown g c = λ matches test.
     let plan = plan_of matches c.args.context.now.plan.now in
     let shows = rw c.rules.ensures at c.in_ok-show.ensures in
     runs_offered c.write_out.result plan (source_in c.args.records.now c.args.inspection.now.last c.args.places.now) c.args.jobs.now _ _ c.show.new.self _ _ _ _ _ _ c.search.new.out _
-    (λ before stands. c.in_ok-search.ensures.finds test.means (detection_of plan) before (detects_by {P = g.row.P.Denot} g.P.Pattern.finds c.args.context.now.plan.now matches test) stands)
-    c.in_ok-inspection.ensures shows c.requires.none c.write_out.ensures.emits c.write_out.ensures.stands c.write_out.ensures.emptied
+    (λ before holds. c.in_ok-search.ensures.finds test.means (detection_of plan) before (detects_by {P = g.row.P.Denot} g.P.Pattern.finds c.args.context.now.plan.now matches test) holds)
+    c.in_ok-inspection.ensures shows c.requires.none c.write_out.ensures.emits c.write_out.ensures.holds c.write_out.ensures.emptied
 
 pub returns-clause-ran : goal.returns-clause-ran
 returns-clause-ran g c = has_run c.write_out.result _ _ _ c.in_ok-search.ensures.learns refl refl c.write_out.ensures.emptied

@@ -46,7 +46,7 @@ returns-clause-shown g c = λ matches test.
     let placed = rw (c.front_config-by.ensures.way, c.deref.ensures.value) at c.in_ok-made.ensures.places in
     let run = rw (c.deref-2.ensures.value, c.deref-3.ensures.value, c.deref-4.ensures.value) at (c.in_ok-run_jobs.ensures.shown matches test) in
     records_shown (plan_of matches c.args.context.now.plan.now) c.args.records.now.items _ _ c.in_ok-made.made.jobs.items c.in_ok-made.made.places.items _ _ c.run_jobs.new.inspection _ makes placed run
-    (λ before stands. record { lanes = stands.lanes; writer = stands.writer; tries = stands.tries }) (rw c.in_ok-run_jobs.ensures.ran.last at c.keep_last.ensures)
+    (λ before holds. record { lanes = holds.lanes; writer = holds.writer; tries = holds.tries }) (rw c.in_ok-run_jobs.ensures.ran.last at c.keep_last.ensures)
 
 pub returns-clause-ends : goal.returns-clause-ends
 returns-clause-ends g c = emits_told c.in_ok-run_jobs.ensures.ends (λ none. absurd none)

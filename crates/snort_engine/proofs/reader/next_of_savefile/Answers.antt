@@ -7,8 +7,8 @@ use Rattle.snort_engine.proofs.reader.next_of_savefile.Goals as goal
 pub returns-in-Ok-Some-clause-gives : goal.returns-in-Ok-Some-clause-gives
 returns-in-Ok-Some-clause-gives g c = λ seen may.
     let takes = rw c.in-Ok-Some.field-0-is at (c.in-Ok-Some.ensures.seen_takes seen may) in
-    let stands = rw c.in-Ok-Some.field-0-is at c.in-Ok-Some.ensures.stands in
-    rw (c.new.ensures, c.head-link.ensures) (savefile_gives c.args.reader.now c.next.new.self c.in-Ok-Some.captured _ _ c.requires takes stands)
+    let holds = rw c.in-Ok-Some.field-0-is at c.in-Ok-Some.ensures.holds in
+    rw (c.new.ensures, c.head-link.ensures) (savefile_gives c.args.reader.now c.next.new.self c.in-Ok-Some.captured _ _ c.requires takes holds)
 
 pub returns-in-Ok-None-clause-gives : goal.returns-in-Ok-None-clause-gives
 returns-in-Ok-None-clause-gives g c = λ seen may.

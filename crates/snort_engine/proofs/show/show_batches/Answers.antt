@@ -11,7 +11,7 @@ use Rattle.snort_engine.proofs.show.show_batches.Goals as goal
 
 pub batches-init : goal.batches-init
 batches-init g c = record {
-  going = λ matches test stands seen may. under_way-start (plan_of matches c.args.context.now.plan.now) _ _ _ _ c.requires.ready.readable.fresh refl stands;
+  going = λ matches test holds seen may. under_way-start (plan_of matches c.args.context.now.plan.now) _ _ _ _ c.requires.ready.readable.fresh refl holds;
   ready = c.requires.ready;
   shown = c.new-records.ensures.items;
   quiet = refl;
@@ -20,25 +20,25 @@ batches-init g c = record {
 }
 
 pub returns-in_err-show_next_batch-clause-comes : goal.returns-in_err-show_next_batch-clause-comes
-returns-in_err-show_next_batch-clause-comes g c = λ matches test stands seen may.
+returns-in_err-show_next_batch-clause-comes g c = λ matches test holds seen may.
     let p = err_from_is_err_and c.from_residual.result c.from_residual.ensures.1 in
     rw (p.1, p.2) (comes_since (plan_of matches c.args.context.now.plan.now) _ _ _ _ _ _ (Err c.in_err-show_next_batch.field-0.0)
     (λ (rose : Rose (g.H.Host.faults c.batches.host) (g.H.Host.faults c.show_next_batch.new.host)). read_rose g.H.Host c.args.host.now c.batches.host c.show_next_batch.new.host c.batches.invariant.host rose)
-    (c.in_err-show_next_batch.ensures.goes_on matches test seen may _ _ (c.batches.invariant.going matches test stands seen (c.in_err-show_next_batch.ensures.host.earlier seen may))))
+    (c.in_err-show_next_batch.ensures.goes_on matches test seen may _ _ (c.batches.invariant.going matches test holds seen (c.in_err-show_next_batch.ensures.host.earlier seen may))))
 
 pub returns-clause-comes : goal.returns-clause-comes
-returns-clause-comes g c = λ matches test stands seen may.
+returns-clause-comes g c = λ matches test holds seen may.
     let over = rw c.if-branch.false at (c.in_ok-show_next_batch.ensures.goes_on matches test seen may) in
     comes_since (plan_of matches c.args.context.now.plan.now) _ _ _ _ _ _ (Ok tt)
     (λ (rose : Rose (g.H.Host.faults c.batches.host) (g.H.Host.faults c.show_next_batch.new.host)). read_rose g.H.Host c.args.host.now c.batches.host c.show_next_batch.new.host c.batches.invariant.host rose)
-    (over _ _ (c.batches.invariant.going matches test stands seen (c.in_ok-show_next_batch.ensures.host.earlier seen may)))
+    (over _ _ (c.batches.invariant.going matches test holds seen (c.in_ok-show_next_batch.ensures.host.earlier seen may)))
 
 pub batches-preserved : goal.batches-preserved
 batches-preserved g c =
     record {
-      going = λ matches test stands seen may.
+      going = λ matches test holds seen may.
           let on = rw c.if-branch.true at (c.in_ok-show_next_batch.ensures.goes_on matches test seen may) in
-          on _ _ (c.batches.invariant.going matches test stands seen (c.in_ok-show_next_batch.ensures.host.earlier seen may));
+          on _ _ (c.batches.invariant.going matches test holds seen (c.in_ok-show_next_batch.ensures.host.earlier seen may));
       ready = (c.in_ok-show_next_batch.ensures.further (ap Ok c.if-branch.true)).ready;
       shown = c.in_ok-show_next_batch.ensures.shown;
       quiet = c.in_ok-show_next_batch.ensures.causes.quiet refl ∙ c.batches.invariant.quiet;

@@ -8,7 +8,7 @@ use Rattle.pcap_input.specs.Savefile.{most_records}
 use Rattle.alert_lines.specs.declared.fault.WriteFault.{WriteFault}
 use Rattle.snort_engine.specs.declared.reader.RecordReader.{RecordReader}
 use Rattle.snort_engine.specs.Steps.Reader.{number_of}
-use Rattle.snort_engine.specs.Steps.Showing.{plan_of, most_at, room_behind, MayGoFurther, Standing}
+use Rattle.snort_engine.specs.Steps.Showing.{plan_of, most_at, room_after, MayGoFurther, Point}
 use Rattle.snort_engine.proofs.Records.Batches.{more_reached, showing_cuts, within_batch}
 use Rattle.snort_engine.proofs.Headline.Quiet.{caused_reached, caused_unwritten}
 use Rattle.snort_engine.proofs.Showing.Shown.{nothing_left, batch_lacks, batch_shown, batch_stops, part_shown}
@@ -17,8 +17,8 @@ use Rattle.snort_engine.proofs.show.show_next_batch.Goals as goal
 pub read_batch-reached-requires-clause-fresh : goal.read_batch-reached-requires-clause-fresh
 read_batch-reached-requires-clause-fresh g c = c.requires.ready.readable.fresh
 
-pub room_behind-requires : goal.room_behind-requires
-room_behind-requires g c = omega (arith, c.len.ensures, c.read_batch-reached.ensures.filled.few, c.most_at-most.ensures, c.read_batch-reached.new.records.ok.0)
+pub room_after-requires : goal.room_after-requires
+room_after-requires g c = omega (arith, c.len.ensures, c.read_batch-reached.ensures.filled.few, c.most_at-most.ensures, c.read_batch-reached.new.records.ok.0)
 
 pub show_some-requires-clause-known : goal.show_some-requires-clause-known
 show_some-requires-clause-known g c κs within = c.requires.ready.known
@@ -26,7 +26,7 @@ show_some-requires-clause-known g c κs within = c.requires.ready.known
 pub show_some-requires-clause-few : goal.show_some-requires-clause-few
 show_some-requires-clause-few g c κs within =
     let ready = c.requires.ready in
-    let few = within_batch c.args.detector.now.front.counts.records (number_of c.args.reader.now) (vec_len c.read_batch-reached.new.records) most_records ready.behind ready.readable.within c.read_batch-reached.ensures.within in
+    let few = within_batch c.args.detector.now.front.counts.records (number_of c.args.reader.now) (vec_len c.read_batch-reached.new.records) most_records ready.after ready.readable.within c.read_batch-reached.ensures.within in
     omega (arith, few, c.read_batch-reached.new.records.ok.0)
 
 pub show_records-requires-clause-known : goal.show_records-requires-clause-known
@@ -35,7 +35,7 @@ show_records-requires-clause-known g c κs within = c.requires.ready.known
 pub show_records-requires-clause-few : goal.show_records-requires-clause-few
 show_records-requires-clause-few g c κs within =
     let ready = c.requires.ready in
-    let few = within_batch c.args.detector.now.front.counts.records (number_of c.args.reader.now) (vec_len c.read_batch-reached.new.records) most_records ready.behind ready.readable.within c.read_batch-reached.ensures.within in
+    let few = within_batch c.args.detector.now.front.counts.records (number_of c.args.reader.now) (vec_len c.read_batch-reached.new.records) most_records ready.after ready.readable.within c.read_batch-reached.ensures.within in
     omega (arith, few, c.read_batch-reached.new.records.ok.0)
 
 pub returns-then-most-eq0-clause-goes_on : goal.returns-then-most-eq0-clause-goes_on
@@ -46,8 +46,8 @@ returns-then-most-eq0-clause-goes_on g c = λ matches test seen may.
 pub returns-then-lacks_memory-clause-goes_on : goal.returns-then-lacks_memory-clause-goes_on
 returns-then-lacks_memory-clause-goes_on g c = λ matches test seen may.
     let few : length c.read_batch-reached.new.records.items ≤ most_at c.args.room.now = omega (arith, c.read_batch-reached.ensures.filled.few, c.most_at-most.ensures, c.read_batch-reached.new.records.ok.0) in
-    let old : Standing = record { reader = c.args.reader.now; room = c.args.room.now; detector = c.args.detector.now; streams = record { left = left_by (g.H.Host.left_of c.args.host.now) seen; written = g.A.Sink.written c.args.alerts.now } } in
-    let new : Standing = record { reader = c.read_batch-reached.new.reader; room = c.room_behind.result; detector = c.show_some.new.detector; streams = record { left = left_by (g.H.Host.left_of c.read_batch-reached.new.host) seen; written = g.A.Sink.written c.show_some.new.alerts } } in
+    let old : Point = record { reader = c.args.reader.now; room = c.args.room.now; detector = c.args.detector.now; streams = record { left = left_by (g.H.Host.left_of c.args.host.now) seen; written = g.A.Sink.written c.args.alerts.now } } in
+    let new : Point = record { reader = c.read_batch-reached.new.reader; room = c.room_after.result; detector = c.show_some.new.detector; streams = record { left = left_by (g.H.Host.left_of c.read_batch-reached.new.host) seen; written = g.A.Sink.written c.show_some.new.alerts } } in
     batch_lacks (plan_of matches c.args.context.now.plan.now) c.read_batch-reached.new.records.items old new _ c.read_batch-reached.result few (c.read_batch-reached.ensures.reads seen may) (c.show_some.ensures.part matches test)
 
 pub returns-in_err-show_records-clause-goes_on : goal.returns-in_err-show_records-clause-goes_on
@@ -55,8 +55,8 @@ returns-in_err-show_records-clause-goes_on g c = λ matches test seen may.
     let p = err_from_is_err_and c.from_residual.result c.from_residual.ensures.1 in
     let few : length c.read_batch-reached.new.records.items ≤ most_at c.args.room.now = omega (arith, c.read_batch-reached.ensures.filled.few, c.most_at-most.ensures, c.read_batch-reached.new.records.ok.0) in
     let stopped = part_shown (plan_of matches c.args.context.now.plan.now) c.read_batch-reached.new.records.items _ _ _ _ _ _ (Err c.in_err-show_records.field-0.0) (c.in_err-show_records.ensures.shown matches test) in
-    let old : Standing = record { reader = c.args.reader.now; room = c.args.room.now; detector = c.args.detector.now; streams = record { left = left_by (g.H.Host.left_of c.args.host.now) seen; written = g.A.Sink.written c.args.alerts.now } } in
-    let new : Standing = record { reader = c.read_batch-reached.new.reader; room = c.room_behind.result; detector = c.show_records.new.detector; streams = record { left = left_by (g.H.Host.left_of c.read_batch-reached.new.host) seen; written = g.A.Sink.written c.show_records.new.alerts } } in
+    let old : Point = record { reader = c.args.reader.now; room = c.args.room.now; detector = c.args.detector.now; streams = record { left = left_by (g.H.Host.left_of c.args.host.now) seen; written = g.A.Sink.written c.args.alerts.now } } in
+    let new : Point = record { reader = c.read_batch-reached.new.reader; room = c.room_after.result; detector = c.show_records.new.detector; streams = record { left = left_by (g.H.Host.left_of c.read_batch-reached.new.host) seen; written = g.A.Sink.written c.show_records.new.alerts } } in
     rw (p.1, p.2) (batch_stops (plan_of matches c.args.context.now.plan.now) c.read_batch-reached.new.records.items old new (Rose (g.H.Host.faults c.args.host.now) (g.H.Host.faults c.read_batch-reached.new.host)) c.read_batch-reached.result c.in_err-show_records.field-0.0
     few
     (λ more. omega (arith, c.read_batch-reached.ensures.filled.full more, c.most_at-most.ensures, c.read_batch-reached.new.records.ok.0))
@@ -68,10 +68,10 @@ pub returns-clause-goes_on : goal.returns-clause-goes_on
 returns-clause-goes_on g c = λ matches test seen may.
     let few : length c.read_batch-reached.new.records.items ≤ most_at c.args.room.now = omega (arith, c.read_batch-reached.ensures.filled.few, c.most_at-most.ensures, c.read_batch-reached.new.records.ok.0) in
     let shown = c.in_ok-show_records.ensures.shown matches test in
-    let old : Standing = record { reader = c.args.reader.now; room = c.args.room.now; detector = c.args.detector.now; streams = record { left = left_by (g.H.Host.left_of c.args.host.now) seen; written = g.A.Sink.written c.args.alerts.now } } in
-    let new : Standing = record { reader = c.read_batch-reached.new.reader; room = c.room_behind.result; detector = c.show_records.new.detector; streams = record { left = left_by (g.H.Host.left_of c.read_batch-reached.new.host) seen; written = g.A.Sink.written c.show_records.new.alerts } } in
+    let old : Point = record { reader = c.args.reader.now; room = c.args.room.now; detector = c.args.detector.now; streams = record { left = left_by (g.H.Host.left_of c.args.host.now) seen; written = g.A.Sink.written c.args.alerts.now } } in
+    let new : Point = record { reader = c.read_batch-reached.new.reader; room = c.room_after.result; detector = c.show_records.new.detector; streams = record { left = left_by (g.H.Host.left_of c.read_batch-reached.new.host) seen; written = g.A.Sink.written c.show_records.new.alerts } } in
     let count : c.len.result ≡ length c.read_batch-reached.new.records.items = omega (arith, c.len.ensures, c.read_batch-reached.new.records.ok.0) in
-    let room_is : c.room_behind.result ≡ room_behind c.args.room.now (length c.read_batch-reached.new.records.items) = c.room_behind.ensures ∙ ap (λ (n : ℕ). room_behind c.args.room.now n) count in
+    let room_is : c.room_after.result ≡ room_after c.args.room.now (length c.read_batch-reached.new.records.items) = c.room_after.ensures ∙ ap (λ (n : ℕ). room_after c.args.room.now n) count in
     rw (c.more.ensures, c.give_back.ensures.same) (batch_shown (plan_of matches c.args.context.now.plan.now) c.read_batch-reached.new.records.items old new _ c.read_batch-reached.result _ _ _
     few room_is
     (λ more. omega (arith, c.read_batch-reached.ensures.filled.full more, c.most_at-most.ensures, c.read_batch-reached.new.records.ok.0))
@@ -86,8 +86,8 @@ pub returns-then-most-eq0-clause-closable : goal.returns-then-most-eq0-clause-cl
 returns-then-most-eq0-clause-closable g c = λ whole.
     let ready = c.requires.ready in
     let within = ready.readable.within in
-    let behind = ready.behind in
-    record { known = ready.known; few = omega (arith, within, behind) }
+    let after = ready.after in
+    record { known = ready.known; few = omega (arith, within, after) }
 
 -- it was cut short
 pub returns-then-lacks_memory-clause-further : goal.returns-then-lacks_memory-clause-further
@@ -113,13 +113,13 @@ returns-clause-further g c = λ on.
     let gone = c.read_batch-reached.ensures.goes_on reached in
     let number = gone.number in
     let full = c.read_batch-reached.ensures.filled.full reached in
-    let before = c.requires.ready.behind in
+    let before = c.requires.ready.after in
     let further : MayGoFurther c.args.context.now.plan.now c.args.reader.now c.read_batch-reached.new.reader c.show_records.new.detector = record {
       further = omega (arith, number, full, c.if-most-eq0.false);
       ready = record {
         readable = gone.readable;
         known = c.in_ok-show_records.ensures.known;
-        behind = omega (arith, number, before, c.in_ok-show_records.ensures.records, c.read_batch-reached.new.records.ok.0);
+        after = omega (arith, number, before, c.in_ok-show_records.ensures.records, c.read_batch-reached.new.records.ok.0);
       };
     } in
     subst (λ (reader : RecordReader). MayGoFurther c.args.context.now.plan.now c.args.reader.now reader c.show_records.new.detector) (sym c.give_back.ensures.same) further
@@ -127,7 +127,7 @@ returns-clause-further g c = λ on.
 pub returns-clause-closable : goal.returns-clause-closable
 returns-clause-closable g c = λ whole.
     let ready = c.requires.ready in
-    let few = within_batch c.args.detector.now.front.counts.records (number_of c.args.reader.now) (vec_len c.read_batch-reached.new.records) most_records ready.behind ready.readable.within c.read_batch-reached.ensures.within in
+    let few = within_batch c.args.detector.now.front.counts.records (number_of c.args.reader.now) (vec_len c.read_batch-reached.new.records) most_records ready.after ready.readable.within c.read_batch-reached.ensures.within in
     record {
       known = c.in_ok-show_records.ensures.known;
       few = omega (arith, few, c.in_ok-show_records.ensures.records, c.read_batch-reached.new.records.ok.0);

@@ -6,14 +6,14 @@ use Rattle.alert_lines.proofs.Prefixes.{WritesPart-none}
 use Rattle.snort_engine.specs.Steps.Stop.{outcome_status}
 use Rattle.snort_engine.specs.Steps.Showing.{plan_of}
 use Rattle.snort_engine.proofs.Headline.Quiet.{caused_closed}
-use Rattle.snort_engine.proofs.Showing.Shown.{close-start, closed_show, closed_behind}
+use Rattle.snort_engine.proofs.Showing.Shown.{close-start, closed_show, closed_after}
 use Rattle.snort_engine.proofs.show.show_opened.Goals as goal
 
 pub show_batches-shown-requires-clause-ready : goal.show_batches-shown-requires-clause-ready
 show_batches-shown-requires-clause-ready g c κs within = record {
   readable = c.requires.readable;
   known = c.in_ok-detector.ensures.known;
-  behind = omega (arith, c.in_ok-detector.ensures.none);
+  after = omega (arith, c.in_ok-detector.ensures.none);
 }
 
 pub returns-in_err-detector-clause-shows : goal.returns-in_err-detector-clause-shows
@@ -29,12 +29,12 @@ returns-in_err-detector-clause-close g c = λ matches test seen may.
 pub returns-clause-shows : goal.returns-clause-shows
 returns-clause-shows g c = λ matches test seen may.
     closed_show (plan_of matches c.args.context.now.plan.now) c.args.reader.now _ _ c.show_batches-shown.new.detector _ _ _ _ c.show_batches-shown.result c.close_shown.result
-    ((c.show_batches-shown.ensures.comes matches test (c.in_ok-detector.ensures.stands matches) seen may).0) (c.close_shown.ensures.closes matches test)
+    ((c.show_batches-shown.ensures.comes matches test (c.in_ok-detector.ensures.holds matches) seen may).0) (c.close_shown.ensures.closes matches test)
 
 pub returns-clause-close : goal.returns-clause-close
 returns-clause-close g c = λ matches test seen may.
-    closed_behind (plan_of matches c.args.context.now.plan.now) c.args.reader.now _ _ c.show_batches-shown.new.detector _ _ _ _ _ c.show_batches-shown.result c.close_shown.result
-    (c.show_batches-shown.ensures.comes matches test (c.in_ok-detector.ensures.stands matches) seen may) (c.close_shown.ensures.closes matches test)
+    closed_after (plan_of matches c.args.context.now.plan.now) c.args.reader.now _ _ c.show_batches-shown.new.detector _ _ _ _ _ c.show_batches-shown.result c.close_shown.result
+    (c.show_batches-shown.ensures.comes matches test (c.in_ok-detector.ensures.holds matches) seen may) (c.close_shown.ensures.closes matches test)
 
 pub returns-clause-causes : goal.returns-clause-causes
 returns-clause-causes g c =

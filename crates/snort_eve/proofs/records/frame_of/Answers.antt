@@ -13,14 +13,14 @@ returns-then-len-gt-MAX_BODY c =
     let size = c.read_u32-len.ensures ∙ ap (big_number 4) (take_rest c.args.bytes.now 4) in
     (omega arith, omega (arith, size))
 
-pub returns-then-behind-len : goal.returns-then-behind-len
-returns-then-behind-len c long =
+pub returns-then-after-len : goal.returns-then-after-len
+returns-then-after-len c long =
     let size = c.read_u32-len.ensures ∙ ap (big_number 4) (take_rest c.args.bytes.now 4) in
-    let behind = ap length (take_rest c.args.bytes.now 8) ∙ length-drop 8 c.args.bytes.now in
-    omega (arith, size, behind)
+    let after = ap length (take_rest c.args.bytes.now 8) ∙ length-drop 8 c.args.bytes.now in
+    omega (arith, size, after)
 
 pub returns : goal.returns
 returns c =
     let size = c.read_u32-len.ensures ∙ ap (big_number 4) (take_rest c.args.bytes.now 4) in
-    let behind = ap length (take_rest c.args.bytes.now 8) ∙ length-drop 8 c.args.bytes.now in
-    (omega arith, omega (arith, size), omega (arith, size, behind))
+    let after = ap length (take_rest c.args.bytes.now 8) ∙ length-drop 8 c.args.bytes.now in
+    (omega arith, omega (arith, size), omega (arith, size, after))

@@ -6,10 +6,10 @@ use Rattle.rule_types.specs.Sound.{IsSound}
 use Rattle.conf_parser.specs.declared.line.Line.{Line}
 use Rattle.option_eval.specs.RuleSet.{FindWhatIsMeant}
 use Rattle.snort_setup.specs.declared.rules.Progress.{Progress}
-use Rattle.snort_setup.specs.Lines.{lines_frame, standing_of}
+use Rattle.snort_setup.specs.Lines.{lines_frame, state_of}
 use Rattle.snort_setup.specs.Steps.{grown_by}
 use Rattle.snort_setup.proofs.Judging.{grows-none, meant-later, meant-before}
-use Rattle.snort_setup.proofs.Standing.{SoFar, sofar-none, grows-grows, onward-at, stopped-at, finished-at}
+use Rattle.snort_setup.proofs.LinesRead.{SoFar, sofar-none, grows-grows, onward-at, stopped-at, finished-at}
 use Rattle.snort_setup.proofs.rules.read_lines.Goals as goal
 
 pub lines-init : goal.lines-init
@@ -17,7 +17,7 @@ lines-init g c =
     let first = c.first_progress-progress.ensures in
     let asked = g.M.PatternMaker.refusals c.args.maker.now in
     record {
-      so = sofar-none (lines_frame c.args.lines.now) c.args.rules.now c.args.warnings (standing_of c.first_progress-progress.result) (grown_by asked asked) (ap (λ (p : Progress g.row.M-Made.Denot). standing_of p) first);
+      so = sofar-none (lines_frame c.args.lines.now) c.args.rules.now c.args.warnings (state_of c.first_progress-progress.result) (grown_by asked asked) (ap (λ (p : Progress g.row.M-Made.Denot). state_of p) first);
       grows = grows-none asked asked refl;
       sound = All-same (IsSound c.args.lines.now.classes.now) c.first_progress-progress.result.accepted.rules [] (ap (λ (p : Progress g.row.M-Made.Denot). p.accepted.rules) first) (All-nil (IsSound c.args.lines.now.classes.now));
       meant = subst (λ (p : Progress g.row.M-Made.Denot). FindWhatIsMeant g.M.Made.Pattern.finds (g.M.PatternMaker.means c.args.maker.now) p.accepted) (sym first) tt;
@@ -33,9 +33,9 @@ lines-preserved g c =
     let finds = g.M.Made.Pattern.finds in
     let meant = g.M.PatternMaker.means c.args.maker.now in
     let meant_now = g.M.PatternMaker.means c.lines.maker in
-    let so = subst (λ (xs : List Line). SoFar frame c.args.rules.now c.args.warnings (standing_of c.lines.progress) xs (grown_by first old)) c.in-Some.ensures.cases.0 c.lines.invariant.so in
+    let so = subst (λ (xs : List Line). SoFar frame c.args.rules.now c.args.warnings (state_of c.lines.progress) xs (grown_by first old)) c.in-Some.ensures.cases.0 c.lines.invariant.so in
     record {
-      so = onward-at frame c.args.rules.now c.args.warnings first old new (standing_of c.lines.progress) (standing_of c.in_ok-end.end.progress) c.in-Some.line.now c.in-Some.behind.now
+      so = onward-at frame c.args.rules.now c.args.warnings first old new (state_of c.lines.progress) (state_of c.in_ok-end.end.progress) c.in-Some.line.now c.in-Some.after.now
           c.lines.invariant.grows c.line_end.ensures.grows so c.in_ok-end.ensures.asks c.in_ok-end.end.refusal (sym c.if-is_some.ensures) c.in_ok-end.ensures.gives;
       grows = grows-grows first old new c.lines.invariant.grows c.line_end.ensures.grows;
       sound = c.in_ok-end.ensures.sound c.lines.invariant.sound;
@@ -57,8 +57,8 @@ returns-then-is_some-clause-answer g c =
     let first = g.M.PatternMaker.refusals c.args.maker.now in
     let old = g.M.PatternMaker.refusals c.lines.maker in
     let new = g.M.PatternMaker.refusals c.line_end.new.maker in
-    let so = subst (λ (xs : List Line). SoFar frame c.args.rules.now c.args.warnings (standing_of c.lines.progress) xs (grown_by first old)) c.in-Some.ensures.cases.0 c.lines.invariant.so in
-    stopped-at frame c.args.rules.now c.args.warnings first old new (standing_of c.lines.progress) (standing_of c.in_ok-end.end.progress) c.in-Some.line.now c.in-Some.behind.now
+    let so = subst (λ (xs : List Line). SoFar frame c.args.rules.now c.args.warnings (state_of c.lines.progress) xs (grown_by first old)) c.in-Some.ensures.cases.0 c.lines.invariant.so in
+    stopped-at frame c.args.rules.now c.args.warnings first old new (state_of c.lines.progress) (state_of c.in_ok-end.end.progress) c.in-Some.line.now c.in-Some.after.now
     c.lines.invariant.grows c.line_end.ensures.grows so c.in_ok-end.ensures.asks c.in_ok-end.end.refusal (sym c.if-is_some.ensures) c.in_ok-end.ensures.gives
 
 pub returns-then-is_some-clause-grows : goal.returns-then-is_some-clause-grows
@@ -81,5 +81,5 @@ returns-then-is_some-clause-meant g c =
 
 pub returns-clause-answer : goal.returns-clause-answer
 returns-clause-answer g c =
-    finished-at (lines_frame c.args.lines.now) c.args.rules.now c.args.warnings (standing_of c.lines.progress) c.lines.rest.now (grown_by (g.M.PatternMaker.refusals c.args.maker.now) (g.M.PatternMaker.refusals c.lines.maker))
+    finished-at (lines_frame c.args.lines.now) c.args.rules.now c.args.warnings (state_of c.lines.progress) c.lines.rest.now (grown_by (g.M.PatternMaker.refusals c.args.maker.now) (g.M.PatternMaker.refusals c.lines.maker))
     c.in_default.ensures.cases c.lines.invariant.so

@@ -14,8 +14,8 @@ returns-then-len-gt-MAX_BODY c kind body front =
     let long = frame-long c.args.bytes.now kind body front in
     let size = c.read_u32-len.ensures ∙ ap (big_number 4) (take_rest c.args.bytes.now 4) ∙ frame-size c.args.bytes.now kind body front in
     let short : length body ≤ 1048576 = front.short in
-    let behind = ap length (take_rest c.args.bytes.now 8) ∙ length-drop 8 c.args.bytes.now in
-    elim c.then-len-gt-MAX_BODY.either [ inl large ↦ omega (arith, size) | inr cut ↦ let less = cut.1 in omega (arith, size, behind) ]
+    let after = ap length (take_rest c.args.bytes.now 8) ∙ length-drop 8 c.args.bytes.now in
+    elim c.then-len-gt-MAX_BODY.either [ inl large ↦ omega (arith, size) | inr cut ↦ let less = cut.1 in omega (arith, size, after) ]
 
 pub returns : goal.returns
 returns c =

@@ -3,9 +3,9 @@ use Rattle.std.proofs.Common.{refl}
 use Rattle.alert_lines.specs.Showing.{tally_of}
 use Rattle.alert_lines.proofs.writer.AlertWriter.new.Goals as goal
 
-pub returns-clause-stand : goal.returns-clause-stand
+pub returns-clause-hold : goal.returns-clause-hold
 unfolding tally_of
-returns-clause-stand c = record {
+returns-clause-hold c = record {
   given = c.in_ok-new.ensures c.requires.config (λ k d lt. (c.requires.rules k d lt).triable);
   tally = refl;
 }

@@ -1,7 +1,7 @@
 -- An item's matches go through the detection filters, the queue and the
 -- event filters in this order; to make room for them changes no window.
 use Rattle.std.proofs.Common.{ℕ, List, refl, subst}
-use Rattle.event_filters.specs.Standing.{FiltersState, Passes}
+use Rattle.event_filters.specs.Filtering.{FiltersState, Passes}
 use Rattle.event_filters.proofs.Given.{passes-from}
 use Rattle.event_filters.proofs.filters.Filters.pass.Goals as goal
 

@@ -8,8 +8,8 @@ use Rattle.fast_pattern.proofs.groups.Groups.find_candidates.Goals as goal
 
 pub returns-then-not-lets_in-clause-appended : goal.returns-then-not-lets_in-clause-appended
 returns-then-not-lets_in-clause-appended c = record {
-  appended = λ rules stand.
+  appended = λ rules hold.
       let groups = c.args.self.now in
-      let none = none-let-in groups rules c.args.head.now.body c.args.payload.now stand (ap (λ ts. lets_in ts c.args.head.now.body) (sym c.deref.ensures.value) ∙ sym c.if-not-lets_in.ensures) in
+      let none = none-let-in groups rules c.args.head.now.body c.args.payload.now hold (ap (λ ts. lets_in ts c.args.head.now.body) (sym c.deref.ensures.value) ∙ sym c.if-not-lets_in.ensures) in
       sym (ap (λ (xs : List ℕ). c.args.out.now.items ++ xs) none ∙ append-nil c.args.out.now.items);
 }

@@ -9,7 +9,7 @@ use Rattle.fast_pattern.proofs.groups.Groups.find_let_in.Goals as goal
 
 pub returns-clause-appended : goal.returns-clause-appended
 returns-clause-appended c = record {
-  appended = λ rules stand.
+  appended = λ rules hold.
       let groups = c.args.self.now in
       let carried = c.args.head.now.body in
       let payload = c.args.payload.now in
@@ -18,6 +18,6 @@ returns-clause-appended c = record {
       let places = c.dedup.new.self.items in
       let once : places ≡ dedup eqb sorted = dedup_is eqb sorted places c.dedup.ensures.filtered in
       let found = c.in_ok-found.ensures ∙ ap (λ rs. filter (fits_at rs carried) c.deref-2.result.now) c.deref.ensures.value ∙ ap (filter (fits_at groups.rules.items carried)) c.deref-2.ensures.value in
-      let are = candidates-are groups rules carried payload stand hits c.push_due.new.places.items sorted places c.in_ok-places.ensures (c.in_ok-push_due.ensures.added rules stand) c.sort_unstable.ensures.permutation c.sort_unstable.ensures.sorted once in
+      let are = candidates-are groups rules carried payload hold hits c.push_due.new.places.items sorted places c.in_ok-places.ensures (c.in_ok-push_due.ensures.added rules hold) c.sort_unstable.ensures.permutation c.sort_unstable.ensures.sorted once in
       c.in_ok-extend_from_slice.ensures.items ∙ ap (λ (xs : List ℕ). c.args.out.now.items ++ xs) (c.deref-3.ensures.value ∙ found ∙ are);
 }

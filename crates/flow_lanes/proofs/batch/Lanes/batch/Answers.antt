@@ -4,7 +4,7 @@ use Rattle.std.proofs.Common.{◌≡◌, false, Some, length, ap, sym, ◌∙◌
 use Rattle.std.specs.Prelude.{fold}
 use Rattle.std.proofs.lemmas.List.{with_items_is}
 use Rattle.flow_lanes.specs.declared.job.Job.{Job}
-use Rattle.flow_lanes.specs.Standing.{LanesState}
+use Rattle.flow_lanes.specs.LanesAfter.{LanesState}
 use Rattle.flow_lanes.specs.Batching.{lanes_of}
 use Rattle.flow_lanes.proofs.Jobs.AreParts.{have_learnt, sound_among}
 use Rattle.flow_lanes.proofs.batch.Lanes.batch.Goals as goal

@@ -4,7 +4,7 @@ use Rattle.std.proofs.Common.{subst}
 use Rattle.flow_lanes.specs.Flows.{session_at_hand}
 use Rattle.flow_lanes.specs.Given.{inspection_of}
 use Rattle.flow_lanes.specs.Items.{finish_items}
-use Rattle.flow_lanes.specs.Standing.{KeptFlow}
+use Rattle.flow_lanes.specs.LanesAfter.{KeptFlow}
 use Rattle.flow_lanes.specs.Tried.{Tallied, of_job, so_far}
 use Rattle.flow_lanes.proofs.Sessions.DetectsOn.{finished}
 use Rattle.flow_lanes.proofs.Sessions.IsKeptBy.{kept-still}

@@ -5,7 +5,7 @@ use Rattle.flow_lanes.specs.Detecting.{Leaves, gain_of}
 use Rattle.flow_lanes.specs.Flows.{session_at_hand}
 use Rattle.flow_lanes.specs.Given.{inspection_of, making_of, packet_of}
 use Rattle.flow_lanes.specs.Sound.{IsSoundPacket}
-use Rattle.flow_lanes.specs.Standing.{KeptFlow}
+use Rattle.flow_lanes.specs.LanesAfter.{KeptFlow}
 use Rattle.flow_lanes.specs.Tried.{Tallied, so_far}
 use Rattle.flow_lanes.proofs.ItemHits.Tried.{tallied-new}
 use Rattle.flow_lanes.proofs.Sessions.IsKeptBy.{found-sound, kept-more}

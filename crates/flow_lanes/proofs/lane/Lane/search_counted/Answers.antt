@@ -4,7 +4,7 @@ use Rattle.std.proofs.Common.{ℕ, length, refl, subst, sym}
 use Rattle.flow_lanes.specs.Batching.{SearchesJob}
 use Rattle.flow_lanes.specs.Given.{inspection_of}
 use Rattle.flow_lanes.specs.Sound.{IsSoundFor}
-use Rattle.flow_lanes.specs.Standing.{LaneState, LearnsJob, known_of}
+use Rattle.flow_lanes.specs.LanesAfter.{LaneState, LearnsJob, known_of}
 use Rattle.flow_lanes.specs.Tried.{so_far}
 use Rattle.flow_lanes.specs.Work.{CountsVisits}
 use Rattle.flow_lanes.proofs.Jobs.IsDone.{counts-visits, learns-job, searches-job}

@@ -2,7 +2,7 @@
 -- room left: one that is too long, a variable that lacks or the text's end decides it.
 use Rattle.std.proofs.Common.{◌≡◌, ◌∙◌, ◌++◌, ◌-◌, length, drop, vec_len, sym, ap, arith}
 use Rattle.net_lists.specs.Expansion.{expansion, with_front, put_together, pieces}
-use Rattle.net_lists.proofs.Variables.Appended.{fits_behind, long_at, missing_at, ends_at, front_behind, kept_behind}
+use Rattle.net_lists.proofs.Variables.Appended.{fits_after, long_at, missing_at, ends_at, front_after, kept_after}
 use Rattle.net_lists.proofs.vars.Vars.append.Goals as goal
 
 pub returns-then-bytes-room-clause-expanded : goal.returns-then-bytes-room-clause-expanded
@@ -33,8 +33,8 @@ loop-place-preserved c =
     let more : after ≡ now ++ c.in-Ok.bytes.now = c.in_ok-extend_from_slice-in-Ok.ensures.items in
     record {
       within = piece.1;
-      kept = kept_behind old now after c.in-Ok.bytes.now n e c.loop-place.invariant.kept more;
+      kept = kept_after old now after c.in-Ok.bytes.now n e c.loop-place.invariant.kept more;
       so_far =
-          fits_behind c.args.self.now c.args.text.now _ _ c.loop-place.place c.loop-place.room c.loop-place.invariant.so_far c.in-Ok.bytes.now c.in-Ok.next piece.2 c.if-bytes-room.false
-          ∙ ap (λ front. with_front front (put_together (c.loop-place.room - length c.in-Ok.bytes.now) (pieces c.args.self.now c.args.text.now c.in-Ok.next 0 (drop c.in-Ok.next c.args.text.now)))) (sym (front_behind old now after c.in-Ok.bytes.now n e c.loop-place.invariant.kept more));
+          fits_after c.args.self.now c.args.text.now _ _ c.loop-place.place c.loop-place.room c.loop-place.invariant.so_far c.in-Ok.bytes.now c.in-Ok.next piece.2 c.if-bytes-room.false
+          ∙ ap (λ front. with_front front (put_together (c.loop-place.room - length c.in-Ok.bytes.now) (pieces c.args.self.now c.args.text.now c.in-Ok.next 0 (drop c.in-Ok.next c.args.text.now)))) (sym (front_after old now after c.in-Ok.bytes.now n e c.loop-place.invariant.kept more));
     }

@@ -9,18 +9,18 @@ use Rattle.net_lists.proofs.vars.Vars.piece_at.Goals.{then-text-place-eq36+in_de
 pub returns-in-Some-default : goal.returns-in-Some-default
 returns-in-Some-default c = record {
   piece = (
-    omega (arith, c.in-Some.ensures.behind),
+    omega (arith, c.in-Some.ensures.after),
     c.in-Some.ensures.within,
-    pieces-value c.args.self.now c.args.text.now c.args.place (form_of c.in-Some.form) c.requires c.if-text-place-eq36.true c.in-Some.ensures.form c.in-Some.ensures.behind c.in-Some-default.value.now c.in-Some-default.ensures,
+    pieces-value c.args.self.now c.args.text.now c.args.place (form_of c.in-Some.form) c.requires c.if-text-place-eq36.true c.in-Some.ensures.form c.in-Some.ensures.after c.in-Some-default.value.now c.in-Some-default.ensures,
   );
 }
 
 pub returns-in-None-Default : goal.returns-in-None-Default
 returns-in-None-Default c = record {
   piece = (
-    omega (arith, c.in-Some.ensures.behind),
+    omega (arith, c.in-Some.ensures.after),
     c.in-Some.ensures.within,
-    pieces-otherwise c.args.self.now c.args.text.now c.args.place (form_of c.in-Some.form) c.requires c.if-text-place-eq36.true c.in-Some.ensures.form c.in-Some.ensures.behind c.in-None-Default.ensures _ (ap otherwise_of_kept c.in-None-Default.is-1),
+    pieces-otherwise c.args.self.now c.args.text.now c.args.place (form_of c.in-Some.form) c.requires c.if-text-place-eq36.true c.in-Some.ensures.form c.in-Some.ensures.after c.in-None-Default.ensures _ (ap otherwise_of_kept c.in-None-Default.is-1),
   );
 }
 
@@ -28,7 +28,7 @@ pub returns-in-None-Refused : goal.returns-in-None-Refused
 returns-in-None-Refused c = record {
   piece = (
     _,
-    pieces-otherwise c.args.self.now c.args.text.now c.args.place (form_of c.in-Some.form) c.requires c.if-text-place-eq36.true c.in-Some.ensures.form c.in-Some.ensures.behind c.in-None-Refused.ensures _ (ap otherwise_of_kept c.in-None-Refused.is-1),
+    pieces-otherwise c.args.self.now c.args.text.now c.args.place (form_of c.in-Some.form) c.requires c.if-text-place-eq36.true c.in-Some.ensures.form c.in-Some.ensures.after c.in-None-Refused.ensures _ (ap otherwise_of_kept c.in-None-Refused.is-1),
   );
 }
 

@@ -5,7 +5,7 @@ use Rattle.overlap_core.specs.declared.segment.Bounds.{Bounds}
 use Rattle.overlap_core.specs.Overlap.{bounds_of, covered_end, end_of}
 use Rattle.overlap_core.specs.Pieces.{HoldChosen, IsRow}
 use Rattle.overlap_core.specs.Segments.{Segment}
-use Rattle.overlap_core.proofs.Rows.Behind.{asked, room_asked}
+use Rattle.overlap_core.proofs.Rows.AtEnd.{asked, room_asked}
 use Rattle.overlap_core.proofs.Segments.Ends.{covered_end-snoc}
 use Rattle.overlap_core.proofs.queue.Queue.insert_reserved.Goals as goal
 

@@ -10,13 +10,13 @@ use Rattle.pcap_input.proofs.traffic.Traffic.segment.Goals as goal
 pub returns-clause-made : goal.returns-clause-made
 returns-clause-made c =
     segment-made c.args.self.now c.below-number.result c.below-number.new.self.state c.payload.new.self.draws.state
-    c.session-session.result c.behind.result c.payload.new.self.sessions c.segment.result c.in_ok-payload.payload.items c.in_ok-frame.frame.items
+    c.session-session.result c.after.result c.payload.new.self.sessions c.segment.result c.in_ok-payload.payload.items c.in_ok-frame.frame.items
     c.below-number.ensures.drawn
     c.below-number.ensures.stepped
     c.session-session.ensures
     c.in_ok-payload.ensures.drawn
     c.in_ok-payload.ensures.state
     c.in_ok-payload.ensures.sessions
-    c.behind.ensures
+    c.after.ensures
     c.segment.ensures
     (c.in_ok-frame.ensures.made ∙ ap (tcp_frame c.segment.result) c.deref.ensures.value)

@@ -1,7 +1,7 @@
 -- The node is linked between those before the place and those from it on (`here_before`), and so its value comes to be in
 -- the list at the place (`inserted`).
 use Rattle.std.proofs.Common.{take, drop}
-use Rattle.piece_list.proofs.Standing.{here_before, inserted}
+use Rattle.piece_list.proofs.Moving.{here_before, inserted}
 use Rattle.piece_list.proofs.chain.Chain.insert.Goals as goal
 
 pub link-self-inside-requires : goal.link-self-inside-requires

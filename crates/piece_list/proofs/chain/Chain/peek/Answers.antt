@@ -1,5 +1,5 @@
 -- At a place below the length is a node (`here_is`), and its value is the list's at that place (`value_is`).
-use Rattle.piece_list.proofs.Standing.{here_is, value_is}
+use Rattle.piece_list.proofs.Moving.{here_is, value_is}
 use Rattle.piece_list.proofs.chain.Chain.peek.Goals as goal
 
 pub value-requires : goal.value-requires

@@ -1,5 +1,5 @@
 -- Once the node at the place is unlinked, the one after it is at the place, and the list lacks its value alone (`removed`).
-use Rattle.piece_list.proofs.Standing.{here_is, here_next, removed}
+use Rattle.piece_list.proofs.Moving.{here_is, here_next, removed}
 use Rattle.piece_list.proofs.chain.Chain.remove.Goals as goal
 
 pub next-self-inside-requires : goal.next-self-inside-requires

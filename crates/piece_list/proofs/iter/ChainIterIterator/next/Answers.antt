@@ -3,7 +3,7 @@
 use Rattle.std.proofs.Common.{◌+◌, ◌∙◌, sym, arith}
 use Rattle.piece_list.specs.Linked.{values}
 use Rattle.piece_list.proofs.Places.{drop-get, rest_within}
-use Rattle.piece_list.proofs.Standing.{here_is, here_next, next_gives_rest, value_is}
+use Rattle.piece_list.proofs.Moving.{here_is, here_next, next_gives_rest, value_is}
 use Rattle.piece_list.proofs.iter.ChainIterIterator.next.Goals as goal
 
 pub next-self-inside-requires : goal.next-self-inside-requires

@@ -1,7 +1,7 @@
 -- What the kept keys tell of a touch and become by it is what the touches tell (`found_of`, `seen_of`), for they are the
 -- recent keys with their numbers, as many as may live.
 use Rattle.stream5_sessions.proofs.Bounds.{bounded_of}
-use Rattle.stream5_sessions.proofs.Standing.{found_of, seen_of, looked_up-known}
+use Rattle.stream5_sessions.proofs.KeptValues.{found_of, seen_of, looked_up-known}
 use Rattle.stream5_sessions.proofs.Liveness.Numbers.{live_count-le}
 use Rattle.stream5_sessions.proofs.flows.Flows.touch.Goals as goal
 

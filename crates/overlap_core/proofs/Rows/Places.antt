@@ -5,7 +5,7 @@ use Rattle.std.proofs.lemmas.List.{take_at, drop_at}
 use Rattle.std.proofs.lemmas.Bool.Decides.{nat_tests}
 use Rattle.piece_list.specs.Pieces.{Pieces, pieces as listed}
 use Rattle.overlap_core.specs.Pieces.{IsRow, Piece, piece_end}
-use Rattle.overlap_core.specs.Rows.{BeginBelow, BeginFrom, cut_row, left_part, parts, right_part, StandsAt}
+use Rattle.overlap_core.specs.Rows.{BeginBelow, BeginFrom, cut_row, left_part, parts, right_part, Between}
 
 module _ {X : Type 0} where
   pub slice_get-at : (front : List X) (x : X) (rest : List X) → slice_get (front ++ x ∷ rest) (length front) ≡ Some x
@@ -23,31 +23,31 @@ module _ {X : Type 0} where
   length-snoc front x = length-append front (x ∷ [])
 
 -- the piece at the place
-pub slice_get-stands : (pieces : Pieces Piece) (front rest : List Piece) (piece : Piece) → StandsAt pieces front (piece ∷ rest) → slice_get pieces.list pieces.place ≡ Some piece
-slice_get-stands pieces front rest piece stands = ap (λ xs. slice_get xs pieces.place) stands.list ∙ ap (slice_get (front ++ piece ∷ rest)) stands.place ∙ slice_get-at front piece rest
+pub slice_get-between : (pieces : Pieces Piece) (front rest : List Piece) (piece : Piece) → Between pieces front (piece ∷ rest) → slice_get pieces.list pieces.place ≡ Some piece
+slice_get-between pieces front rest piece between = ap (λ xs. slice_get xs pieces.place) between.list ∙ ap (slice_get (front ++ piece ∷ rest)) between.place ∙ slice_get-at front piece rest
 
-pub remove-stands : (pieces : Pieces Piece) (front rest : List Piece) (piece : Piece) → StandsAt pieces front (piece ∷ rest) → remove pieces.list pieces.place ≡ front ++ rest
-remove-stands pieces front rest piece stands = ap (λ xs. remove xs pieces.place) stands.list ∙ ap (remove (front ++ piece ∷ rest)) stands.place ∙ remove-at front piece rest
+pub remove-between : (pieces : Pieces Piece) (front rest : List Piece) (piece : Piece) → Between pieces front (piece ∷ rest) → remove pieces.list pieces.place ≡ front ++ rest
+remove-between pieces front rest piece between = ap (λ xs. remove xs pieces.place) between.list ∙ ap (remove (front ++ piece ∷ rest)) between.place ∙ remove-at front piece rest
 
-pub insert-stands : (pieces : Pieces Piece) (front rest : List Piece) (piece : Piece) → StandsAt pieces front rest → insert pieces.list pieces.place piece ≡ front ++ piece ∷ rest
-insert-stands pieces front rest piece stands = ap (λ xs. insert xs pieces.place piece) stands.list ∙ ap (λ n. insert (front ++ rest) n piece) stands.place ∙ insert-at front piece rest
+pub insert-between : (pieces : Pieces Piece) (front rest : List Piece) (piece : Piece) → Between pieces front rest → insert pieces.list pieces.place piece ≡ front ++ piece ∷ rest
+insert-between pieces front rest piece between = ap (λ xs. insert xs pieces.place piece) between.list ∙ ap (λ n. insert (front ++ rest) n piece) between.place ∙ insert-at front piece rest
 
 -- after a step back one piece is on the other side of the place
-pub stands-back : (pieces back : Pieces Piece) (front rest : List Piece) (last : Piece) → StandsAt pieces (front ++ last ∷ []) rest → back.list ≡ pieces.list → back.place ≡ pieces.place - 1 → StandsAt back front (last ∷ rest)
-stands-back pieces back front rest last stands list place = record {
-  list = list ∙ stands.list ∙ append_assoc front (last ∷ []) rest;
-  place = omega (arith, place, stands.place, length-snoc front last);
+pub between-back : (pieces back : Pieces Piece) (front rest : List Piece) (last : Piece) → Between pieces (front ++ last ∷ []) rest → back.list ≡ pieces.list → back.place ≡ pieces.place - 1 → Between back front (last ∷ rest)
+between-back pieces back front rest last between list place = record {
+  list = list ∙ between.list ∙ append_assoc front (last ∷ []) rest;
+  place = omega (arith, place, between.place, length-snoc front last);
 }
 
-pub stands-on : (pieces onward : Pieces Piece) (front rest : List Piece) (first : Piece) → StandsAt pieces front (first ∷ rest) → onward.list ≡ pieces.list → onward.place ≡ pieces.place + 1 → StandsAt onward (front ++ first ∷ []) rest
-stands-on pieces onward front rest first stands list place = record {
-  list = list ∙ stands.list ∙ sym (append_assoc front (first ∷ []) rest);
-  place = omega (arith, place, stands.place, length-snoc front first);
+pub between-on : (pieces onward : Pieces Piece) (front rest : List Piece) (first : Piece) → Between pieces front (first ∷ rest) → onward.list ≡ pieces.list → onward.place ≡ pieces.place + 1 → Between onward (front ++ first ∷ []) rest
+between-on pieces onward front rest first between list place = record {
+  list = list ∙ between.list ∙ sym (append_assoc front (first ∷ []) rest);
+  place = omega (arith, place, between.place, length-snoc front first);
 }
 
 -- a piece that a place doesn't part
-pub parts-behind : (at : ℕ) (piece : Piece) → at ≤ piece.start → parts at piece ≡ piece ∷ []
-parts-behind at piece behind = let fails : (nat_lt piece.start at && nat_lt at (piece_end piece)) ≡ false = grind (arith, nat_tests) in ap (λ b. cond b (left_part at piece ∷ right_part at piece ∷ []) (piece ∷ [])) fails
+pub parts-after : (at : ℕ) (piece : Piece) → at ≤ piece.start → parts at piece ≡ piece ∷ []
+parts-after at piece beyond = let fails : (nat_lt piece.start at && nat_lt at (piece_end piece)) ≡ false = grind (arith, nat_tests) in ap (λ b. cond b (left_part at piece ∷ right_part at piece ∷ []) (piece ∷ [])) fails
 
 pub parts-before : (at : ℕ) (piece : Piece) → piece_end piece ≤ at → parts at piece ≡ piece ∷ []
 parts-before at piece before = let fails : (nat_lt piece.start at && nat_lt at (piece_end piece)) ≡ false = grind (arith, nat_tests) in ap (λ b. cond b (left_part at piece ∷ right_part at piece ∷ []) (piece ∷ [])) fails
@@ -57,13 +57,13 @@ pub parts-inside : (at : ℕ) (piece : Piece) → piece.start < at → at < piec
 parts-inside at piece from to = let holds : (nat_lt piece.start at && nat_lt at (piece_end piece)) ≡ true = grind (arith, nat_tests) in ap (λ b. cond b (left_part at piece ∷ right_part at piece ∷ []) (piece ∷ [])) holds
 
 -- pieces that begin at a place or after it are not cut there
-pub cut_row-behind : (at : ℕ) (pieces : List Piece) → BeginFrom at pieces → cut_row at pieces ≡ pieces
-cut_row-behind at [] begin = refl
-cut_row-behind at (piece ∷ pieces) begin = ap (λ ps. ps ++ cut_row at pieces) (parts-behind at piece begin.0) ∙ ap (λ ps. piece ∷ ps) (cut_row-behind at pieces begin.1)
+pub cut_row-after : (at : ℕ) (pieces : List Piece) → BeginFrom at pieces → cut_row at pieces ≡ pieces
+cut_row-after at [] begin = refl
+cut_row-after at (piece ∷ pieces) begin = ap (λ ps. ps ++ cut_row at pieces) (parts-after at piece begin.0) ∙ ap (λ ps. piece ∷ ps) (cut_row-after at pieces begin.1)
 
 -- of pieces in a row that begin below a place, the last alone may be cut there
 pub cut_row-last : (at low high : ℕ) (front rest : List Piece) (last : Piece) → IsRow low (front ++ last ∷ rest) high → BeginBelow at (front ++ last ∷ []) → BeginFrom at rest → cut_row at (front ++ last ∷ rest) ≡ front ++ (parts at last ++ rest)
-cut_row-last at low high [] rest last row below from = ap (λ ps. parts at last ++ ps) (cut_row-behind at rest from)
+cut_row-last at low high [] rest last row below from = ap (λ ps. parts at last ++ ps) (cut_row-after at rest from)
 cut_row-last at low high (first ∷ front) rest last row below from =
     let before : piece_end first ≤ at = next_below front first last rest at high row.2 below.1 in
     ap (λ ps. ps ++ cut_row at (front ++ last ∷ rest)) (parts-before at first before) ∙ ap (λ ps. first ∷ ps) (cut_row-last at (piece_end first) high front rest last row.2 below.1 from)
@@ -118,7 +118,7 @@ index_from at (first ∷ front) rest (suc k) piece below found from = omega (ari
 pub record IsWalk (pieces : Pieces Piece) (low top : ℕ) (fact : List Piece → Type 0) : Type 0 where
   pub front : List Piece
   pub rest : List Piece
-  pub stands : StandsAt pieces front rest
+  pub between : Between pieces front rest
   pub row : IsRow low rest top
   pub holds : fact rest
 
@@ -157,69 +157,69 @@ pub on_some : {X : Type 0} (found : Option X) (x : X) (P : Type 0) → found ≡
 on_some None x P is holds = cc
 on_some (Some y) x P is holds = holds
 
-pub stands-removed : (pieces new : Pieces Piece) (front rest : List Piece) (piece : Piece) (spare : ℕ) → StandsAt pieces front (piece ∷ rest) → new ≡ listed (remove pieces.list pieces.place) pieces.place spare → StandsAt new front rest
-stands-removed pieces new front rest piece spare stands is = record {
-  list = ap (λ (p : Pieces Piece). p.list) is ∙ remove-stands pieces front rest piece stands;
-  place = ap (λ (p : Pieces Piece). p.place) is ∙ stands.place;
+pub between-removed : (pieces new : Pieces Piece) (front rest : List Piece) (piece : Piece) (spare : ℕ) → Between pieces front (piece ∷ rest) → new ≡ listed (remove pieces.list pieces.place) pieces.place spare → Between new front rest
+between-removed pieces new front rest piece spare between is = record {
+  list = ap (λ (p : Pieces Piece). p.list) is ∙ remove-between pieces front rest piece between;
+  place = ap (λ (p : Pieces Piece). p.place) is ∙ between.place;
 }
 
-pub stands-inserted : (pieces new : Pieces Piece) (front rest : List Piece) (piece : Piece) (spare : ℕ) → StandsAt pieces front rest → new ≡ listed (insert pieces.list pieces.place piece) pieces.place spare → StandsAt new front (piece ∷ rest)
-stands-inserted pieces new front rest piece spare stands is = record {
-  list = ap (λ (p : Pieces Piece). p.list) is ∙ insert-stands pieces front rest piece stands;
-  place = ap (λ (p : Pieces Piece). p.place) is ∙ stands.place;
+pub between-inserted : (pieces new : Pieces Piece) (front rest : List Piece) (piece : Piece) (spare : ℕ) → Between pieces front rest → new ≡ listed (insert pieces.list pieces.place piece) pieces.place spare → Between new front (piece ∷ rest)
+between-inserted pieces new front rest piece spare between is = record {
+  list = ap (λ (p : Pieces Piece). p.list) is ∙ insert-between pieces front rest piece between;
+  place = ap (λ (p : Pieces Piece). p.place) is ∙ between.place;
 }
 
 -- `next` where a piece is at the place
-pub stands-next : (pieces next : Pieces Piece) (moved : Bool) (front rest : List Piece) (piece : Piece) → StandsAt pieces front (piece ∷ rest) → (IsTrue moved ↔ (pieces.place < length pieces.list))
-    → next ≡ listed pieces.list (if moved then pieces.place + 1 else pieces.place) pieces.spare → StandsAt next (front ++ piece ∷ []) rest
-stands-next pieces next moved front rest piece stands tells is =
-    let long : length pieces.list ≡ length front + length (piece ∷ rest) = ap length stands.list ∙ length-append front (piece ∷ rest) in
-    let moves : moved ≡ true = tells.1 (omega (arith, long, stands.place)) in
+pub between-next : (pieces next : Pieces Piece) (moved : Bool) (front rest : List Piece) (piece : Piece) → Between pieces front (piece ∷ rest) → (IsTrue moved ↔ (pieces.place < length pieces.list))
+    → next ≡ listed pieces.list (if moved then pieces.place + 1 else pieces.place) pieces.spare → Between next (front ++ piece ∷ []) rest
+between-next pieces next moved front rest piece between tells is =
+    let long : length pieces.list ≡ length front + length (piece ∷ rest) = ap length between.list ∙ length-append front (piece ∷ rest) in
+    let moves : moved ≡ true = tells.1 (omega (arith, long, between.place)) in
     let place : next.place ≡ pieces.place + 1 = ap (λ (p : Pieces Piece). p.place) is ∙ ap (λ b. if b then pieces.place + 1 else pieces.place) moves in
-    stands-on pieces next front rest piece stands (ap (λ (p : Pieces Piece). p.list) is) place
+    between-on pieces next front rest piece between (ap (λ (p : Pieces Piece). p.list) is) place
 
 -- where the piece before the place is not cut
-pub uncut : (at : ℕ) (pieces back : Pieces Piece) (front rest : List Piece) (last piece : Piece) → StandsAt pieces (front ++ last ∷ []) rest → back ≡ listed pieces.list (pieces.place - 1) pieces.spare
+pub uncut : (at : ℕ) (pieces back : Pieces Piece) (front rest : List Piece) (last piece : Piece) → Between pieces (front ++ last ∷ []) rest → back ≡ listed pieces.list (pieces.place - 1) pieces.spare
     → Some piece ≡ slice_get back.list back.place → parts at piece ≡ piece ∷ [] → back.list ≡ front ++ (parts at last ++ rest)
-uncut at pieces back front rest last piece stands is found whole =
-    let here = stands-back pieces back front rest last stands (ap (λ (p : Pieces Piece). p.list) is) (ap (λ (p : Pieces Piece). p.place) is) in
-    let same : piece ≡ last = let found_last : Some piece ≡ Some last = found ∙ slice_get-stands back front rest last here in cc in
+uncut at pieces back front rest last piece between is found whole =
+    let here = between-back pieces back front rest last between (ap (λ (p : Pieces Piece). p.list) is) (ap (λ (p : Pieces Piece). p.place) is) in
+    let same : piece ≡ last = let found_last : Some piece ≡ Some last = found ∙ slice_get-between back front rest last here in cc in
     let last_whole : parts at last ≡ last ∷ [] = subst (λ (p : Piece). parts at p ≡ p ∷ []) same whole in
     here.list ∙ ap (λ ps. front ++ (ps ++ rest)) (sym last_whole)
 
 -- with pieces before the place, a step back finds one
-pub some_before : (pieces back : Pieces Piece) (front rest : List Piece) (last : Piece) (found : Option Piece) → StandsAt pieces (front ++ last ∷ []) rest → back ≡ listed pieces.list (pieces.place - 1) pieces.spare
+pub some_before : (pieces back : Pieces Piece) (front rest : List Piece) (last : Piece) (found : Option Piece) → Between pieces (front ++ last ∷ []) rest → back ≡ listed pieces.list (pieces.place - 1) pieces.spare
     → found ≡ slice_get back.list back.place → found ≡ None → ⊥
-some_before pieces back front rest last found stands is value none =
-    let here = stands-back pieces back front rest last stands (ap (λ (p : Pieces Piece). p.list) is) (ap (λ (p : Pieces Piece). p.place) is) in
-    let clash : None ≡ Some last = sym none ∙ value ∙ slice_get-stands back front rest last here in cc
+some_before pieces back front rest last found between is value none =
+    let here = between-back pieces back front rest last between (ap (λ (p : Pieces Piece). p.list) is) (ap (λ (p : Pieces Piece). p.place) is) in
+    let clash : None ≡ Some last = sym none ∙ value ∙ slice_get-between back front rest last here in cc
 
 -- the list where the piece before the place is cut
-pub cut_last : (at : ℕ) (pieces back removed once twice : Pieces Piece) (taken : Option Piece) (piece left right : Piece) (front rest : List Piece) (last : Piece) (m n : ℕ) → StandsAt pieces (front ++ last ∷ []) rest
+pub cut_last : (at : ℕ) (pieces back removed once twice : Pieces Piece) (taken : Option Piece) (piece left right : Piece) (front rest : List Piece) (last : Piece) (m n : ℕ) → Between pieces (front ++ last ∷ []) rest
     → back ≡ listed pieces.list (pieces.place - 1) pieces.spare → Some piece ≡ slice_get back.list back.place → taken ≡ slice_get back.list back.place
     → OnSome taken (removed ≡ listed (remove back.list back.place) back.place (back.spare + 1)) → once ≡ listed (insert removed.list removed.place right) removed.place m → twice ≡ listed (insert once.list once.place left) once.place n
     → left ≡ left_part at piece → right ≡ right_part at piece → piece.start < at → at < piece_end piece → twice.list ≡ front ++ (parts at last ++ rest)
-cut_last at pieces back removed once twice taken piece left right front rest last m n stands is found took left_out in_once in_twice is_left is_right from to =
-    let here = stands-back pieces back front rest last stands (ap (λ (p : Pieces Piece). p.list) is) (ap (λ (p : Pieces Piece). p.place) is) in
-    let at_last = slice_get-stands back front rest last here in
+cut_last at pieces back removed once twice taken piece left right front rest last m n between is found took left_out in_once in_twice is_left is_right from to =
+    let here = between-back pieces back front rest last between (ap (λ (p : Pieces Piece). p.list) is) (ap (λ (p : Pieces Piece). p.place) is) in
+    let at_last = slice_get-between back front rest last here in
     let same : piece ≡ last = let found_last : Some piece ≡ Some last = found ∙ at_last in cc in
-    let gone = stands-removed back removed front rest last (back.spare + 1) here (on_some taken last (removed ≡ listed (remove back.list back.place) back.place (back.spare + 1)) (took ∙ at_last) left_out) in
-    let one = stands-inserted removed once front rest right m gone in_once in
-    let two = stands-inserted once twice front (right ∷ rest) left n one in_twice in
+    let gone = between-removed back removed front rest last (back.spare + 1) here (on_some taken last (removed ≡ listed (remove back.list back.place) back.place (back.spare + 1)) (took ∙ at_last) left_out) in
+    let one = between-inserted removed once front rest right m gone in_once in
+    let two = between-inserted once twice front (right ∷ rest) left n one in_twice in
     let halves : left ∷ right ∷ [] ≡ parts at last = ap (λ l. l ∷ right ∷ []) is_left ∙ ap (λ r. left_part at piece ∷ r ∷ []) is_right ∙ sym (parts-inside at piece from to) ∙ ap (parts at) same in
     two.list ∙ ap (λ ps. front ++ (ps ++ rest)) halves
 
 -- the whole of a cut
 pub cut_whole : (at low high : ℕ) (old moved new : Pieces Piece) → IsRow low old.list high
     → moved.list ≡ old.list → ((front rest : List Piece) → old.list ≡ front ++ rest → BeginBelow at front → BeginFrom at rest → moved.place ≡ length front)
-    → ((front rest : List Piece) (last : Piece) → StandsAt moved (front ++ last ∷ []) rest → new.list ≡ front ++ (parts at last ++ rest)) → (moved.place ≡ 0 → new.list ≡ moved.list) → new.list ≡ cut_row at old.list
+    → ((front rest : List Piece) (last : Piece) → Between moved (front ++ last ∷ []) rest → new.list ≡ front ++ (parts at last ++ rest)) → (moved.place ≡ 0 → new.list ≡ moved.list) → new.list ≡ cut_row at old.list
 cut_whole at low high old moved new row list sought_here ok first =
     let two = parted at low high old.list row in
     let place : moved.place ≡ length two.front = sought_here two.front two.rest two.list two.below two.from in
     elim (last_of two.front) as (λ _. new.list ≡ cut_row at old.list) [
       | inl none ↦
           let all : old.list ≡ two.rest = two.list ∙ ap (λ ps. ps ++ two.rest) none in
-          first (place ∙ ap length none) ∙ list ∙ all ∙ sym (ap (cut_row at) all ∙ cut_row-behind at two.rest two.from)
+          first (place ∙ ap length none) ∙ list ∙ all ∙ sym (ap (cut_row at) all ∙ cut_row-after at two.rest two.from)
       | inr some ↦
           let front = some.0 in
           let last = some.1 in
@@ -246,8 +246,8 @@ smaller_next pieces next moved here tells is =
     let long : length next.list ≡ length pieces.list = ap (λ (p : Pieces Piece). length p.list) is in
     omega (arith, place, long, here)
 
-pub smaller_stands : (pieces on : Pieces Piece) (front other rest later : List Piece) (piece : Piece) → StandsAt pieces front rest → rest ≡ piece ∷ later → StandsAt on other later → length on.list - on.place < length pieces.list - pieces.place
-smaller_stands pieces on front other rest later piece one is two =
+pub smaller_between : (pieces on : Pieces Piece) (front other rest later : List Piece) (piece : Piece) → Between pieces front rest → rest ≡ piece ∷ later → Between on other later → length on.list - on.place < length pieces.list - pieces.place
+smaller_between pieces on front other rest later piece one is two =
     let before : length pieces.list ≡ length front + length rest = ap length one.list ∙ length-append front rest in
     let after : length on.list ≡ length other + length later = ap length two.list ∙ length-append other later in
     omega (arith, before, after, one.place, two.place, ap length is)

@@ -2,7 +2,7 @@
 -- so what the search finds between them answers for the window.
 use Rattle.std.proofs.Common.{◌+◌, ◌-◌, length, arith}
 use Rattle.option_eval.proofs.Sets.Contents.{window_answer}
-use Rattle.option_eval.proofs.content.stands.Goals as goal
+use Rattle.option_eval.proofs.content.is_found.Goals as goal
 
 pub returns : goal.returns
 returns c =

@@ -22,9 +22,9 @@ use Rattle.flow_lanes.specs.declared.answer.BatchOut.{BatchOut}
 use Rattle.flow_lanes.specs.declared.answer.JobHits.{JobHits}
 use Rattle.flow_lanes.specs.declared.answer.Matches.{Matches}
 use Rattle.flow_lanes.specs.declared.job.Job.{Job}
-use Rattle.flow_lanes.specs.Flows.{Detection, FlowState, answer, answer_tries, flow_of, items, same_flow, same_number, state_behind}
+use Rattle.flow_lanes.specs.Flows.{Detection, FlowState, answer, answer_tries, flow_of, items, same_flow, same_number, state_after_one}
 use Rattle.flow_lanes.specs.ItemHits.{matched_entry}
-use Rattle.flow_lanes.specs.Sound.{FlowFacts, IsSoundFor, facts_after, facts_behind}
+use Rattle.flow_lanes.specs.Sound.{FlowFacts, IsSoundFor, facts_after, facts_after_one}
 use Rattle.flow_lanes.specs.Streams.{item_size}
 
 -- what is kept of a flow that has not ended
@@ -61,16 +61,16 @@ abbrev pub is_of_flow : ℕ → Job → Bool
 is_of_flow flow job = same_number (Some flow) (flow_of job)
 
 -- what is kept of a flow after one more of its jobs: nothing after its end
-abbrev pub kept_behind : Detection → Option KeptFlow → Job → Option KeptFlow
-kept_behind d kept job = option_map (λ facts. record { facts = facts; found = state_behind d (state_kept kept) job })
-    (facts_behind (facts_kept kept) job)
+abbrev pub kept_after_one : Detection → Option KeptFlow → Job → Option KeptFlow
+kept_after_one d kept job = option_map (λ facts. record { facts = facts; found = state_after_one d (state_kept kept) job })
+    (facts_after_one (facts_kept kept) job)
 
 -- what is kept after these jobs of one flow
 abbrev pub kept_after : Detection → List Job → Option KeptFlow
-kept_after d jobs = fold (kept_behind d) None jobs
+kept_after d jobs = fold (kept_after_one d) None jobs
 
 -- the lane stands for these jobs, with what is detected by
-pub record Stands (d : Detection) (lane : LaneState) (before : List Job) : Type 0 where
+pub record IsAfter (d : Detection) (lane : LaneState) (before : List Job) : Type 0 where
   pub flush : lane.flush ≡ d.making.flush
   pub inserts : lane.inserts ≡ d.making.inserts
   pub flows : (flow : ℕ) → kept_of lane flow ≡ kept_after d (filter (is_of_flow flow) before)
@@ -101,25 +101,25 @@ AreShort job items =
 pub record IsAnswered (d : Detection) (before : List Job) (job : Job) (entry : JobHits) (new : LaneState) : Type 0 where
   pub right : entry ≡ answer d before job
   pub short : AreShort job (within same_flow (items d) before job)
-  pub stands : Stands d new (before ++ job ∷ [])
+  pub holds : IsAfter d new (before ++ job ∷ [])
 
 abbrev pub AnswersJob : {P : Type 0} → (P → List ℕ → Option Span) → StreamConfig → Rules P → LaneState → Job → JobHits → LaneState
     → Type 0
 AnswersJob finds stream set old job entry new =
-    (means : Means) (d : Detection) (before : List Job) → DetectsBy finds means stream set d → Stands d old before
+    (means : Means) (d : Detection) (before : List Job) → DetectsBy finds means stream set d → IsAfter d old before
     → IsAnswered d before job entry new
 
 -- the number of candidates of a job is told: whatever jobs the lane stood for, it is the definition's
 abbrev pub CountsTries : {P : Type 0} → (P → List ℕ → Option Span) → StreamConfig → Rules P → LaneState → Job → ℕ → Type 0
 CountsTries finds stream set old job tries =
-    (means : Means) (d : Detection) (before : List Job) → DetectsBy finds means stream set d → Stands d old before
+    (means : Means) (d : Detection) (before : List Job) → DetectsBy finds means stream set d → IsAfter d old before
     → tries ≡ answer_tries d before job
 
 -- the lane has done a job, by what it keeps: the flow of the job has one job more, and no other flow changes
 pub record HasDone (d : Detection) (old : LaneState) (job : Job) (new : LaneState) : Type 0 where
   pub flush : new.flush ≡ old.flush
   pub inserts : new.inserts ≡ old.inserts
-  pub flows : (flow : ℕ) → kept_of new flow ≡ (if is_of_flow flow job then kept_behind d (kept_of old flow) job
+  pub flows : (flow : ℕ) → kept_of new flow ≡ (if is_of_flow flow job then kept_after_one d (kept_of old flow) job
       else kept_of old flow)
 
 -- what the lane knows of any job's flow after a job: it has learnt of that job's own
@@ -152,10 +152,10 @@ AreNew count flush inserts lanes = lanes ≡ record {
 }
 
 -- the lanes stand for these jobs: each lane for those of its flows, and for no others
-pub record LanesStand (d : Detection) (lanes : LanesState) (before : List Job) : Type 0 where
+pub record AreAfter (d : Detection) (lanes : LanesState) (before : List Job) : Type 0 where
   pub some : 0 < length lanes.lanes
   pub each : (place : ℕ) (lane : LaneState) → slice_get lanes.lanes place ≡ Some lane
-      → Stands d lane (filter (is_in_lane (length lanes.lanes) place) before)
+      → IsAfter d lane (filter (is_in_lane (length lanes.lanes) place) before)
 
 -- what the lanes know of the flow of a job
 abbrev pub known_in : LanesState → Job → Option FlowFacts
@@ -184,12 +184,12 @@ pub record LearnsBatch (old : LanesState) (jobs : List Job) (new : LanesState) :
 pub record IsBatchAnswered (d : Detection) (before jobs : List Job) (out : BatchOut) (new : LanesState) : Type 0 where
   pub hits : out.hits ≡ along_from (answer d) before jobs
   pub tries : out.tries ≡ sum (along_from (answer_tries d) before jobs)
-  pub stands : LanesStand d new (before ++ jobs)
+  pub holds : AreAfter d new (before ++ jobs)
 
 abbrev pub AnswersBatch : {P : Type 0} → (P → List ℕ → Option Span) → StreamConfig → Rules P → LanesState → List Job → BatchOut
     → LanesState → Type 0
 AnswersBatch finds stream set old jobs out new =
-    (means : Means) (d : Detection) (before : List Job) → DetectsBy finds means stream set d → LanesStand d old before
+    (means : Means) (d : Detection) (before : List Job) → DetectsBy finds means stream set d → AreAfter d old before
     → IsBatchAnswered d before jobs out new
 
 -- a batch is searched: whatever jobs the lanes stood for, there is one entry a job in their order, with those of
@@ -199,12 +199,12 @@ pub record IsBatchSearched (d : Detection) (before jobs : List Job) (out : Match
   pub hits : out.hits.items ≡ map matched_entry (along_from (answer d) before jobs)
   pub items : out.items ≡ sum_by (λ (entry : JobHits). length entry.items) (along_from (answer d) before jobs)
   pub tries : out.tries ≡ sum (along_from (answer_tries d) before jobs)
-  pub stands : LanesStand d new (before ++ jobs)
+  pub holds : AreAfter d new (before ++ jobs)
 
 abbrev pub SearchesBatch : {P : Type 0} → (P → List ℕ → Option Span) → StreamConfig → Rules P → LanesState → List Job → Matches
     → LanesState → Type 0
 SearchesBatch finds stream set old jobs out new =
-    (means : Means) (d : Detection) (before : List Job) → DetectsBy finds means stream set d → LanesStand d old before
+    (means : Means) (d : Detection) (before : List Job) → DetectsBy finds means stream set d → AreAfter d old before
     → IsBatchSearched d before jobs out new
 
 -- memory was lacking: from then on no batch is answered

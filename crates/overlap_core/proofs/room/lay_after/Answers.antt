@@ -2,7 +2,7 @@
 use Rattle.std.proofs.Common.{◌≡◌, ◌+◌, ◌∷◌, [], ◌++◌, length, ap, ◌∙◌}
 use Rattle.overlap_core.specs.declared.segment.Bounds.{Bounds}
 use Rattle.overlap_core.specs.Rows.{part_of}
-use Rattle.overlap_core.proofs.room.lay_behind.Goals as goal
+use Rattle.overlap_core.proofs.room.lay_after.Goals as goal
 
 pub returns : goal.returns
 returns c =

@@ -7,9 +7,9 @@ use Rattle.piece_list.specs.declared.ring.Ring.{Ring}
 use Rattle.piece_list.specs.Linked.{first_place}
 
 -- the pointers lead to the sentinels and to the node at the place, and the length is right
-pub record Stands {T : Type 0} (ring : Ring T) (to_head to_tail here : Ptr) (len at : ℕ) : Type 0 where
+pub record Placed {T : Type 0} (ring : Ring T) (to_head to_tail here : Ptr) (len at : ℕ) : Type 0 where
   pub heads : to_head ≡ ring.head
   pub tails : to_tail ≡ ring.tail
   pub counts : len ≡ length ring.nodes
   pub within : at ≤ len
-  pub stands : here ≡ first_place (drop at ring.nodes) ring.tail
+  pub at_node : here ≡ first_place (drop at ring.nodes) ring.tail

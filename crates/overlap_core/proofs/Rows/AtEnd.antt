@@ -7,13 +7,13 @@ use Rattle.piece_list.specs.Pieces.{Pieces}
 use Rattle.overlap_core.specs.declared.queue.Queue.TheInside.{Inside}
 use Rattle.overlap_core.specs.declared.queue.Room.{Room}
 use Rattle.overlap_core.specs.declared.room.Buffers.{Buffers}
-use Rattle.overlap_core.specs.declared.room.Buffers.TheVariants.{Behind}
+use Rattle.overlap_core.specs.declared.room.Buffers.TheVariants.{AfterAll}
 use Rattle.overlap_core.specs.declared.segment.Bounds.{Bounds}
 use Rattle.overlap_core.specs.Inside.{IsRoom, state_of}
 use Rattle.overlap_core.specs.Overlap.{bounds_of, end_of}
 use Rattle.overlap_core.specs.Pieces.{IsRow, Piece, piece_end}
 use Rattle.overlap_core.specs.QueueState.{QueueState}
-use Rattle.overlap_core.specs.Rows.{BeginBelow, gap_piece, IsCutAt, IsRoomBehind, IsRoomFor, part_of}
+use Rattle.overlap_core.specs.Rows.{BeginBelow, gap_piece, IsCutAt, IsRoomAfter, IsRoomFor, part_of}
 use Rattle.overlap_core.specs.Segments.{Segment}
 use Rattle.overlap_core.proofs.Rows.Overlaying.{IsLaidOver}
 use Rattle.overlap_core.proofs.Rows.Telling.{end-below}
@@ -24,10 +24,10 @@ begin_below low high at [] row order = tt
 begin_below low high at (piece ∷ pieces) row order =
     let later = end-below (piece_end piece) high pieces row.2 in (omega (arith, later, row.1, order), begin_below (piece_end piece) high at pieces row.2 order)
 
-cut_behind : (low high at : ℕ) (pieces : List Piece) → IsRow low pieces high → high ≤ at → IsCutAt at pieces
-cut_behind low high at [] row order = tt
-cut_behind low high at (piece ∷ pieces) row order =
-    let later = end-below (piece_end piece) high pieces row.2 in (λ below. omega (arith, later, order), cut_behind (piece_end piece) high at pieces row.2 order)
+cut_after : (low high at : ℕ) (pieces : List Piece) → IsRow low pieces high → high ≤ at → IsCutAt at pieces
+cut_after low high at [] row order = tt
+cut_after low high at (piece ∷ pieces) row order =
+    let later = end-below (piece_end piece) high pieces row.2 in (λ below. omega (arith, later, order), cut_after (piece_end piece) high at pieces row.2 order)
 
 less : (m n : ℕ) → m < n → nat_lt m n ≡ true
 less m n order = grind (arith, nat_tests)
@@ -37,25 +37,25 @@ filled new low here some =
     ap (λ n. gap_piece new n (end_of new)) here ∙ ap (λ b. cond b (part_of new new.start (end_of new) ∷ []) []) (less new.start (end_of new) (omega (arith, some)))
 
 -- laying a segment after all pieces appends it
-pub laid_behind : (preference : Preference) (new : Segment) (floor top : ℕ) (old laid_over : List Piece) → IsRow floor old top → top ≤ new.start → 0 < length new.bytes → laid_over ≡ old ++ part_of new new.start (end_of new) ∷ []
+pub laid_after : (preference : Preference) (new : Segment) (floor top : ℕ) (old laid_over : List Piece) → IsRow floor old top → top ≤ new.start → 0 < length new.bytes → laid_over ≡ old ++ part_of new new.start (end_of new) ∷ []
     → IsLaidOver preference new floor old laid_over
-laid_behind preference new floor top old laid_over row behind some is =
+laid_after preference new floor top old laid_over row after some is =
     let order = end-below floor top old row in
-    let low : max floor new.start ≡ new.start = omega (arith, order, behind) in
+    let low : max floor new.start ≡ new.start = omega (arith, order, after) in
     record {
       front = old;
       rest = [];
       list = sym (append-nil old);
-      below = begin_below floor top (max floor new.start) old row (omega (arith, behind));
+      below = begin_below floor top (max floor new.start) old row (omega (arith, after));
       from = tt;
-      begins = cut_behind floor top (max floor new.start) old row (omega (arith, behind));
-      ends = cut_behind floor top (end_of new) old row (omega (arith, behind));
+      begins = cut_after floor top (max floor new.start) old row (omega (arith, after));
+      ends = cut_after floor top (end_of new) old row (omega (arith, after));
       is = is ∙ ap (λ ps. old ++ ps) (sym (filled new (max floor new.start) low some));
     }
 
 -- what room there is, by its buffers
-pub room_behind : (floor top : ℕ) (bounds : Bounds) (pieces : Pieces Piece) (buffers : Buffers) (buffer : List ℕ) → buffers ≡ Behind buffer → IsRoomFor floor top bounds pieces buffers → IsRoomBehind top bounds pieces buffer
-room_behind floor top bounds pieces buffers buffer is room = subst (λ (b : Buffers). IsRoomFor floor top bounds pieces b) is room
+pub room_after : (floor top : ℕ) (bounds : Bounds) (pieces : Pieces Piece) (buffers : Buffers) (buffer : List ℕ) → buffers ≡ AfterAll buffer → IsRoomFor floor top bounds pieces buffers → IsRoomAfter top bounds pieces buffer
+room_after floor top bounds pieces buffers buffer is room = subst (λ (b : Buffers). IsRoomFor floor top bounds pieces b) is room
 
 -- the room that there is was made for the segment that comes
 pub asked : (queue : Inside) (now : QueueState) (room : Room) (new : Segment) → state_of queue ≡ now → queue.room ≡ Some room → now.room ≡ Some (bounds_of new) → room.bounds ≡ bounds_of new
@@ -66,8 +66,8 @@ asked queue now room new view is wanted =
 
 pub room_asked : (floor top : ℕ) (pieces : Pieces Piece) (kept : Option Room) (room : Room) (new : Segment) → kept ≡ Some room → room.bounds ≡ bounds_of new → ForSome kept (IsRoom floor top pieces)
     → (0 < length new.bytes) × IsRoomFor floor top (bounds_of new) pieces room.buffers
-room_asked floor top pieces kept room new is bounds stands =
-    let ready : IsRoom floor top pieces room = stands room is in
+room_asked floor top pieces kept room new is bounds between =
+    let ready : IsRoom floor top pieces room = between room is in
     let start = ap (λ (b : Bounds). b.start) bounds in
     let ends = ap (λ (b : Bounds). b.end) bounds in
     (omega (arith, ready.some, start, ends), subst (λ (b : Bounds). IsRoomFor floor top b pieces room.buffers) bounds ready.ready)

@@ -10,7 +10,7 @@ use Rattle.event_filters.specs.declared.counting.Key.{Key}
 use Rattle.event_filters.specs.declared.counting.Window.{Window}
 use Rattle.event_filters.specs.Queue.{longest_content}
 use Rattle.event_filters.specs.Events.{Item, matches, match_key, match_line, own_place, global_place, event_key, event_line, arising, own_kept, kept}
-use Rattle.event_filters.specs.Windows.{Windows, window_at, StandFor}
+use Rattle.event_filters.specs.Windows.{Windows, window_at, AreAfter}
 
 -- what is kept: of each rule the size of its longest content and the places of its filters, and the windows
 pub record FiltersState : Type 0 where
@@ -29,10 +29,10 @@ IsGiven config rules items filters = record {
   sizes : filters.sizes ≡ map longest_content rules;
   own_places : filters.own_places ≡ map (own_place config.filters) rules;
   global_places : filters.global_places ≡ map (global_place config.filters) rules;
-  matches : StandFor (match_key rules) (match_line rules) (trail (λ before item. matches item) items) (window_at filters.matches);
-  own : StandFor (event_key (own_place config.filters) config.filters rules) (event_line config.filters)
+  matches : AreAfter (match_key rules) (match_line rules) (trail (λ before item. matches item) items) (window_at filters.matches);
+  own : AreAfter (event_key (own_place config.filters) config.filters rules) (event_line config.filters)
       (trail (arising config rules) items) (window_at filters.own);
-  global : StandFor (event_key (global_place config.filters) config.filters rules) (event_line config.filters)
+  global : AreAfter (event_key (global_place config.filters) config.filters rules) (event_line config.filters)
       (trail (own_kept config.filters rules) (trail (arising config rules) items)) (window_at filters.global);
 }
 

@@ -16,26 +16,26 @@ use Rattle.option_eval.specs.RuleSet.{RefusesText, RefusesOneOf}
 use Rattle.rule_types.specs.declared.option.Opt.{Opt}
 use Rattle.rule_types.specs.declared.option.Opt.TheVariants as opt
 use Rattle.rule_types.specs.declared.rule.Rule.{Rule}
-use Rattle.snort_setup.specs.Rules.{Frame, Standing, RulesEnd, end_at, nothing_stands, is_among, IsRule, LineGives, RulesGive, behind_line}
+use Rattle.snort_setup.specs.Rules.{Frame, RulesState, RulesEnd, end_at, nothing_read, is_among, IsRule, LineGives, RulesGive, after_line}
 use Rattle.snort_setup.specs.Answers.{IsPattern, HasPatternOf, IsRefusedLine, AreRefused}
 use Rattle.snort_setup.specs.Steps.{refused_one, grown_by, Grows}
 use Rattle.snort_setup.specs.Lines.{AsksOf, IsStep, StepGives, RulesAnswer}
 
 -- ---- the lines so far
 
-pub record SoFar (frame : Frame) (lines : List Line) (warnings : List (List ℕ)) (standing : Standing) (rest : List Line) (grown : List Refusal) : Type 0 where
+pub record SoFar (frame : Frame) (lines : List Line) (warnings : List (List ℕ)) (state : RulesState) (rest : List Line) (grown : List Refusal) : Type 0 where
   pub place : ℕ
   pub refused : List ℕ
   pub below : All (λ p. p < place) refused
   pub left : drop place lines ≡ rest
   pub goes : (later : List ℕ) → All (λ p. place ≤ p) later → (end : RulesEnd)
-      → RulesGive frame (refused ++ later) place standing rest end → RulesGive frame (refused ++ later) 0 (nothing_stands warnings) lines end
+      → RulesGive frame (refused ++ later) place state rest end → RulesGive frame (refused ++ later) 0 (nothing_read warnings) lines end
   pub are_refused : AreRefused frame lines refused grown
 
 -- no line was read yet
-pub sofar-none : (frame : Frame) (lines : List Line) (warnings : List (List ℕ)) (standing : Standing) (grown : List Refusal) → standing ≡ nothing_stands warnings
-    → SoFar frame lines warnings standing lines grown
-sofar-none frame lines warnings standing grown same = record {
+pub sofar-none : (frame : Frame) (lines : List Line) (warnings : List (List ℕ)) (state : RulesState) (grown : List Refusal) → state ≡ nothing_read warnings
+    → SoFar frame lines warnings state lines grown
+sofar-none frame lines warnings state grown same = record {
   place = 0;
   refused = [];
   below = All-nil (λ p. p < 0);
@@ -77,7 +77,7 @@ pub at-place : {X : Type 0} (place : ℕ) (lines : List X) (line : X) (rest : Li
 at-place {X} zero [] line rest left = let never : [] ≡ line ∷ rest = left in cc
 at-place {X} zero (x ∷ xs) line rest left = let same : x ∷ xs ≡ line ∷ rest = left in (cc, cc)
 at-place {X} (suc n) [] line rest left = let never : [] ≡ line ∷ rest = left in cc
-at-place {X} (suc n) (x ∷ xs) line rest left = let (at, behind) = at-place n xs line rest left in (at, rw add-one (rw add-one at behind))
+at-place {X} (suc n) (x ∷ xs) line rest left = let (at, after) = at-place n xs line rest left in (at, rw add-one (rw add-one at after))
 
 -- ---- what the maker refused
 
@@ -122,34 +122,34 @@ grows-grows first old new a b =
 
 -- ---- one line
 
-go-on : (before : Standing) (r : Result Standing (List ℕ)) (behind : Standing) (P : Standing → Type 0) (Q : List ℕ → Type 0) → IsStep before r behind None → P behind → MatchResult r P Q
-go-on before (Ok next) behind P Q (same, none) p = subst P same p
-go-on before (Err message) behind P Q (rules, warnings, some) p = let never : None ≡ Some message = some in cc
+go-on : (before : RulesState) (r : Result RulesState (List ℕ)) (after : RulesState) (P : RulesState → Type 0) (Q : List ℕ → Type 0) → IsStep before r after None → P after → MatchResult r P Q
+go-on before (Ok next) after P Q (same, none) p = subst P same p
+go-on before (Err message) after P Q (rules, warnings, some) p = let never : None ≡ Some message = some in cc
 
-stop-at : (before : Standing) (r : Result Standing (List ℕ)) (behind : Standing) (message : List ℕ) (P : Standing → Type 0) → IsStep before r behind (Some message)
-    → MatchResult r P (λ error. end_at behind (Some message) ≡ end_at before (Some error))
-stop-at before (Ok next) behind message P (same, some) = let never : Some message ≡ None = some in cc
-stop-at before (Err error) behind message P (rules, warnings, some) = cc
+stop-at : (before : RulesState) (r : Result RulesState (List ℕ)) (after : RulesState) (message : List ℕ) (P : RulesState → Type 0) → IsStep before r after (Some message)
+    → MatchResult r P (λ error. end_at after (Some message) ≡ end_at before (Some error))
+stop-at before (Ok next) after message P (same, some) = let never : Some message ≡ None = some in cc
+stop-at before (Err error) after message P (rules, warnings, some) = cc
 
-given-on : (frame : Frame) (all : List ℕ) (place : ℕ) (b : Bool) (before behind : Standing) (line : Line) (rest : List Line) (end : RulesEnd) → is_among all place ≡ b
-    → StepGives frame line before b behind None → RulesGive frame all (place + 1) behind rest end → RulesGive frame all place before (line ∷ rest) end
+given-on : (frame : Frame) (all : List ℕ) (place : ℕ) (b : Bool) (before after : RulesState) (line : Line) (rest : List Line) (end : RulesEnd) → is_among all place ≡ b
+    → StepGives frame line before b after None → RulesGive frame all (place + 1) after rest end → RulesGive frame all place before (line ∷ rest) end
 unfolding RulesGive
-given-on frame all place b before behind line rest end same (verdict, gives, step) given =
-    (verdict, subst (λ c. LineGives frame before c line.text verdict) (sym same) gives, go-on before (behind_line frame line before verdict) behind (λ next. RulesGive frame all (place + 1) next rest end) _ step given)
+given-on frame all place b before after line rest end same (verdict, gives, step) given =
+    (verdict, subst (λ c. LineGives frame before c line.text verdict) (sym same) gives, go-on before (after_line frame line before verdict) after (λ next. RulesGive frame all (place + 1) next rest end) _ step given)
 
-given-stop : (frame : Frame) (all : List ℕ) (place : ℕ) (b : Bool) (before behind : Standing) (line : Line) (rest : List Line) (message : List ℕ) → is_among all place ≡ b
-    → StepGives frame line before b behind (Some message) → RulesGive frame all place before (line ∷ rest) (end_at behind (Some message))
+given-stop : (frame : Frame) (all : List ℕ) (place : ℕ) (b : Bool) (before after : RulesState) (line : Line) (rest : List Line) (message : List ℕ) → is_among all place ≡ b
+    → StepGives frame line before b after (Some message) → RulesGive frame all place before (line ∷ rest) (end_at after (Some message))
 unfolding RulesGive
-given-stop frame all place b before behind line rest message same (verdict, gives, step) =
-    (verdict, subst (λ c. LineGives frame before c line.text verdict) (sym same) gives, stop-at before (behind_line frame line before verdict) behind message _ step)
+given-stop frame all place b before after line rest message same (verdict, gives, step) =
+    (verdict, subst (λ c. LineGives frame before c line.text verdict) (sym same) gives, stop-at before (after_line frame line before verdict) after message _ step)
 
-given-none : (frame : Frame) (all : List ℕ) (place : ℕ) (standing : Standing) → RulesGive frame all place standing [] (end_at standing None)
+given-none : (frame : Frame) (all : List ℕ) (place : ℕ) (state : RulesState) → RulesGive frame all place state [] (end_at state None)
 unfolding RulesGive
-given-none frame all place standing = refl
+given-none frame all place state = refl
 
 -- ---- the lines so far and one more
 
-module _ (frame : Frame) (lines : List Line) (warnings : List (List ℕ)) (first old new : List Refusal) (before behind : Standing) (line : Line) (rest : List Line) (grew_before : Grows first old) (grew : Grows old new)
+module _ (frame : Frame) (lines : List Line) (warnings : List (List ℕ)) (first old new : List Refusal) (before after : RulesState) (line : Line) (rest : List Line) (grew_before : Grows first old) (grew : Grows old new)
     (so : SoFar frame lines warnings before (line ∷ rest) (grown_by first old)) (asks : AsksOf frame before.names line.text old new) where
   at : (slice_get lines so.place ≡ Some line) × (drop (so.place + 1) lines ≡ rest)
   at = at-place so.place lines line rest so.left
@@ -180,82 +180,82 @@ module _ (frame : Frame) (lines : List Line) (warnings : List (List ℕ)) (first
         few = omega (arith, so.are_refused.few, ap length (grown-grown first old new grew_before grew), length-append (grown_by first old) (grown_by old new), length-append so.refused (so.place ∷ []), asks-length frame before.names line.text old new grew one);
       }
 
-  onward-no : refused_one old new ≡ false → StepGives frame line before false behind None → SoFar frame lines warnings behind rest (grown_by first new)
+  onward-no : refused_one old new ≡ false → StepGives frame line before false after None → SoFar frame lines warnings after rest (grown_by first new)
   onward-no none step = record {
     place = so.place + 1;
     refused = so.refused;
     below = lower;
     left = at.1;
     goes = λ later above end given. so.goes later (higher later above) end
-        (given-on frame (so.refused ++ later) so.place false before behind line rest end (among-no so.place so.refused later so.below above) step given);
+        (given-on frame (so.refused ++ later) so.place false before after line rest end (among-no so.place so.refused later so.below above) step given);
     are_refused = kept;
   }
 
-  onward-yes : refused_one old new ≡ true → StepGives frame line before true behind None → SoFar frame lines warnings behind rest (grown_by first new)
+  onward-yes : refused_one old new ≡ true → StepGives frame line before true after None → SoFar frame lines warnings after rest (grown_by first new)
   onward-yes some step = record {
     place = so.place + 1;
     refused = so.refused ++ so.place ∷ [];
     below = All-push (λ p. p < so.place + 1) so.refused so.place lower (omega arith);
     left = at.1;
     goes = λ later above end given.
-        let whole : RulesGive frame (so.refused ++ so.place ∷ later) (so.place + 1) behind rest end = subst (λ all. RulesGive frame all (so.place + 1) behind rest end) (same-all later) given in
-        let on = given-on frame (so.refused ++ so.place ∷ later) so.place true before behind line rest end (among-yes so.place so.refused later) step whole in
+        let whole : RulesGive frame (so.refused ++ so.place ∷ later) (so.place + 1) after rest end = subst (λ all. RulesGive frame all (so.place + 1) after rest end) (same-all later) given in
+        let on = given-on frame (so.refused ++ so.place ∷ later) so.place true before after line rest end (among-yes so.place so.refused later) step whole in
         let from = so.goes (so.place ∷ later) (All-cons (λ p. so.place ≤ p) so.place later (omega arith) (higher later above)) end on in
-        subst (λ all. RulesGive frame all 0 (nothing_stands warnings) lines end) (sym (same-all later)) from;
+        subst (λ all. RulesGive frame all 0 (nothing_read warnings) lines end) (sym (same-all later)) from;
     are_refused = one-more some;
   }
 
-  pub onward : StepGives frame line before (refused_one old new) behind None → SoFar frame lines warnings behind rest (grown_by first new)
+  pub onward : StepGives frame line before (refused_one old new) after None → SoFar frame lines warnings after rest (grown_by first new)
   onward step = go (refused_one old new) refl step where
-    go : (b : Bool) → refused_one old new ≡ b → StepGives frame line before b behind None → SoFar frame lines warnings behind rest (grown_by first new)
+    go : (b : Bool) → refused_one old new ≡ b → StepGives frame line before b after None → SoFar frame lines warnings after rest (grown_by first new)
     go false is s = onward-no is s
     go true is s = onward-yes is s
 
-  stopped-no : (message : List ℕ) → refused_one old new ≡ false → StepGives frame line before false behind (Some message) → RulesAnswer frame lines warnings (grown_by first new) (end_at behind (Some message))
+  stopped-no : (message : List ℕ) → refused_one old new ≡ false → StepGives frame line before false after (Some message) → RulesAnswer frame lines warnings (grown_by first new) (end_at after (Some message))
   stopped-no message none step = record {
     refused = so.refused;
     are_refused = kept;
     gives =
         let all = so.refused ++ [] in
-        let last = given-stop frame all so.place false before behind line rest message (among-no so.place so.refused [] so.below (All-nil (λ p. so.place + 1 ≤ p))) step in
-        let from = so.goes [] (All-nil (λ p. so.place ≤ p)) (end_at behind (Some message)) last in
-        subst (λ all. RulesGive frame all 0 (nothing_stands warnings) lines (end_at behind (Some message))) (append-nil so.refused) from;
+        let last = given-stop frame all so.place false before after line rest message (among-no so.place so.refused [] so.below (All-nil (λ p. so.place + 1 ≤ p))) step in
+        let from = so.goes [] (All-nil (λ p. so.place ≤ p)) (end_at after (Some message)) last in
+        subst (λ all. RulesGive frame all 0 (nothing_read warnings) lines (end_at after (Some message))) (append-nil so.refused) from;
   }
 
-  stopped-yes : (message : List ℕ) → refused_one old new ≡ true → StepGives frame line before true behind (Some message) → RulesAnswer frame lines warnings (grown_by first new) (end_at behind (Some message))
+  stopped-yes : (message : List ℕ) → refused_one old new ≡ true → StepGives frame line before true after (Some message) → RulesAnswer frame lines warnings (grown_by first new) (end_at after (Some message))
   stopped-yes message some step = record {
     refused = so.refused ++ so.place ∷ [];
     are_refused = one-more some;
     gives =
-        let last = given-stop frame (so.refused ++ so.place ∷ []) so.place true before behind line rest message (among-yes so.place so.refused []) step in
-        so.goes (so.place ∷ []) (All-cons (λ p. so.place ≤ p) so.place [] (omega arith) (All-nil (λ p. so.place ≤ p))) (end_at behind (Some message)) last;
+        let last = given-stop frame (so.refused ++ so.place ∷ []) so.place true before after line rest message (among-yes so.place so.refused []) step in
+        so.goes (so.place ∷ []) (All-cons (λ p. so.place ≤ p) so.place [] (omega arith) (All-nil (λ p. so.place ≤ p))) (end_at after (Some message)) last;
   }
 
-  pub stopped : (message : List ℕ) → StepGives frame line before (refused_one old new) behind (Some message) → RulesAnswer frame lines warnings (grown_by first new) (end_at behind (Some message))
+  pub stopped : (message : List ℕ) → StepGives frame line before (refused_one old new) after (Some message) → RulesAnswer frame lines warnings (grown_by first new) (end_at after (Some message))
   stopped message step = go (refused_one old new) refl step where
-    go : (b : Bool) → refused_one old new ≡ b → StepGives frame line before b behind (Some message) → RulesAnswer frame lines warnings (grown_by first new) (end_at behind (Some message))
+    go : (b : Bool) → refused_one old new ≡ b → StepGives frame line before b after (Some message) → RulesAnswer frame lines warnings (grown_by first new) (end_at after (Some message))
     go false is s = stopped-no message is s
     go true is s = stopped-yes message is s
 
   -- by the error that there is, if there is one
-  pub onward-at : (refusal : Option (List ℕ)) → is_some refusal ≡ false → StepGives frame line before (refused_one old new) behind refusal → SoFar frame lines warnings behind rest (grown_by first new)
+  pub onward-at : (refusal : Option (List ℕ)) → is_some refusal ≡ false → StepGives frame line before (refused_one old new) after refusal → SoFar frame lines warnings after rest (grown_by first new)
   onward-at None none step = onward step
   onward-at (Some message) none step = absurd (false≢true (sym none))
 
-  pub stopped-at : (refusal : Option (List ℕ)) → is_some refusal ≡ true → StepGives frame line before (refused_one old new) behind refusal → RulesAnswer frame lines warnings (grown_by first new) (end_at behind refusal)
+  pub stopped-at : (refusal : Option (List ℕ)) → is_some refusal ≡ true → StepGives frame line before (refused_one old new) after refusal → RulesAnswer frame lines warnings (grown_by first new) (end_at after refusal)
   stopped-at None is step = absurd (false≢true is)
   stopped-at (Some message) is step = stopped message step
 
 -- all lines were read
-pub finished : (frame : Frame) (lines : List Line) (warnings : List (List ℕ)) (standing : Standing) (grown : List Refusal) → SoFar frame lines warnings standing [] grown → RulesAnswer frame lines warnings grown (end_at standing None)
-finished frame lines warnings standing grown so = record {
+pub finished : (frame : Frame) (lines : List Line) (warnings : List (List ℕ)) (state : RulesState) (grown : List Refusal) → SoFar frame lines warnings state [] grown → RulesAnswer frame lines warnings grown (end_at state None)
+finished frame lines warnings state grown so = record {
   refused = so.refused;
   are_refused = so.are_refused;
-  gives = subst (λ all. RulesGive frame all 0 (nothing_stands warnings) lines (end_at standing None)) (append-nil so.refused)
-      (so.goes [] (All-nil (λ p. so.place ≤ p)) (end_at standing None) (given-none frame (so.refused ++ []) so.place standing));
+  gives = subst (λ all. RulesGive frame all 0 (nothing_read warnings) lines (end_at state None)) (append-nil so.refused)
+      (so.goes [] (All-nil (λ p. so.place ≤ p)) (end_at state None) (given-none frame (so.refused ++ []) so.place state));
 }
 
-pub finished-at : (frame : Frame) (lines : List Line) (warnings : List (List ℕ)) (standing : Standing) (rest : List Line) (grown : List Refusal) → length rest ≡ 0 → SoFar frame lines warnings standing rest grown
-    → RulesAnswer frame lines warnings grown (end_at standing None)
-finished-at frame lines warnings standing [] grown none so = finished frame lines warnings standing grown so
-finished-at frame lines warnings standing (line ∷ rest) grown none so = absurd (omega arith)
+pub finished-at : (frame : Frame) (lines : List Line) (warnings : List (List ℕ)) (state : RulesState) (rest : List Line) (grown : List Refusal) → length rest ≡ 0 → SoFar frame lines warnings state rest grown
+    → RulesAnswer frame lines warnings grown (end_at state None)
+finished-at frame lines warnings state [] grown none so = finished frame lines warnings state grown so
+finished-at frame lines warnings state (line ∷ rest) grown none so = absurd (omega arith)

@@ -4,13 +4,13 @@ use Rattle.std.proofs.lemmas.Result.{err_from_is_err_and}
 use Rattle.edge_io.specs.Told.{before}
 use Rattle.edge_io.specs.Files.{left_by}
 use Rattle.pcap_input.specs.Savefile.{captured_length}
-use Rattle.pcap_input.proofs.Laws.{behind_too_long}
+use Rattle.pcap_input.proofs.Laws.{after_too_long}
 use Rattle.pcap_input.proofs.Pieces.Steps.{too_long_fewer, less_gives, less_fewer, whole_gives, whole_takes, record_made}
-use Rattle.pcap_input.proofs.reader.read_behind.Goals as goal
+use Rattle.pcap_input.proofs.reader.read_after.Goals as goal
 
 pub returns-then-len-gt-LONGEST-clause-gives : goal.returns-then-len-gt-LONGEST-clause-gives
 returns-then-len-gt-LONGEST-clause-gives g c = λ seen may. λ rest told.
-    rw c.captured-len.ensures (behind_too_long c.args.head c.args.number c.args.at c.args.header.now rest (omega arith))
+    rw c.captured-len.ensures (after_too_long c.args.head c.args.number c.args.at c.args.header.now rest (omega arith))
 
 pub returns-in_err-bytes-clause-gives : goal.returns-in_err-bytes-clause-gives
 returns-in_err-bytes-clause-gives g c = λ seen may.
