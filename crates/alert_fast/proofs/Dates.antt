@@ -46,7 +46,11 @@ next_in_month number date h lt = record {
   counted = omega (arith, signed_arith, days_from_civil-day (pos date.year) date.month date.day (date.day + 1) h.day_from (omega arith), h.counted);
 }
 
-first_of_month : (number : ℕ) (date : CivilDate) → IsCounted number date → days_in_month date.year date.month ≤ date.day → date.month < 12 → IsCounted (suc number) (record { year = date.year; month = date.month + 1; day = 1 })
+first_of_month : (number : ℕ) (date : CivilDate)
+    → IsCounted number date
+    → days_in_month date.year date.month ≤ date.day
+    → date.month < 12
+    → IsCounted (suc number) (record { year = date.year; month = date.month + 1; day = 1 })
 first_of_month number date h le lt = record {
   from_1970 = h.from_1970;
   month_from = omega arith;
@@ -56,7 +60,11 @@ first_of_month number date h le lt = record {
   counted = omega (arith, signed_arith, days_from_civil-next_month (pos date.year) date.month date.day h.month_from (omega arith), h.counted);
 }
 
-first_of_year : (number : ℕ) (date : CivilDate) → IsCounted number date → days_in_month date.year date.month ≤ date.day → 12 ≤ date.month → IsCounted (suc number) (record { year = date.year + 1; month = 1; day = 1 })
+first_of_year : (number : ℕ) (date : CivilDate)
+    → IsCounted number date
+    → days_in_month date.year date.month ≤ date.day
+    → 12 ≤ date.month
+    → IsCounted (suc number) (record { year = date.year + 1; month = 1; day = 1 })
 first_of_year number date h le last =
     let december : date.month ≡ 12 = omega arith in
     let days : days_in_month date.year date.month ≡ 31 = rw december refl in
@@ -126,7 +134,14 @@ pub date_of-epoch_day : (date : Date) (number : ℕ) → number ≤ 2_932_896 �
 date_of-epoch_day date number le same =
     let h = date_of_counted number in
     let late = year_of_counted number (date_of number) h le in
-    let own : Date = record { year = pos (date_of number).year; month = (date_of number).month; day = (date_of number).day; year_in = omega (arith, signed_arith); month_in = (h.month_from, h.month_to); day_in = (h.day_from, h.day_to) } in
+    let own : Date = record {
+      year = pos (date_of number).year;
+      month = (date_of number).month;
+      day = (date_of number).day;
+      year_in = omega (arith, signed_arith);
+      month_in = (h.month_from, h.month_to);
+      day_in = (h.day_from, h.day_to);
+    } in
     let parts = epoch_day_injective date own (same ∙ sym h.counted) in
     record { year = parts.0; month = parts.1; day = parts.2; small = omega arith }
 

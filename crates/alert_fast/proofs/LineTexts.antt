@@ -9,10 +9,22 @@ use Rattle.packet_decode.specs.declared.item.ItemHead.{ItemHead}
 use Rattle.rule_types.specs.declared.rule.Rule.{Rule}
 use Rattle.alert_fast.specs.Calendar.{date_of}
 use Rattle.alert_fast.specs.Pieces.{digits}
-use Rattle.alert_fast.specs.Line.{time_text, date_text, clock_text, rule_mark, marked_msg, class_text, priority_text, protocol_text, dotted_text, address_text, source_port, destination_port, port_text, line_text}
+use Rattle.alert_fast.specs.Line.{time_text, date_text, clock_text, rule_mark, marked_msg, class_text, priority_text}
+use Rattle.alert_fast.specs.Line.{protocol_text, dotted_text, address_text, source_port, destination_port, port_text, line_text}
 
-pub time_text-pieces : (nanos month day hour minute second micros : ℕ) → month ≡ (date_of (nanos / 86_400_000_000_000)).month → day ≡ (date_of (nanos / 86_400_000_000_000)).day → hour ≡ nanos / 3_600_000_000_000 % 24 → minute ≡ nanos / 60_000_000_000 % 60 → second ≡ nanos / 1_000_000_000 % 60 → micros ≡ nanos / 1_000 % 1_000_000 →
-    digits 2 month ++ (47 ∷ (digits 2 day ++ (45 ∷ (digits 2 hour ++ (58 ∷ (digits 2 minute ++ (58 ∷ (digits 2 second ++ (46 ∷ (digits 6 micros ++ (32 ∷ 32 ∷ []))))))))))) ≡ time_text nanos ++ codes "  "
+pub time_text-pieces : (nanos month day hour minute second micros : ℕ)
+    → month ≡ (date_of (nanos / 86_400_000_000_000)).month
+    → day ≡ (date_of (nanos / 86_400_000_000_000)).day
+    → hour ≡ nanos / 3_600_000_000_000 % 24
+    → minute ≡ nanos / 60_000_000_000 % 60
+    → second ≡ nanos / 1_000_000_000 % 60
+    → micros ≡ nanos / 1_000 % 1_000_000
+    → digits 2 month ++
+    (47 ∷
+    (digits 2 day ++
+    (45 ∷
+    (digits 2 hour ++ (58 ∷ (digits 2 minute ++ (58 ∷ (digits 2 second ++ (46 ∷ (digits 6 micros ++ (32 ∷ 32 ∷ []))))))))))) ≡
+    time_text nanos ++ codes "  "
 unfolding time_text date_text clock_text
 time_text-pieces nanos month day hour minute second micros m d h n s u =
     rw (m, d, h, n, s, u) (simp (append_assoc, append-nil))

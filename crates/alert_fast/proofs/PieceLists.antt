@@ -18,7 +18,11 @@ pieces_text-take pieces i d lt =
     ∙ ap (λ (x : List ℕ). pieces_text (take i pieces) ++ x) (append-nil (piece_text (get_or pieces i d)))
 
 -- the pieces so far were appended, and then one more
-pub appended_more : (old middle new : List ℕ) (pieces : List Piece) (i : ℕ) (d : Piece) → i < length pieces → middle ≡ old ++ pieces_text (take i pieces) → new ≡ middle ++ piece_text (get_or pieces i d) → new ≡ old ++ pieces_text (take (i + 1) pieces)
+pub appended_more : (old middle new : List ℕ) (pieces : List Piece) (i : ℕ) (d : Piece)
+    → i < length pieces
+    → middle ≡ old ++ pieces_text (take i pieces)
+    → new ≡ middle ++ piece_text (get_or pieces i d)
+    → new ≡ old ++ pieces_text (take (i + 1) pieces)
 appended_more old middle new pieces i d lt so_far more =
     more ∙ ap (λ (x : List ℕ). x ++ piece_text (get_or pieces i d)) so_far
     ∙ append_assoc old (pieces_text (take i pieces)) (piece_text (get_or pieces i d))

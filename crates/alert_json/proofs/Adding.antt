@@ -53,7 +53,11 @@ text_member old mid new key text named written = member old mid new key (string 
 pub text-same : (old new : List Token) (key text other : List ℕ) → text ≡ other → Adds old new (text_field key text) → Adds old new (text_field key other)
 text-same old new key text other same h = subst (λ (t : List ℕ). Adds old new (text_field key t)) same h
 
-pub number_member : (old mid new : List Token) (key : List ℕ) (value : ℕ) → mid ≡ old ++ Token.key key ∷ [] → new ≡ mid ++ Token.number (decimal value) ∷ [] → value < 2 ^ 64 → Adds old new (number_field key value)
+pub number_member : (old mid new : List Token) (key : List ℕ) (value : ℕ)
+    → mid ≡ old ++ Token.key key ∷ []
+    → new ≡ mid ++ Token.number (decimal value) ∷ []
+    → value < 2 ^ 64
+    → Adds old new (number_field key value)
 number_member old mid new key value named written small = member old mid new key (number (unsigned value)) named written small
 
 -- the tokens of an object's members, with the closing bracket
@@ -69,7 +73,11 @@ whole-members [] h = tt
 whole-members (f ∷ fs) h = (h.0, whole-members fs h.1)
 
 -- an object: its brackets, and its members between them
-pub object_tokens : (old opened filled new : List Token) (fields : List Field) → opened ≡ old ++ Token.begin_object ∷ [] → Adds opened filled fields → new ≡ filled ++ Token.end_object ∷ [] → new ≡ old ++ json_tokens (outline (object_of fields))
+pub object_tokens : (old opened filled new : List Token) (fields : List Field)
+    → opened ≡ old ++ Token.begin_object ∷ []
+    → Adds opened filled fields
+    → new ≡ filled ++ Token.end_object ∷ []
+    → new ≡ old ++ json_tokens (outline (object_of fields))
 object_tokens old opened filled new fields begun between ended =
     ended
     ∙ ap (λ (ts : List Token). ts ++ Token.end_object ∷ []) (between.added ∙ ap (λ (ts : List Token). ts ++ fields_tokens fields) begun)
@@ -78,6 +86,11 @@ object_tokens old opened filled new fields begun between ended =
     ∙ ap (λ (ts : List Token). old ++ Token.begin_object ∷ ts) (sym (members_tokens-fields fields))
 
 -- a member whose value is an object
-pub object_member : (old named opened filled new : List Token) (key : List ℕ) (fields : List Field) → named ≡ old ++ Token.key key ∷ [] → opened ≡ named ++ Token.begin_object ∷ [] → Adds opened filled fields → new ≡ filled ++ Token.end_object ∷ [] → Adds old new (object_field key fields)
+pub object_member : (old named opened filled new : List Token) (key : List ℕ) (fields : List Field)
+    → named ≡ old ++ Token.key key ∷ []
+    → opened ≡ named ++ Token.begin_object ∷ []
+    → Adds opened filled fields
+    → new ≡ filled ++ Token.end_object ∷ []
+    → Adds old new (object_field key fields)
 object_member old named opened filled new key fields first begun between ended =
     member old named new key (object_of fields) first (object_tokens named opened filled new fields begun between ended) (whole-members fields between.whole)

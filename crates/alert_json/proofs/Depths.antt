@@ -10,7 +10,9 @@ use Rattle.alert_json.specs.Facts.{AlertFacts, PacketFacts, EventFacts, RunFacts
 use Rattle.alert_json.specs.Texts.{text_of, printable_text}
 use Rattle.alert_json.specs.Stamps.{timestamp_text}
 use Rattle.alert_json.specs.FlowNumbers.{community_id, flow_number}
-use Rattle.alert_json.specs.Value.{Field, members_of, text_field, number_field, object_field, maybe_text, maybe_number, source_port, target_port, message_kind, message_code, protocol_name, action, severity, time_fields, flow_fields, alert_fields, packet_fields, run_fields, event_fields}
+use Rattle.alert_json.specs.Value.{Field, members_of, text_field, number_field, object_field, maybe_text, maybe_number}
+use Rattle.alert_json.specs.Value.{source_port, target_port, message_kind, message_code, protocol_name, action, severity}
+use Rattle.alert_json.specs.Value.{time_fields, flow_fields, alert_fields, packet_fields, run_fields, event_fields}
 
 -- the values of members nest no deeper
 abbrev pub Low : ℕ → List Field → Type 0

@@ -93,7 +93,9 @@ abbrev pub back : Flow → ℕ → ℕ → Flow
 back flow sport dport = record { protocol = flow.protocol; src = flow.dst; dst = flow.src; pair = Ports dport sport }
 
 -- both directions of a flow with ports have the same community ID and the same number
-pub directions_are_one : (seed : ℕ) (flow : Flow) (sport dport : ℕ) → AreAlike flow.src flow.dst → community_hash seed (back flow sport dport) (Ports dport sport) ≡ community_hash seed flow (Ports sport dport)
+pub directions_are_one : (seed : ℕ) (flow : Flow) (sport dport : ℕ)
+    → AreAlike flow.src flow.dst
+    → community_hash seed (back flow sport dport) (Ports dport sport) ≡ community_hash seed flow (Ports sport dport)
 unfolding community_hash turned
 directions_are_one seed flow sport dport alike = ap (λ (ends : Ends). Some (port_hash seed flow.protocol ends)) (in_order-turned (ends_of flow sport dport) alike)
 

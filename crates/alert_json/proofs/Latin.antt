@@ -6,7 +6,11 @@ use Rattle.std.proofs.lemmas.List.{take_more}
 use Rattle.std.proofs.lemmas.Str.{encodes-append, IsUtf8-from_is_utf8, is_utf8-from_IsUtf8}
 use Rattle.alert_json.specs.Texts.{text_of}
 
-pub latin_more : (middle new bytes : List ℕ) (i d : ℕ) → i < length bytes → middle ≡ encode_utf8_all (take i bytes) → new ≡ middle ++ encode_utf8 (get_or bytes i d) → new ≡ encode_utf8_all (take (i + 1) bytes)
+pub latin_more : (middle new bytes : List ℕ) (i d : ℕ)
+    → i < length bytes
+    → middle ≡ encode_utf8_all (take i bytes)
+    → new ≡ middle ++ encode_utf8 (get_or bytes i d)
+    → new ≡ encode_utf8_all (take (i + 1) bytes)
 latin_more middle new bytes i d lt so_far more =
     more ∙ ap (λ (x : List ℕ). x ++ encode_utf8 (get_or bytes i d)) so_far
     ∙ ap (λ (x : List ℕ). encode_utf8_all (take i bytes) ++ x) (sym (append-nil (encode_utf8 (get_or bytes i d))))

@@ -25,7 +25,12 @@ pub record WritesObject (fields : List Field) (ended : List Token) : Type 0 wher
   pub between : Adds opened filled fields
   pub closed : ended ≡ filled ++ Token.end_object ∷ []
 
-pub writes : (fields : List Field) (start opened filled ended : List Token) → start ≡ [] → opened ≡ start ++ Token.begin_object ∷ [] → Adds opened filled fields → ended ≡ filled ++ Token.end_object ∷ [] → WritesObject fields ended
+pub writes : (fields : List Field) (start opened filled ended : List Token)
+    → start ≡ []
+    → opened ≡ start ++ Token.begin_object ∷ []
+    → Adds opened filled fields
+    → ended ≡ filled ++ Token.end_object ∷ []
+    → WritesObject fields ended
 writes fields start opened filled ended none begun between closed = record {
   start = start;
   opened = opened;

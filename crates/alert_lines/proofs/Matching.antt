@@ -63,14 +63,24 @@ module _ (config : Config) (rules : List Rule) where
   after : (b : Bool) (item : Hits) → is_matched item ≡ b → (before : List Hits) → matched (before ++ item ∷ []) ≡ matched before ++ cond b (item ∷ []) []
   after b item is before = filter-append is_matched before (item ∷ []) ∙ ap (λ c. matched before ++ cond c (item ∷ []) []) is
 
-  carried-matched : (before other : List Hits) (items : List SourcedItem) → matched before ≡ matched other → carried (item_events config rules) before items ≡ carried (item_events config rules) other (matched_sourced items)
+  carried-matched : (before other : List Hits) (items : List SourcedItem)
+      → matched before ≡ matched other
+      → carried (item_events config rules) before items ≡ carried (item_events config rules) other (matched_sourced items)
   carried-matched before other [] same = refl
-  carried-matched before other (b ∷ items) same = by_test (is_matched b.what) refl (λ (at : List Hits) (left : matched (before ++ b.what ∷ []) ≡ matched at). carried-matched (before ++ b.what ∷ []) at items left)
+  carried-matched before other (b ∷ items) same =
+      by_test (is_matched b.what) refl
+      (λ (at : List Hits) (left : matched (before ++ b.what ∷ []) ≡ matched at). carried-matched
+      (before ++ b.what ∷ []) at items left)
     where
-      by_test : (t : Bool) → is_matched b.what ≡ t
-          → ((at : List Hits) → matched (before ++ b.what ∷ []) ≡ matched at → carried (item_events config rules) (before ++ b.what ∷ []) items ≡ carried (item_events config rules) at (matched_sourced items))
-          → map (beside b.source) (item_events config rules before b.what) ++ carried (item_events config rules) (before ++ b.what ∷ []) items
-          ≡ carried (item_events config rules) other (cond (is_matched b.what) (b ∷ matched_sourced items) (matched_sourced items))
+      by_test : (t : Bool)
+          → is_matched b.what ≡ t
+          → ((at : List Hits) → matched (before ++ b.what ∷ []) ≡ matched at →
+          carried (item_events config rules) (before ++ b.what ∷ []) items ≡
+          carried (item_events config rules) at (matched_sourced items))
+          → map (beside b.source) (item_events config rules before b.what) ++
+          carried (item_events config rules) (before ++ b.what ∷ []) items
+          ≡ carried (item_events config rules) other
+          (cond (is_matched b.what) (b ∷ matched_sourced items) (matched_sourced items))
       by_test true is rest =
           let both : matched (before ++ b.what ∷ []) ≡ matched (other ++ b.what ∷ []) = after true b.what is before ∙ ap (λ front. front ++ b.what ∷ []) same ∙ sym (after true b.what is other) in
           (λ i. map (beside b.source) (item_events-same config rules before other b.what same i) ++ rest (other ++ b.what ∷ []) both i)
@@ -82,7 +92,8 @@ module _ (config : Config) (rules : List Rule) where
           ∙ ap (λ c. carried (item_events config rules) other (cond c (b ∷ matched_sourced items) (matched_sourced items))) (sym is)
 
 -- the lines of items are those of the items that a rule matches
-items_lines-matched : (form : Form) (config : Config) (rules : List Rule) (before : List Hits) (items : List SourcedItem) → items_lines form config rules before items ≡ items_lines form config rules before (matched_sourced items)
+items_lines-matched : (form : Form) (config : Config) (rules : List Rule) (before : List Hits) (items : List SourcedItem)
+    → items_lines form config rules before items ≡ items_lines form config rules before (matched_sourced items)
 unfolding items_lines
 items_lines-matched form config rules before items =
     ap (texts_from (text_of form config.classes) (length (trail (item_events config rules) before))) (carried-matched config rules before before items refl)
@@ -92,7 +103,11 @@ matched-twice : (items : List Hits) → matched (matched items) ≡ matched item
 matched-twice [] = refl
 matched-twice (item ∷ items) = by_test (is_matched item) refl (matched-twice items)
   where
-    by_test : (b : Bool) → is_matched item ≡ b → matched (matched items) ≡ matched items → matched (cond (is_matched item) (item ∷ matched items) (matched items)) ≡ cond (is_matched item) (item ∷ matched items) (matched items)
+    by_test : (b : Bool)
+        → is_matched item ≡ b
+        → matched (matched items) ≡ matched items
+        → matched (cond (is_matched item) (item ∷ matched items) (matched items)) ≡
+        cond (is_matched item) (item ∷ matched items) (matched items)
     by_test true is rest =
         ap (λ c. matched (cond c (item ∷ matched items) (matched items))) is
         ∙ ap (λ c. cond c (item ∷ matched (matched items)) (matched (matched items))) is
@@ -107,7 +122,10 @@ whats-matched : (items : List SourcedItem) → whats (matched_sourced items) ≡
 whats-matched [] = refl
 whats-matched (b ∷ items) = by_test (is_matched b.what) (whats-matched items)
   where
-    by_test : (t : Bool) → whats (matched_sourced items) ≡ matched (whats items) → whats (cond t (b ∷ matched_sourced items) (matched_sourced items)) ≡ cond t (b.what ∷ matched (whats items)) (matched (whats items))
+    by_test : (t : Bool)
+        → whats (matched_sourced items) ≡ matched (whats items)
+        → whats (cond t (b ∷ matched_sourced items) (matched_sourced items)) ≡
+        cond t (b.what ∷ matched (whats items)) (matched (whats items))
     by_test true rest = ap (λ (later : List Hits). b.what ∷ later) rest
     by_test false rest = rest
 
@@ -177,7 +195,9 @@ beside-matched source (item ∷ items) = by_test (is_matched item) (beside-match
     by_test true rest = ap (λ (later : List SourcedItem). beside source item ∷ later) rest
     by_test false rest = rest
 
-told-matched : (source : ℕ → LinkedRecord) (place : ℕ) (jobs : List JobHits) → sourced_items (by_place source place (map matched_entry jobs)) ≡ matched_sourced (sourced_items (by_place source place jobs))
+told-matched : (source : ℕ → LinkedRecord) (place : ℕ) (jobs : List JobHits)
+    → sourced_items (by_place source place (map matched_entry jobs)) ≡
+    matched_sourced (sourced_items (by_place source place jobs))
 told-matched source place [] = refl
 told-matched source place (job ∷ jobs) =
     (λ i. beside-matched (source place) job.items i ++ told-matched source (place + 1) jobs i)
@@ -187,10 +207,14 @@ length-told : (source : ℕ → LinkedRecord) (place : ℕ) (jobs : List JobHits
 length-told source place [] = refl
 length-told source place (job ∷ jobs) =
     let own : List SourcedItem = map (beside (source place)) job.items in
-    let joined : length (own ++ sourced_items (by_place source (place + 1) jobs)) ≡ length own + length (sourced_items (by_place source (place + 1) jobs)) = length-append own (sourced_items (by_place source (place + 1) jobs)) in
+    let joined : length (own ++ sourced_items (by_place source (place + 1) jobs))
+    ≡ length own + length (sourced_items (by_place source (place + 1) jobs)) =
+    length-append own (sourced_items (by_place source (place + 1) jobs)) in
     let sized : length own ≡ length job.items = length-map job.items (beside (source place)) in
     let rest = length-told source (place + 1) jobs in
-    let summed : sum_by (λ (j : JobHits). length j.items) (job ∷ jobs) ≡ sum_by (λ (j : JobHits). length j.items) (job ∷ []) + sum_by (λ (j : JobHits). length j.items) jobs = sum_by-append (λ (j : JobHits). length j.items) (job ∷ []) jobs in
+    let summed : sum_by (λ (j : JobHits). length j.items) (job ∷ jobs)
+    ≡ sum_by (λ (j : JobHits). length j.items) (job ∷ []) + sum_by (λ (j : JobHits). length j.items) jobs =
+    sum_by-append (λ (j : JobHits). length j.items) (job ∷ []) jobs in
     omega (arith, joined, sized, rest, summed)
 
 -- ---- the matches of jobs
@@ -206,7 +230,9 @@ matches_lines : (form : Form) (config : Config) (rules : List Rule) (source : �
 matches_lines form config rules source found before jobs are =
     items_lines-matched form config rules before (sourced_items (by_place source 0 jobs)) ∙ ap (items_lines form config rules before) (sym (few_of_all source found jobs are))
 
-pub shows_matches : (form : Form) (config : Config) (rules : List Rule) (source : ℕ → LinkedRecord) (found : Matches) (old new : Showing) (done : Unit {0}) (count : ℕ) → count ≡ old.writer.tally.items + found.items
+pub shows_matches : (form : Form) (config : Config) (rules : List Rule) (source : ℕ → LinkedRecord) (found : Matches)
+    (old new : Showing) (done : Unit {0}) (count : ℕ)
+    → count ≡ old.writer.tally.items + found.items
     → Shows (shown_in form config rules) (sourced_items (by_place source 0 found.hits.items)) old new (Ok done)
     → ShowsMatches {A = Unit {0}} (shown_in form config rules) source found old (with_items new count) (Ok tt)
 shows_matches form config rules source found old new done count counted shows = record {

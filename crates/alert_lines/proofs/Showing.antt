@@ -1,5 +1,6 @@
 -- Lines of items that are made one after another.
-use Rattle.std.proofs.Common.{◌≡◌, ℕ, ◌+◌, ◌<◌, List, [], ◌∷◌, ◌++◌, Option, Some, None, Result, Ok, Err, length, get_or, take, drop, map, refl, sym, ap, subst, append_assoc, ◌∙◌, arith, slice_get, length-append, zero-add}
+use Rattle.std.proofs.Common.{◌≡◌, ℕ, ◌+◌, ◌<◌, List, [], ◌∷◌, ◌++◌, Option, Some, None, Result, Ok, Err, length, get_or, take}
+use Rattle.std.proofs.Common.{drop, map, refl, sym, ap, subst, append_assoc, ◌∙◌, arith, slice_get, length-append, zero-add}
 use Rattle.std.specs.Prelude.{All, OnOk, ⊤}
 use Rattle.std.specs.Option.{ForSome, option_map, option_to_list}
 use Rattle.std.specs.List.{flat_map}
@@ -222,8 +223,11 @@ tally_of-more config rules before hits count old is counted =
     let found : old.hits ≡ hit_count before = ap (λ (t : Tally). t.hits) is in
     let alerts : old.alerts ≡ length (trail (item_events config rules) before) = ap (λ (t : Tally). t.alerts) is in
     let own : List Event = item_events config rules before hits in
-    let joined = ap length (sym (trail-more (item_events config rules) before hits)) ∙ length-append (trail (item_events config rules) before) own in
-    same_tally (old.items + 1) (length (before ++ hits ∷ [])) (old.hits + length hits.rules) (hit_count (before ++ hits ∷ [])) (old.alerts + count) (length (trail (item_events config rules) (before ++ hits ∷ [])))
+    let joined =
+    ap length (sym (trail-more (item_events config rules) before hits))
+    ∙ length-append (trail (item_events config rules) before) own in
+    same_tally (old.items + 1) (length (before ++ hits ∷ [])) (old.hits + length hits.rules) (hit_count (before ++ hits ∷ []))
+    (old.alerts + count) (length (trail (item_events config rules) (before ++ hits ∷ [])))
     (let l = length-append before (hits ∷ []) in omega (arith, items, l))
     (ap (λ (n : ℕ). n + length hits.rules) found ∙ ap (λ (n : ℕ). hit_count before + n) (sym (zero-add (length hits.rules)))
     ∙ sym (sum_by-append (λ (h : Hits). length h.rules) before (hits ∷ [])))
@@ -307,7 +311,13 @@ pub shows_then : (form : Form) (config : Config) (rules : List Rule) (front back
     → Shows (shown_in form config rules) front old middle (Ok done) → Shows (shown_in form config rules) back middle new outcome → Shows (shown_in form config rules) (front ++ back) old new outcome
 shows_then form config rules front back old middle new done outcome one two = record {
   holds = by_outcome outcome two.holds;
-  emits = emits_then one.emits two.emits (λ before. (before, record { items = before.items ++ whats front; hold = one.holds before.items before.hold }, items_lines-append form config rules before.items front back));
+  emits =
+      emits_then one.emits two.emits
+      (λ before. (
+        before,
+        record { items = before.items ++ whats front; hold = one.holds before.items before.hold },
+        items_lines-append form config rules before.items front back,
+      ));
 }
   where
     by_outcome : (so : Result (Unit {0}) WriteFault)
@@ -336,9 +346,12 @@ items_more source items i hits lt is =
     ∙ ap (map (beside source)) (ap (λ (h : Hits). take i items ++ h ∷ []) is ∙ sym (take_more items i hits lt))
 
 -- the items so far came, and then the next one
-pub items_step : (form : Form) (config : Config) (rules : List Rule) (source : LinkedRecord) (items : List Hits) (i : ℕ) (hits : Hits) (old middle new : Showing) (done : Unit {0}) (outcome : Result (Unit {0}) WriteFault)
-    → i < length items → hits ≡ get_or items i hits
-    → Shows (shown_in form config rules) (map (beside source) (take i items)) old middle (Ok done) → Shows (shown_in form config rules) (beside source hits ∷ []) middle new outcome
+pub items_step : (form : Form) (config : Config) (rules : List Rule) (source : LinkedRecord) (items : List Hits) (i : ℕ)
+    (hits : Hits) (old middle new : Showing) (done : Unit {0}) (outcome : Result (Unit {0}) WriteFault)
+    → i < length items
+    → hits ≡ get_or items i hits
+    → Shows (shown_in form config rules) (map (beside source) (take i items)) old middle (Ok done)
+    → Shows (shown_in form config rules) (beside source hits ∷ []) middle new outcome
     → Shows (shown_in form config rules) (map (beside source) (take (i + 1) items)) old new outcome
 items_step form config rules source items i hits old middle new done outcome lt is so_far more =
     subst (λ (x : List SourcedItem). Shows (shown_in form config rules) x old new outcome) (items_more source items i hits lt is)
@@ -374,8 +387,10 @@ told_more source jobs i job lt is =
     ∙ ap sourced_items (sym (by_place-append source 0 front (job ∷ [])))
     ∙ ap (told_of source) (ap (λ (j : JobHits). front ++ j ∷ []) is ∙ sym (take_more jobs i job lt))
 
-pub jobs_step : (form : Form) (config : Config) (rules : List Rule) (source : ℕ → LinkedRecord) (jobs : List JobHits) (i : ℕ) (job : JobHits) (old middle new : Showing) (done : Unit {0}) (outcome : Result (Unit {0}) WriteFault)
-    → i < length jobs → job ≡ get_or jobs i job
+pub jobs_step : (form : Form) (config : Config) (rules : List Rule) (source : ℕ → LinkedRecord) (jobs : List JobHits) (i : ℕ)
+    (job : JobHits) (old middle new : Showing) (done : Unit {0}) (outcome : Result (Unit {0}) WriteFault)
+    → i < length jobs
+    → job ≡ get_or jobs i job
     → Shows (shown_in form config rules) (sourced_items (by_place source 0 (take i jobs))) old middle (Ok done)
     → Shows (shown_in form config rules) (map (beside (source i)) job.items) middle new outcome
     → Shows (shown_in form config rules) (sourced_items (by_place source 0 (take (i + 1) jobs))) old new outcome
@@ -383,8 +398,10 @@ jobs_step form config rules source jobs i job old middle new done outcome lt is 
     subst (λ (x : List SourcedItem). Shows (shown_in form config rules) x old new outcome) (told_more source jobs i job lt is)
     (shows_then form config rules (told_of source (take i jobs)) (map (beside (source i)) job.items) old middle new done outcome so_far more)
 
-pub jobs_part : (form : Form) (config : Config) (rules : List Rule) (source : ℕ → LinkedRecord) (jobs : List JobHits) (i : ℕ) (job : JobHits) (old middle new : Showing) (done : Unit {0}) (why : WriteFault)
-    → i < length jobs → job ≡ get_or jobs i job
+pub jobs_part : (form : Form) (config : Config) (rules : List Rule) (source : ℕ → LinkedRecord) (jobs : List JobHits) (i : ℕ)
+    (job : JobHits) (old middle new : Showing) (done : Unit {0}) (why : WriteFault)
+    → i < length jobs
+    → job ≡ get_or jobs i job
     → Shows (shown_in form config rules) (sourced_items (by_place source 0 (take i jobs))) old middle (Ok done)
     → Shows {A = Unit {0}} (shown_in form config rules) (map (beside (source i)) job.items) middle new (Err why)
     → Shows {A = Unit {0}} (shown_in form config rules) (sourced_items (by_place source 0 jobs)) old new (Err why)

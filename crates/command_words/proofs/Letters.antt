@@ -73,9 +73,14 @@ module _ {X : Type 0} (known : List Choice) (all : AllFound known known) (out : 
       let flags : Text = encode_utf8_all (x ∷ xs) in
       let here : slice_get (chars flags) 0 ≡ Some x = ap (λ (cs : List ℕ). slice_get cs 0) (chars-encodes (x ∷ xs) scalars) in
       let left : drop (length (encode_utf8 x)) flags ≡ encode_utf8_all xs = drop_at (encode_utf8 x) (encode_utf8_all xs) _ refl in
-      ap (λ (o : Option ℕ). guard (bundle_step_fault c false o flags 0 h (flags_fault c false k)) (out_of (bundle_step c o flags 0 so_far h (bundle_met c k)))) here
-      ∙ ap₂ (λ (a : Option Rule) (rest : Text). guard (short_fault c false a rest h (flags_fault c false k rest 0)) (out_of (short_met c a rest h (bundle_met c k rest 0 done)))) (by_short known x) left
-      ∙ letter_step (find (λ choice. is_letter x choice.label) known) xs (letters_uses known xs) (flags_fault c false k (encode_utf8_all xs) 0) (bundle_met c k (encode_utf8_all xs) 0 done) following rows pending
+      ap (λ (o : Option ℕ). guard (bundle_step_fault c false o flags 0 h (flags_fault c false k))
+      (out_of (bundle_step c o flags 0 so_far h (bundle_met c k)))) here
+      ∙ ap₂ (λ (a : Option Rule) (rest : Text). guard (short_fault c false a rest h (flags_fault c false k rest 0))
+      (out_of (short_met c a rest h (bundle_met c k rest 0 done)))) (by_short known x) left
+      ∙ letter_step (find (λ choice. is_letter x choice.label) known) xs
+      (letters_uses known xs)
+      (flags_fault c false k (encode_utf8_all xs) 0)
+      (bundle_met c k (encode_utf8_all xs) 0 done) following rows pending
       (λ choice e. found_is known (λ choice. is_letter x choice.label) known choice all e)
 
   -- the letters after a flag

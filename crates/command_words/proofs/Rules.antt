@@ -47,11 +47,17 @@ or_false : (b : Bool) → (b || false) ≡ b
 or_false true = refl
 or_false false = refl
 
-has_long_is : (text : Text) (label : Label) (takes : Bool) → (not (is_some (rule (record { label = label; takes_value = takes })).index) && has_long (rule (record { label = label; takes_value = takes })) text) ≡ is_name text label
+has_long_is : (text : Text) (label : Label) (takes : Bool)
+    → (not (is_some (rule (record { label = label; takes_value = takes })).index) &&
+    has_long (rule (record { label = label; takes_value = takes })) text) ≡
+    is_name text label
 has_long_is text (letter x) takes = refl
 has_long_is text (name other) takes = or_false (bytes_eq other text)
 
-has_short_is : (x : ℕ) (label : Label) (takes : Bool) → (not (is_some (rule (record { label = label; takes_value = takes })).index) && has_short (rule (record { label = label; takes_value = takes })) x) ≡ is_letter x label
+has_short_is : (x : ℕ) (label : Label) (takes : Bool)
+    → (not (is_some (rule (record { label = label; takes_value = takes })).index) &&
+    has_short (rule (record { label = label; takes_value = takes })) x) ≡
+    is_letter x label
 has_short_is x (letter y) takes = or_false _
 has_short_is x (name other) takes = refl
 

@@ -9,7 +9,9 @@ use Rattle.std.proofs.lemmas.Option.{option_and_then_some, cond_some}
 use Rattle.net_lists.specs.Addresses.{cut}
 use Rattle.net_lists.specs.Numbers.{whole_number, kept_in, number_in}
 use Rattle.net_lists.specs.Variables.{IsName, is_name}
-use Rattle.command_words.specs.CommandLine.{Asked, help, version, records_of, run, Run, Defined, maybe, named, definition, has_its_capture, is_console, mode_named, number_or, run_with, asked_by, asked_of, first_asked, run_by, values_after, values_by, command_line, has_others}
+use Rattle.command_words.specs.CommandLine.{Asked, help, version, records_of, run, Run, Defined, maybe, named, definition}
+use Rattle.command_words.specs.CommandLine.{has_its_capture, is_console, mode_named, number_or, run_with, asked_by, asked_of}
+use Rattle.command_words.specs.CommandLine.{first_asked, run_by, values_after, values_by, command_line, has_others}
 use Rattle.command_words.specs.Table.{table}
 use Rattle.command_words.specs.Uses.{Use, uses_of, value_in}
 use Rattle.command_words.specs.declared.values.Values.{Values}

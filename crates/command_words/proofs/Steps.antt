@@ -34,9 +34,11 @@ module _ {X : Type 0} (known : List Choice) (out : Held → Outcome → Option X
   c = rules known
 
   -- an option, with its value or without
-  pub option_step : (label : Label) (value : Option Text) (rows : List Row) (pending : Option (Text × List Text)) → IsFound known (record { label = label; takes_value = true })
+  pub option_step : (label : Label) (value : Option Text) (rows : List Row) (pending : Option (Text × List Text))
+      → IsFound known (record { label = label; takes_value = true })
       → guard (option_fault c false (rule (record { label = label; takes_value = true })) value (held rows pending))
-      (out (option_met c (rule (record { label = label; takes_value = true })) value (held rows pending)).0 (option_met c (rule (record { label = label; takes_value = true })) value (held rows pending)).1)
+      (out (option_met c (rule (record { label = label; takes_value = true })) value (held rows pending)).0
+      (option_met c (rule (record { label = label; takes_value = true })) value (held rows pending)).1)
       ≡ after_word next c (held rows pending) (Some (option_uses (record { label = label; takes_value = true }) value))
   option_step label (Some value) rows pending found =
       let a : Rule = rule (record { label = label; takes_value = true }) in
@@ -61,9 +63,11 @@ module _ {X : Type 0} (known : List Choice) (out : Held → Outcome → Option X
       ∙ ap (λ (f : List Row → Option X). settle c (held rows pending) >>= f) (λ i r. flag_used label r after i)
 
   -- `--name` or `--name=value`
-  name_found : (label : Label) (takes : Bool) (value : Option Text) (rows : List Row) (pending : Option (Text × List Text)) → IsFound known (record { label = label; takes_value = takes })
+  name_found : (label : Label) (takes : Bool) (value : Option Text) (rows : List Row) (pending : Option (Text × List Text))
+      → IsFound known (record { label = label; takes_value = takes })
       → guard (long_fault c false (Some (rule (record { label = label; takes_value = takes }))) value (held rows pending))
-      (out (long_met c (Some (rule (record { label = label; takes_value = takes }))) value (held rows pending)).0 (long_met c (Some (rule (record { label = label; takes_value = takes }))) value (held rows pending)).1)
+      (out (long_met c (Some (rule (record { label = label; takes_value = takes }))) value (held rows pending)).0
+      (long_met c (Some (rule (record { label = label; takes_value = takes }))) value (held rows pending)).1)
       ≡ after_word next c (held rows pending) (name_uses (Some (record { label = label; takes_value = takes })) value)
   name_found label true value rows pending found = option_step label value rows pending found
   name_found label false (Some value) rows pending found = sym (bind-none (settle c (held rows pending)))

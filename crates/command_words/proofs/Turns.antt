@@ -92,5 +92,9 @@ trailed known h waiting [] = sym (bind_some (settle (rules known) h))
     bind_some (Some rows) = refl
 trailed known h waiting (word ∷ rest) =
     turned known (at h waiting true) word rest
-    ∙ ap (λ (a : Option Rule). guard (option_map_or (λ x. Rattle.clap.specs.Faults.positional_fault (rules known) false x h) a (Rattle.clap.specs.Faults.stray_fault (shape known))) (ending known (walked (rules known) [] (at h waiting true) word) rest)) (by_index known 1)
+    ∙ ap (λ (a : Option Rule). guard
+    (option_map_or (λ x. Rattle.clap.specs.Faults.positional_fault (rules known) false x h) a
+    (Rattle.clap.specs.Faults.stray_fault (shape known)))
+    (ending known (walked (rules known) [] (at h waiting true) word) rest))
+    (by_index known 1)
     ∙ sym (bind-none (settle (rules known) h))

@@ -1,5 +1,6 @@
 -- The uses in the words, as clap's walk ends.
-use Rattle.std.proofs.Common.{◌≡◌, ◌∙◌, ◌≤◌, ◌<◌, ◌&&◌, ℕ, zero, suc, Bool, cond, true, false, not, refl, sym, ap, subst, List, [], ◌∷◌, ◌++◌, length, Option, Some, None, codes, arith, true≢false, eqb-true, ◌==◌}
+use Rattle.std.proofs.Common.{◌≡◌, ◌∙◌, ◌≤◌, ◌<◌, ◌&&◌, ℕ, zero, suc, Bool, cond, true, false, not, refl, sym, ap, subst, List}
+use Rattle.std.proofs.Common.{[], ◌∷◌, ◌++◌, length, Option, Some, None, codes, arith, true≢false, eqb-true, ◌==◌}
 use Rattle.std.specs.Prelude.{IsUtf8, chars, option_and_then, option_map, find, is_some, encode_utf8_all, nat_lt, unwrap_or}
 use Rattle.std.specs.Option.{option_map_or}
 use Rattle.std.specs.Str.{bytes_eq}
@@ -61,10 +62,12 @@ module _ (known : List Choice) (all : AllFound known known) (waiting : Waiting) 
   letters_are [] flags n scalars is nonempty fits = absurd (omega arith)
   letters_are (x ∷ xs) flags zero scalars is nonempty fits = absurd (omega arith)
   letters_are (x ∷ xs) flags (suc k) scalars is nonempty fits =
-      ap (λ (text : Text). guard (flags_fault (rules known) false (suc k) text 0 h) (out (bundle_met (rules known) (suc k) text 0 plain h).0 (bundle_met (rules known) (suc k) text 0 plain h).1)) (sym is)
+      ap (λ (text : Text). guard (flags_fault (rules known) false (suc k) text 0 h)
+      (out (bundle_met (rules known) (suc k) text 0 plain h).0 (bundle_met (rules known) (suc k) text 0 plain h).1)) (sym is)
       ∙ first_letter known all out next none some k x xs plain rows pending scalars
       (more_letters known all out next none some k xs (Rattle.clap.proofs.WalkLemmas.both _ _ scalars).1 (omega arith))
-      ∙ ap (λ (cs : List ℕ). after_word next (rules known) h (letters_uses known cs)) (sym (chars-encodes (x ∷ xs) scalars) ∙ ap chars is)
+      ∙ ap (λ (cs : List ℕ). after_word next (rules known) h (letters_uses known cs))
+      (sym (chars-encodes (x ∷ xs) scalars) ∙ ap chars is)
 
   by_letters : (flags : Text) → IsUtf8 flags → 0 < length flags → parts known false None (Some flags) waiting word h rest ≡ after_word next (rules known) h (word_uses known None (Some flags))
   by_letters flags text nonempty =
@@ -117,13 +120,21 @@ module _ (known : List Choice) (all : AllFound known known) where
   all_joined rest word h = ap (λ (f : List Row → Option (List Row)). settle (rules known) h >>= f) (λ i r. joined rest word r i)
 
   -- a word where no option waits, by whether it is `--`, its name and its letters
-  idle_word : (word : Text) (rest : List Text) (b : Bool) (long : Option (Text × Option Text)) (short : Option Text) (rows : List Row) (pending : Option (Text × List Text)) → IsUtf8 word
+  idle_word : (word : Text) (rest : List Text) (b : Bool) (long : Option (Text × Option Text)) (short : Option Text)
+      (rows : List Row) (pending : Option (Text × List Text))
+      → IsUtf8 word
       → short_of word ≡ short
       → ((r : List Row) → ending known (at (held r None) idle false) rest ≡ plain_next rest None r)
       → ((choice : Choice) → IsFound known choice → choice.takes_value ≡ true → (r : List Row)
-      → ending known (at (held r (Some (text_of choice.label, []))) (option (text_of choice.label)) false) rest ≡ plain_next rest (Some choice) r)
+      → ending known (at (held r (Some (text_of choice.label, []))) (option (text_of choice.label)) false) rest ≡
+      plain_next rest (Some choice) r)
       → parts known b long short idle word (held rows pending) rest
-      ≡ (settle (rules known) (held rows pending) >>= λ r. cond b (if_last rest) (word_uses known long short >>= λ reading. option_map (λ uses. reading.uses ++ uses) (uses_in known reading.waiting rest)) >>= λ uses. add_all uses r)
+      ≡ (settle (rules known) (held rows pending) >>=
+      λ r.
+      cond b (if_last rest)
+      (word_uses known long short >>=
+      λ reading. option_map (λ uses. reading.uses ++ uses) (uses_in known reading.waiting rest)) >>=
+      λ uses. add_all uses r)
   idle_word word rest true long short rows pending text is none some = trailed known (held rows pending) idle rest
   idle_word word rest false (Some p) short rows pending text is none some =
       by_name known all idle word rest (plain_next rest) none some rows pending p short ∙ all_joined rest (word_uses known (Some p) short) (held rows pending)

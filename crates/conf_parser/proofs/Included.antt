@@ -1,6 +1,8 @@
 -- A file that a line includes may be read: its name is UTF-8 where the including file's is, and fewer files than
 -- the most were read.
-use Rattle.std.proofs.Common.{◌≡◌, ℕ, zero, suc, ◌+◌, ◌-◌, ◌<◌, ◌≤◌, ◌==◌, not, Bool, true, false, cond, List, [], ◌∷◌, ◌++◌, length, get_or, take, Option, Some, None, Result, Ok, Err, refl, sym, ap, subst, ◌∙◌, arith, eqb-true}
+use Rattle.std.proofs.Common.{◌≡◌, ℕ, zero, suc, ◌+◌, ◌-◌, ◌<◌, ◌≤◌, ◌==◌, not, Bool, true, false, cond, List, [], ◌∷◌, ◌++◌}
+use Rattle.std.proofs.Common.{length, get_or, take, Option, Some, None, Result, Ok, Err, refl, sym, ap, subst, ◌∙◌, arith}
+use Rattle.std.proofs.Common.{eqb-true}
 use Rattle.std.specs.Prelude.{IfOk, nat_le}
 use Rattle.std.specs.List.{suffix_len}
 use Rattle.std.specs.Str.{IsUtf8, is_utf8}
@@ -25,7 +27,9 @@ use Rattle.conf_parser.specs.Spots.{Spot}
 use Rattle.conf_parser.specs.Names.{directive_named, config_name, preprocessor_name}
 use Rattle.conf_parser.specs.Variables.{definition, directory, is_rooted, beside, within_files, is_file_name, include}
 use Rattle.conf_parser.specs.Events.{event_filter, suppress}
-use Rattle.conf_parser.specs.ConfLine.{silent, drafted, with_variables, definition_line, include_line, skipped, config_value, after_draft, named_or_skipped, config_line, preprocessor_draft, preprocessor_line, filter_line, suppress_line, directive_line, conf_line}
+use Rattle.conf_parser.specs.ConfLine.{silent, drafted, with_variables, definition_line, include_line, skipped, config_value}
+use Rattle.conf_parser.specs.ConfLine.{after_draft, named_or_skipped, config_line, preprocessor_draft, preprocessor_line}
+use Rattle.conf_parser.specs.ConfLine.{filter_line, suppress_line, directive_line, conf_line}
 use Rattle.conf_parser.specs.Steps.{MayBeRead, MayGive}
 
 -- ---- names
@@ -137,7 +141,9 @@ Fine count after = MayGive count after.given
 drafted-fine : (count : ℕ) (settings : Settings) (r : Result Draft ConfKind) → IfOk (after_draft settings r) (Fine count)
 drafted-fine count settings r = mapped_if (λ d. Unit {0}) (Fine count) (λ draft. silent (drafted settings draft)) r (any_if r) (λ d _. tt)
 
-named-fine : {N : Type 0} (count : ℕ) (settings : Settings) (word name : List ℕ) (known : Option N) (read : N → Result Draft ConfKind) → IfOk (named_or_skipped settings word name known read) (Fine count)
+named-fine : {N : Type 0} (count : ℕ) (settings : Settings) (word name : List ℕ) (known : Option N)
+    (read : N → Result Draft ConfKind)
+    → IfOk (named_or_skipped settings word name known read) (Fine count)
 named-fine count settings word name None read = tt
 named-fine count settings word name (Some n) read = drafted-fine count settings (read n)
 

@@ -13,14 +13,18 @@ joined_onto-joined_onto n k front line [] = refl
 joined_onto-joined_onto n k front line (next ∷ rest) = ap (λ text. numbered n text ∷ rest) (sym (append_assoc front line next.text))
 
 -- a line that ends in a backslash belongs to the front
-pub joined_onto-open : (n k : ℕ) (front line : List ℕ) (more : List (List ℕ)) → is_open line ≡ true → joined_onto n front (joined_lines k (line ∷ more)) ≡ joined_onto n (front ++ without_last line) (joined_lines (k + 1) more)
+pub joined_onto-open : (n k : ℕ) (front line : List ℕ) (more : List (List ℕ))
+    → is_open line ≡ true
+    → joined_onto n front (joined_lines k (line ∷ more)) ≡ joined_onto n (front ++ without_last line) (joined_lines (k + 1) more)
 unfolding joined_lines
 joined_onto-open n k front line more goes_on =
     ap (λ b. joined_onto n front (cond b (joined_onto k (without_last line) (joined_lines (k + 1) more)) (numbered k line ∷ joined_lines (k + 1) more))) goes_on
     ∙ joined_onto-joined_onto n k front (without_last line) (joined_lines (k + 1) more)
 
 -- any other line ends the joined one
-pub joined_onto-closed : (n k : ℕ) (front line : List ℕ) (more : List (List ℕ)) → is_open line ≡ false → joined_onto n front (joined_lines k (line ∷ more)) ≡ numbered n (front ++ line) ∷ joined_lines (k + 1) more
+pub joined_onto-closed : (n k : ℕ) (front line : List ℕ) (more : List (List ℕ))
+    → is_open line ≡ false
+    → joined_onto n front (joined_lines k (line ∷ more)) ≡ numbered n (front ++ line) ∷ joined_lines (k + 1) more
 unfolding joined_lines
 joined_onto-closed n k front line more closed =
     ap (λ b. joined_onto n front (cond b (joined_onto k (without_last line) (joined_lines (k + 1) more)) (numbered k line ∷ joined_lines (k + 1) more))) closed
@@ -35,7 +39,9 @@ pub joined_lines-begin : (n : ℕ) (line : List ℕ) (more : List (List ℕ)) �
 unfolding joined_lines
 joined_lines-begin n line more = go (is_open line) (joined_lines (n + 1) more)
   where
-    go : (b : Bool) (rest : List Numbered) → joined_onto n [] (cond b (joined_onto n (without_last line) rest) (numbered n line ∷ rest)) ≡ cond b (joined_onto n (without_last line) rest) (numbered n line ∷ rest)
+    go : (b : Bool) (rest : List Numbered)
+        → joined_onto n [] (cond b (joined_onto n (without_last line) rest) (numbered n line ∷ rest)) ≡
+        cond b (joined_onto n (without_last line) rest) (numbered n line ∷ rest)
     go true [] = refl
     go true (next ∷ rest) = refl
     go false rest = refl

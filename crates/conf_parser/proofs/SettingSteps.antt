@@ -10,7 +10,10 @@ module _ {D : Type 0} (alone : List ℕ → Bool) (step : D → List ℕ → Opt
   abbrev pub after_words : D → List (List ℕ) → Result D ConfKind
   after_words draft words = draft_after (λ d setting. step d setting.name setting.value) draft (paired alone words)
 
-  pub after_words-next : (draft next : D) (words rest : List (List ℕ)) (name : List ℕ) (value : Option (List ℕ)) → paired alone words ≡ setting name value ∷ paired alone rest → step draft name value ≡ Ok next → after_words draft words ≡ after_words next rest
+  pub after_words-next : (draft next : D) (words rest : List (List ℕ)) (name : List ℕ) (value : Option (List ℕ))
+      → paired alone words ≡ setting name value ∷ paired alone rest
+      → step draft name value ≡ Ok next
+      → after_words draft words ≡ after_words next rest
   after_words-next draft next words rest name value begins ok =
       ap (λ settings. draft_after (λ d s. step d s.name s.value) draft settings) begins
       ∙ draft_after-ok (λ d (s : Setting). step d s.name s.value) draft next (setting name value) (paired alone rest) ok

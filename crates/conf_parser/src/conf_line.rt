@@ -8,7 +8,7 @@ use crate::config_lines::{checksum_mode, classification, detection, event_queue}
 use crate::draft::{Draft, Settings, Spot};
 use crate::events::{event_filter, suppress};
 use crate::frag3::{frag3_engine, frag3_global};
-use crate::given::{Onward, Given};
+use crate::given::{Given, Onward};
 use crate::line::ConfKind;
 use crate::name::{
     ConfigName, Directive, PreprocessorName, config_name, directive_named, preprocessor_name,

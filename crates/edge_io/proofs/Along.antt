@@ -89,7 +89,8 @@ pub trail-more : {X A : Type 0} (f : List X → X → List A) (before : List X) 
 trail-more f before x = ap (λ answers. trail f before ++ answers) (sym (append-nil (f before x))) ∙ pipe_more f before (x ∷ [])
 
 -- a stage over what the stage before it gives is one stage
-pub trail_from-chained : {X B A : Type 0} (g : List B → B → List A) (f : List X → X → List B) (before xs : List X) → trail_from g (trail f before) (trail_from f before xs) ≡ trail_from (chained g f) before xs
+pub trail_from-chained : {X B A : Type 0} (g : List B → B → List A) (f : List X → X → List B) (before xs : List X)
+    → trail_from g (trail f before) (trail_from f before xs) ≡ trail_from (chained g f) before xs
 trail_from-chained g f before [] = refl
 trail_from-chained g f before (x ∷ xs) =
     trail_from-append g (trail f before) (f before x) (trail_from f (before ++ x ∷ []) xs)
@@ -135,8 +136,13 @@ along_from-class {X} {A} same keep f local by_class before (x ∷ xs) = by_case 
         ∙ ap (λ b. f b x) (filter-filter (same x) keep (λ y there. sym (by_class x y there) ∙ is) before)
         ∙ sym (local before x)
 
-    by_case : (b : Bool) → keep x ≡ b → along_from f (filter keep (before ++ x ∷ [])) (filter keep xs) ≡ kept
-        → along_from f (filter keep before) (cond b (x ∷ filter keep xs) (filter keep xs)) ≡ map (λ p. p.1) (cond b ((x, f before x) ∷ filter (λ p. keep p.0) (along_from (told f) (before ++ x ∷ []) xs)) (filter (λ p. keep p.0) (along_from (told f) (before ++ x ∷ []) xs)))
+    by_case : (b : Bool)
+        → keep x ≡ b
+        → along_from f (filter keep (before ++ x ∷ [])) (filter keep xs) ≡ kept
+        → along_from f (filter keep before) (cond b (x ∷ filter keep xs) (filter keep xs)) ≡
+        map (λ p. p.1)
+        (cond b ((x, f before x) ∷ filter (λ p. keep p.0) (along_from (told f) (before ++ x ∷ []) xs))
+        (filter (λ p. keep p.0) (along_from (told f) (before ++ x ∷ []) xs)))
     by_case true is rest =
         ap (λ b. f (filter keep before) x ∷ along_from f b (filter keep xs)) (sym (front true is))
         ∙ ap (λ r. f (filter keep before) x ∷ r) rest ∙ ap (λ a. a ∷ kept) (answer is)

@@ -1,6 +1,7 @@
 -- What was answered class by class, put together again: the parts have the answers of the whole, and in
 -- the order of their keys they are the whole.
-use Rattle.std.proofs.Common.{◌≡◌, ℕ, suc, ◌+◌, ◌<◌, ◌≤◌, ◌&&◌, Bool, true, false, cond, not, nat_eq, nat_le, List, [], ◌∷◌, ◌++◌, length, map, get_or, slice_index, refl, sym, ap, subst, ◌∙◌, ◌⊎◌, inl, inr, ⊎_elim, arith}
+use Rattle.std.proofs.Common.{◌≡◌, ℕ, suc, ◌+◌, ◌<◌, ◌≤◌, ◌&&◌, Bool, true, false, cond, not, nat_eq, nat_le, List, [], ◌∷◌, ◌++◌}
+use Rattle.std.proofs.Common.{length, map, get_or, slice_index, refl, sym, ap, subst, ◌∙◌, ◌⊎◌, inl, inr, ⊎_elim, arith}
 use Rattle.std.proofs.lemmas.List.{map-append}
 use Rattle.std.proofs.lemmas.List.Elements.{filter_agree, recursion_from_All, All-from_recursion}
 use Rattle.std.proofs.lemmas.List.Sorted.{IsPermutation-refl, IsPermutation-trans, IsPermutation-append_right, IsPermutation-filter_both, IsPermutation-map, IsPermutation-sym, All-permutation}
@@ -16,7 +17,10 @@ filter-both : {X : Type 0} (p q : X → Bool) (xs : List X) → filter p (filter
 filter-both p q [] = refl
 filter-both p q (x ∷ xs) = by_case (q x) (filter-both p q xs)
   where
-    by_case : (c : Bool) → filter p (filter q xs) ≡ filter (λ x. q x && p x) xs → filter p (cond c (x ∷ filter q xs) (filter q xs)) ≡ cond (c && p x) (x ∷ filter (λ x. q x && p x) xs) (filter (λ x. q x && p x) xs)
+    by_case : (c : Bool)
+        → filter p (filter q xs) ≡ filter (λ x. q x && p x) xs
+        → filter p (cond c (x ∷ filter q xs) (filter q xs)) ≡
+        cond (c && p x) (x ∷ filter (λ x. q x && p x) xs) (filter (λ x. q x && p x) xs)
     by_case true rest = ap (λ r. cond (p x) (x ∷ r) r) rest
     by_case false rest = rest
 
@@ -26,7 +30,9 @@ filter-none p fails [] = refl
 filter-none p fails (x ∷ xs) = ap (λ b. cond b (x ∷ filter p xs) (filter p xs)) (fails x) ∙ filter-none p fails xs
 
 -- the elements of the classes from one on are those of that class and those of the classes after it
-split_class : {X : Type 0} (class : X → ℕ) (k : ℕ) (xs : List X) → IsPermutation (filter (λ x. nat_le k (class x)) xs) (filter (λ x. nat_eq (class x) k) xs ++ filter (λ x. nat_le (suc k) (class x)) xs)
+split_class : {X : Type 0} (class : X → ℕ) (k : ℕ) (xs : List X)
+    → IsPermutation (filter (λ x. nat_le k (class x)) xs)
+    (filter (λ x. nat_eq (class x) k) xs ++ filter (λ x. nat_le (suc k) (class x)) xs)
 split_class {X} class k xs =
     let here = filter-both (λ x. nat_eq (class x) k) (λ x. nat_le k (class x)) xs in
     let after = filter-both (λ x. not (nat_eq (class x) k)) (λ x. nat_le k (class x)) xs in
@@ -40,7 +46,10 @@ split_class {X} class k xs =
 
 module _ {X A P : Type 0} (class : X → ℕ) (h : X → A) (items : P → List A) (xs : List X) where
   -- the parts from one class on have the answers of the classes from it on
-  joined_from : (k n : ℕ) (parts : List P) → n ≡ k + length parts → ((x : X) → class x < n) → ((i : ℕ) (d : P) → i < length parts → items (get_or parts i d) ≡ map h (filter (λ x. nat_eq (class x) (k + i)) xs))
+  joined_from : (k n : ℕ) (parts : List P)
+      → n ≡ k + length parts
+      → ((x : X) → class x < n)
+      → ((i : ℕ) (d : P) → i < length parts → items (get_or parts i d) ≡ map h (filter (λ x. nat_eq (class x) (k + i)) xs))
       → IsPermutation (map h (filter (λ x. nat_le k (class x)) xs)) (flat_map items parts)
   joined_from k n [] end below parts_are =
       let none : (m : ℕ) → m < n → nat_le k m ≡ false = λ m lt. grind (arith, nat_tests) in
@@ -56,7 +65,10 @@ module _ {X A P : Type 0} (class : X → ℕ) (h : X → A) (items : P → List 
       (IsPermutation-trans _ _ _ whole (IsPermutation-append_right (map h (filter (λ x. nat_eq (class x) k) xs)) _ _ rest))
 
   -- where each part has the answers of one class, all parts have all answers
-  pub joined_classes : (parts : List P) → ((x : X) → class x < length parts) → ((k : ℕ) (d : P) → k < length parts → items (get_or parts k d) ≡ map h (filter (λ x. nat_eq (class x) k) xs)) → IsPermutation (map h xs) (flat_map items parts)
+  pub joined_classes : (parts : List P)
+      → ((x : X) → class x < length parts)
+      → ((k : ℕ) (d : P) → k < length parts → items (get_or parts k d) ≡ map h (filter (λ x. nat_eq (class x) k) xs))
+      → IsPermutation (map h xs) (flat_map items parts)
   joined_classes parts below parts_are =
       let from_none : (i : ℕ) → 0 + i ≡ i = λ i. omega arith in
       let all : filter (λ x. nat_le 0 (class x)) xs ≡ xs = filter-all xs in

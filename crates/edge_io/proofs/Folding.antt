@@ -11,7 +11,10 @@ use Rattle.std.proofs.lemmas.Slice.Eq.{slice_eq-Decides}
 use Rattle.edge_io.specs.Matching.{begins}
 
 -- a comparison of the text with the front of the bytes, case folded, is the test that the bytes begin with it
-pub begins_folded : (bytes text front : List ℕ) (answer : Bool) → front ≡ take (length text) bytes → Decides answer (str_to_ascii_lowercase text ≡ str_to_ascii_lowercase front) → answer ≡ begins true text bytes
+pub begins_folded : (bytes text front : List ℕ) (answer : Bool)
+    → front ≡ take (length text) bytes
+    → Decides answer (str_to_ascii_lowercase text ≡ str_to_ascii_lowercase front)
+    → answer ≡ begins true text bytes
 begins_folded bytes text front answer is decides =
     let lowered = str_to_ascii_lowercase text in
     let same : pointwise nat_eq lowered (str_to_ascii_lowercase front) ≡ begins true text bytes =

@@ -5,7 +5,11 @@ use Rattle.std.proofs.lemmas.Iterator.Adapters.{position_from-zero}
 use Rattle.edge_io.specs.Matching.{tails}
 
 -- the first of the places that pass, counted from one on
-position_from_at : {X : Type 0} (test : X → Bool) (at : ℕ) (xs : List X) (place : ℕ) (d : X) → place < length xs → ((k : ℕ) → k < place → test (get_or xs k d) ≡ false) → test (get_or xs place d) ≡ true → position_from test at xs ≡ Some (at + place)
+position_from_at : {X : Type 0} (test : X → Bool) (at : ℕ) (xs : List X) (place : ℕ) (d : X)
+    → place < length xs
+    → ((k : ℕ) → k < place → test (get_or xs k d) ≡ false)
+    → test (get_or xs place d) ≡ true
+    → position_from test at xs ≡ Some (at + place)
 position_from_at test at [] place d below before here = absurd (omega arith)
 position_from_at test at (x ∷ xs) zero d below before here = ap (λ b. cond b (Some at) (position_from test (at + 1) xs)) here ∙ ap Some (omega arith)
 position_from_at test at (x ∷ xs) (suc place) d below before here =
@@ -32,7 +36,11 @@ get_or-tails (byte ∷ bytes) zero d within = refl
 get_or-tails (byte ∷ bytes) (suc place) d within = get_or-tails bytes place d (omega arith)
 
 -- the first place from which the bytes pass
-pub position_tails : (test : List ℕ → Bool) (bytes : List ℕ) (place : ℕ) → place ≤ length bytes → ((k : ℕ) → k < place → test (drop k bytes) ≡ false) → test (drop place bytes) ≡ true → position test (tails bytes) ≡ Some place
+pub position_tails : (test : List ℕ → Bool) (bytes : List ℕ) (place : ℕ)
+    → place ≤ length bytes
+    → ((k : ℕ) → k < place → test (drop k bytes) ≡ false)
+    → test (drop place bytes) ≡ true
+    → position test (tails bytes) ≡ Some place
 position_tails test bytes place within before here =
     position_from-zero test (tails bytes)
     ∙ position_from_at

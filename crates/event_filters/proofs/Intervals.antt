@@ -32,15 +32,22 @@ goes_on : (line : Line) (start : ℕ) (later : List ℕ) (moment : ℕ) → 0 < 
     → IsWindowOf line (cond b ((start ∷ later) ++ moment ∷ []) (moment ∷ []))
     (Some (cond b (record { start = start; number = next_number line.kind line.count (shown line.kind line.count (length (start ∷ later))) }) (record { start = moment; number = 1 })))
 goes_on line start later moment some true =
-    let longer : length (start ∷ (later ++ moment ∷ [])) ≡ length later + 1 + 1 = omega (arith, length-append later (moment ∷ [])) in
+    let longer : length (start ∷ (later ++ moment ∷ [])) ≡ length later + 1 + 1 =
+    omega (arith, length-append later (moment ∷ [])) in
     let long : length (start ∷ later) ≡ length later + 1 = omega arith in
-    let number = ap (λ n. next_number line.kind line.count (shown line.kind line.count n)) long ∙ next_number-shown line.kind line.count (length later) some ∙ ap (shown line.kind line.count) (sym longer) in
+    let number =
+    ap (λ n. next_number line.kind line.count (shown line.kind line.count n)) long
+    ∙ next_number-shown line.kind line.count (length later) some
+    ∙ ap (shown line.kind line.count) (sym longer) in
     ap (λ (n : ℕ). Some (record { start = start; number = n })) number
 goes_on line start later moment some false =
     let one : length (moment ∷ []) ≡ 1 = omega arith in
     ap (λ (n : ℕ). Some (record { start = moment; number = n })) (sym (ap (shown line.kind line.count) one ∙ shown-one line.kind line.count some))
 
-pub IsWindowOf-next : (line : Line) (interval : List ℕ) (old : Option Window) (moment : ℕ) → 0 < line.count → IsWindowOf line interval old → IsWindowOf line (interval_after line.seconds interval moment) (Some (next_window line old moment))
+pub IsWindowOf-next : (line : Line) (interval : List ℕ) (old : Option Window) (moment : ℕ)
+    → 0 < line.count
+    → IsWindowOf line interval old
+    → IsWindowOf line (interval_after line.seconds interval moment) (Some (next_window line old moment))
 IsWindowOf-next line [] old moment some is =
     let one : length (moment ∷ []) ≡ 1 = omega arith in
     ap (λ (o : Option Window). Some (next_window line o moment)) is
@@ -60,7 +67,9 @@ window_number line (start ∷ later) w is =
     number v same = cc
 
 -- the moments of a key, once one event more has come
-pub moments_of-more : (key_of : Event → Option Key) (key : Key) (events : List Event) (event : Event) → moments_of key_of key (events ++ event ∷ []) ≡ moments_of key_of key events ++ cond (has_key key_of key event) (moment_of event ∷ []) []
+pub moments_of-more : (key_of : Event → Option Key) (key : Key) (events : List Event) (event : Event)
+    → moments_of key_of key (events ++ event ∷ []) ≡
+    moments_of key_of key events ++ cond (has_key key_of key event) (moment_of event ∷ []) []
 moments_of-more key_of key events event =
     ap (map moment_of) (filter-append (has_key key_of key) events (event ∷ []))
     ∙ map-append moment_of (filter (has_key key_of key) events) (filter (has_key key_of key) (event ∷ []))

@@ -1,5 +1,6 @@
 -- The queue: an event joins at the first place that it comes before, and the queue of the rules so far.
-use Rattle.std.proofs.Common.{◌≡◌, ℕ, ◌+◌, ◌<◌, ◌≤◌, Bool, true, false, not, ◌&&◌, cond, ltb, List, [], ◌∷◌, ◌++◌, length, take, drop, get_or, fold, insert, inl, inr, refl, sym, ap, ◌∙◌, arith, length-append}
+use Rattle.std.proofs.Common.{◌≡◌, ℕ, ◌+◌, ◌<◌, ◌≤◌, Bool, true, false, not, ◌&&◌, cond, ltb, List, [], ◌∷◌, ◌++◌, length, take}
+use Rattle.std.proofs.Common.{drop, get_or, fold, insert, inl, inr, refl, sym, ap, ◌∙◌, arith, length-append}
 use Rattle.std.specs.List.{filter, position_or_len}
 use Rattle.std.proofs.Math.Numerals.{one-add}
 use Rattle.std.proofs.lemmas.Bool.{cases_lt}
@@ -40,7 +41,10 @@ length-ordered before events = omega (arith, length-fold before [] events)
 
 -- one rule more
 step : (before : ℕ → ℕ → Bool) (most : ℕ) (events : List ℕ) (place : ℕ) (gives : Bool)
-    → ordered before (take most (events ++ cond gives (place ∷ []) [])) ≡ cond (ltb (length (ordered before (take most events))) most && gives) (joined before (ordered before (take most events)) place) (ordered before (take most events))
+    → ordered before (take most (events ++ cond gives (place ∷ []) [])) ≡
+    cond (ltb (length (ordered before (take most events))) most && gives)
+    (joined before (ordered before (take most events)) place)
+    (ordered before (take most events))
 step before most events place true = elim (cases_lt (length events) most) [
   | inl lt ↦ room lt
   | inr le ↦ full le

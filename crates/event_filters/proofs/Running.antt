@@ -13,7 +13,8 @@ use Rattle.event_filters.specs.declared.counting.Key.{Key}
 use Rattle.event_filters.specs.declared.counting.Window.{Window}
 use Rattle.event_filters.specs.Counting.{Event, counted}
 use Rattle.event_filters.specs.Counts.{match_count, event_count}
-use Rattle.event_filters.specs.Events.{event_of, events_of, places_of, match_key, match_line, match_stays, own_place, global_place, event_key, event_line, own_kept, global_kept, filtered, is_suppressed}
+use Rattle.event_filters.specs.Events.{event_of, events_of, places_of, match_key, match_line, match_stays, own_place}
+use Rattle.event_filters.specs.Events.{global_place, event_key, event_line, own_kept, global_kept, filtered, is_suppressed}
 use Rattle.event_filters.specs.Runs.{AreSome, Matched, Stays, Lines, AreTables, Filtered, unsuppressed, AreBothOf, Keeps}
 use Rattle.event_filters.specs.Windows.{window_at, windows_after, answer_of, AreAfter}
 use Rattle.event_filters.proofs.Stages.{counted-answer, hold-more, AreAfter-same}
@@ -60,7 +61,10 @@ Stays-none rules head state = λ some earlier hold. (
   sym (append-nil state.written),
 )
 
-pub Stays-more : (rules : List Rule) (head : ItemHead) (old mid new : Matched) (places : List ℕ) (place : ℕ) → Stays rules head old places mid → Stays rules head mid (place ∷ []) new → Stays rules head old (places ++ place ∷ []) new
+pub Stays-more : (rules : List Rule) (head : ItemHead) (old mid new : Matched) (places : List ℕ) (place : ℕ)
+    → Stays rules head old places mid
+    → Stays rules head mid (place ∷ []) new
+    → Stays rules head old (places ++ place ∷ []) new
 unfolding Stays
 Stays-more rules head old mid new places place first second = λ some earlier hold.
     let a = first some earlier hold in
@@ -103,7 +107,10 @@ pub Keeps-suppressed : (lines : Lines) (head : ItemHead) (state : Filtered) (eve
 Keeps-suppressed lines head state event is =
     these lines head state state (event ∷ []) [] (ap (λ b. cond (not b) (event ∷ []) []) is) (nothing lines head state)
 
-pub Keeps-more : (lines : Lines) (head : ItemHead) (old mid new : Filtered) (places : List ℕ) (place : ℕ) → Keeps lines head old places mid → Keeps lines head mid (place ∷ []) new → Keeps lines head old (places ++ place ∷ []) new
+pub Keeps-more : (lines : Lines) (head : ItemHead) (old mid new : Filtered) (places : List ℕ) (place : ℕ)
+    → Keeps lines head old places mid
+    → Keeps lines head mid (place ∷ []) new
+    → Keeps lines head old (places ++ place ∷ []) new
 unfolding Keeps
 Keeps-more lines head old mid new places place first second = λ tables some earlier holds.
     let f = filtered lines.filters lines.rules in

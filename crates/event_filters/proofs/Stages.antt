@@ -22,8 +22,11 @@ shows_is line interval w some is =
 
 module _ (key_of : Event → Option Key) (line_at : Key → Line) (some : (key : Key) → 0 < (line_at key).count) where
   -- the window of the event's key, once the event has come
-  window_next : (events : List Event) (event : Event) (windows : Windows) (key : Key) → AreAfter key_of line_at events windows
-      → IsWindowOf (line_at key) (interval_after (line_at key).seconds (interval_of (line_at key).seconds (moments_of key_of key events)) (moment_of event)) (Some (next_window (line_at key) (windows key) (moment_of event)))
+  window_next : (events : List Event) (event : Event) (windows : Windows) (key : Key)
+      → AreAfter key_of line_at events windows
+      → IsWindowOf (line_at key)
+      (interval_after (line_at key).seconds (interval_of (line_at key).seconds (moments_of key_of key events)) (moment_of event))
+      (Some (next_window (line_at key) (windows key) (moment_of event)))
   unfolding AreAfter
   window_next events event windows key hold =
       IsWindowOf-next (line_at key) (interval_of (line_at key).seconds (moments_of key_of key events)) (windows key) (moment_of event) (some key) (hold key)
@@ -31,8 +34,13 @@ module _ (key_of : Event → Option Key) (line_at : Key → Line) (some : (key :
   answer_at : (events : List Event) (event : Event) (windows : Windows) (key : Key) → AreAfter key_of line_at events windows
       → passes key_of line_at events event (Some key) ≡ shows (line_at key).kind (line_at key).count (next_window (line_at key) (windows key) (moment_of event)).number
   answer_at events event windows key hold =
-      ap (lets (line_at key).kind (line_at key).count) (windowed-is (moments_of key_of key events) (moment_of event) (line_at key).seconds)
-      ∙ sym (shows_is (line_at key) (interval_after (line_at key).seconds (interval_of (line_at key).seconds (moments_of key_of key events)) (moment_of event)) (next_window (line_at key) (windows key) (moment_of event)) (some key) (window_next events event windows key hold))
+      ap (lets (line_at key).kind (line_at key).count)
+      (windowed-is (moments_of key_of key events) (moment_of event) (line_at key).seconds)
+      ∙ sym (shows_is (line_at key)
+      (interval_after (line_at key).seconds (interval_of (line_at key).seconds (moments_of key_of key events)) (moment_of event))
+      (next_window (line_at key) (windows key) (moment_of event))
+      (some key)
+      (window_next events event windows key hold))
 
   -- the answer of the windows is that of the list
   pub passes-answer : (events : List Event) (event : Event) (windows : Windows) (count : Option Count) → IsCountOf key_of line_at event count → AreAfter key_of line_at events windows
@@ -53,7 +61,9 @@ module _ (key_of : Event → Option Key) (line_at : Key → Line) (some : (key :
       ∙ append-nil (moments_of key_of key events)
 
   -- the event's key has one moment more
-  more_moments : (events : List Event) (event : Event) (key : Key) → has_key key_of key event ≡ true → moments_of key_of key (events ++ event ∷ []) ≡ moments_of key_of key events ++ moment_of event ∷ []
+  more_moments : (events : List Event) (event : Event) (key : Key)
+      → has_key key_of key event ≡ true
+      → moments_of key_of key (events ++ event ∷ []) ≡ moments_of key_of key events ++ moment_of event ∷ []
   more_moments events event key own =
       moments_of-more key_of key events event ∙ ap (λ b. moments_of key_of key events ++ cond b (moment_of event ∷ []) []) own
 
@@ -64,17 +74,30 @@ module _ (key_of : Event → Option Key) (line_at : Key → Line) (some : (key :
   key_with event key other b is same = ap (λ o. option_map_or (same_key other) o false) is ∙ same_key-sym other key ∙ same
 
   -- the windows at one key, once the event has come
-  at_key : (events : List Event) (event : Event) (windows : Windows) (key other : Key) (line : Line) (b : Bool) → key_of event ≡ Some key → line_at key ≡ line → same_key key other ≡ b → AreAfter key_of line_at events windows
-      → IsWindowOf (line_at other) (interval_of (line_at other).seconds (moments_of key_of other (events ++ event ∷ []))) (cond b (Some (next_window line (windows key) (moment_of event))) (windows other))
+  at_key : (events : List Event) (event : Event) (windows : Windows) (key other : Key) (line : Line) (b : Bool)
+      → key_of event ≡ Some key
+      → line_at key ≡ line
+      → same_key key other ≡ b
+      → AreAfter key_of line_at events windows
+      → IsWindowOf (line_at other) (interval_of (line_at other).seconds (moments_of key_of other (events ++ event ∷ [])))
+      (cond b (Some (next_window line (windows key) (moment_of event))) (windows other))
   unfolding AreAfter
   at_key events event windows key other line true is same own hold =
       let e = same_key-true key other own in
       let seconds = (line_at other).seconds in
-      let next : next_window (line_at other) (windows other) (moment_of event) ≡ next_window line (windows key) (moment_of event) =
-      ap (λ l. next_window l (windows other) (moment_of event)) (ap line_at (sym e) ∙ same) ∙ ap (λ k. next_window line (windows k) (moment_of event)) (sym e) in
-      let moments = ap (interval_of seconds) (more_moments events event other (key_with event key other true is own)) ∙ interval_of-more seconds (moments_of key_of other events) (moment_of event) in
-      let there = subst (λ (w : Window). IsWindowOf (line_at other) (interval_after seconds (interval_of seconds (moments_of key_of other events)) (moment_of event)) (Some w)) next (window_next events event windows other hold) in
-      subst (λ (i : List ℕ). IsWindowOf (line_at other) i (Some (next_window line (windows key) (moment_of event)))) (sym moments) there
+      let next : next_window (line_at other) (windows other) (moment_of event)
+      ≡ next_window line (windows key) (moment_of event) =
+      ap (λ l. next_window l (windows other) (moment_of event)) (ap line_at (sym e) ∙ same)
+      ∙ ap (λ k. next_window line (windows k) (moment_of event)) (sym e) in
+      let moments =
+      ap (interval_of seconds) (more_moments events event other (key_with event key other true is own))
+      ∙ interval_of-more seconds (moments_of key_of other events) (moment_of event) in
+      let there =
+      subst (λ (w : Window). IsWindowOf (line_at other)
+      (interval_after seconds (interval_of seconds (moments_of key_of other events)) (moment_of event))
+      (Some w)) next (window_next events event windows other hold) in
+      subst (λ (i : List ℕ). IsWindowOf (line_at other) i (Some (next_window line (windows key) (moment_of event))))
+      (sym moments) there
   at_key events event windows key other line false is same apart hold =
       let moments = ap (interval_of (line_at other).seconds) (same_moments events event other (key_with event key other false is apart)) in
       subst (λ (i : List ℕ). IsWindowOf (line_at other) i (windows other)) (sym moments) (hold other)

@@ -11,7 +11,9 @@ use Rattle.conf_types.specs.declared.config.Config.{Config}
 use Rattle.conf_types.specs.declared.config.QueueLimits.{QueueLimits}
 use Rattle.rule_types.specs.declared.rule.Rule.{Rule}
 use Rattle.event_filters.specs.Counting.{Event}
-use Rattle.event_filters.specs.Events.{Item, arising, event_key, event_line, events_of, filtered, global_place, is_matched, is_suppressed, kept, match_key, match_line, match_stays, matched, matches, own_kept, own_place, places_of, staying}
+use Rattle.event_filters.specs.Events.{Item, arising, event_key, event_line, events_of, filtered, global_place, is_matched}
+use Rattle.event_filters.specs.Events.{is_suppressed, kept, match_key, match_line, match_stays, matched, matches, own_kept}
+use Rattle.event_filters.specs.Events.{own_place, places_of, staying}
 use Rattle.event_filters.specs.Queue.{comes_before, longest_content, ordered, queued}
 use Rattle.event_filters.specs.Filtering.{FiltersState, IsGiven}
 use Rattle.event_filters.specs.Windows.{AreAfter, window_at}
@@ -101,7 +103,15 @@ IsGiven-matched config rules xs ys state same given =
       sizes = given.sizes;
       own_places = given.own_places;
       global_places = given.global_places;
-      matches = subst (λ (events : List Event). AreAfter (match_key rules) (match_line rules) events (window_at state.matches)) (matches-passed xs ys same) given.matches;
-      own = subst (λ (events : List Event). AreAfter (event_key (own_place config.filters) config.filters rules) (event_line config.filters) events (window_at state.own)) arisen given.own;
-      global = subst (λ (events : List Event). AreAfter (event_key (global_place config.filters) config.filters rules) (event_line config.filters) (trail (own_kept config.filters rules) events) (window_at state.global)) arisen given.global;
+      matches =
+          subst (λ (events : List Event). AreAfter (match_key rules) (match_line rules) events (window_at state.matches))
+          (matches-passed xs ys same) given.matches;
+      own =
+          subst (λ (events : List Event). AreAfter (event_key (own_place config.filters) config.filters rules)
+          (event_line config.filters) events (window_at state.own)) arisen given.own;
+      global =
+          subst (λ (events : List Event). AreAfter (event_key (global_place config.filters) config.filters rules)
+          (event_line config.filters)
+          (trail (own_kept config.filters rules) events)
+          (window_at state.global)) arisen given.global;
     }

@@ -1,5 +1,6 @@
 -- The jobs of a course are sound, and numbered as lanes ask.
-use Rattle.std.proofs.Common.{◌≡◌, ℕ, zero, suc, ◌+◌, ◌^◌, ◌<◌, ◌≤◌, Bool, true, false, cond, List, [], ◌∷◌, ◌++◌, length, map, get_or, replicate, Option, Some, None, All, IfSome, refl, sym, ap, subst, ◌∙◌, arith, length-append}
+use Rattle.std.proofs.Common.{◌≡◌, ℕ, zero, suc, ◌+◌, ◌^◌, ◌<◌, ◌≤◌, Bool, true, false, cond, List, [], ◌∷◌, ◌++◌, length, map}
+use Rattle.std.proofs.Common.{get_or, replicate, Option, Some, None, All, IfSome, refl, sym, ap, subst, ◌∙◌, arith, length-append}
 use Rattle.std.specs.Prelude.{fold, option_and_then, slice_get}
 use Rattle.std.specs.List.{AllByRecursion, filter, range_with_len}
 use Rattle.std.specs.List.Sorted.{IsStrictlyIncreasing}
@@ -59,7 +60,14 @@ sound_plain bound facts moment (work.Alone head payload) few plain known = tt
 sound_plain bound None moment (work.Packet flow head payload to_dst to_src) few plain known =
     record { protocol = plain.protocol; same_ends = tt; few = tt; size = plain.size; to_dst = omega (arith, plain.to_dst); to_src = omega (arith, plain.to_src) }
 sound_plain bound (Some facts) moment (work.Packet flow head payload to_dst to_src) few plain known =
-    record { protocol = plain.protocol; same_ends = known.ends ∙ sym plain.ends; few = omega (arith, known.packets); size = plain.size; to_dst = omega (arith, plain.to_dst); to_src = omega (arith, plain.to_src) }
+    record {
+      protocol = plain.protocol;
+      same_ends = known.ends ∙ sym plain.ends;
+      few = omega (arith, known.packets);
+      size = plain.size;
+      to_dst = omega (arith, plain.to_dst);
+      to_src = omega (arith, plain.to_src);
+    }
 sound_plain bound facts moment (work.Finish flow) few plain known = tt
 
 pub course_sound : (lanes : LanesState) (done : ℕ) (jobs : List Job) → IsCourse lanes done → AreFrom done jobs → done + length jobs < 2 ^ 32 → AreSoundFor 0 lanes jobs
@@ -143,7 +151,14 @@ course_goes_on old new done jobs course are learns = record {
 -- lanes that stand for no job
 pub course_begins : (count flush : ℕ) (inserts : Bool) (lanes : LanesState) → AreNew count flush inserts lanes → IsCourse lanes 0
 course_begins count flush inserts lanes new =
-    subst (λ (l : LanesState). IsCourse l 0) (sym new) (record { known = λ job. nothing job (slice_get (replicate count (new_lane flush inserts)) (lane_of (length (replicate count (new_lane flush inserts))) (flow_of job))) refl; numbers = tt })
+    subst (λ (l : LanesState). IsCourse l 0) (sym new) (record {
+      known = λ job.
+          nothing job
+          (slice_get (replicate count (new_lane flush inserts))
+          (lane_of (length (replicate count (new_lane flush inserts))) (flow_of job)))
+          refl;
+      numbers = tt;
+    })
   where
     idle_knows : (flow : Option ℕ) → IfSome (option_and_then (λ f. facts_kept (kept_of (new_lane flush inserts) f)) flow) (IsFew 0)
     idle_knows None = tt
@@ -155,5 +170,8 @@ course_begins count flush inserts lanes new =
     nothing job (Some lane) is =
         let place : ℕ = lane_of (length (replicate count (new_lane flush inserts))) (flow_of job) in
         let within = slice_get_within (replicate count (new_lane flush inserts)) place lane is in
-        let same : new_lane flush inserts ≡ lane = sym (get_or-replicate count place (new_lane flush inserts) lane (omega (arith, length-replicate count (new_lane flush inserts)))) ∙ get_or_from_slice_get (replicate count (new_lane flush inserts)) place lane lane is in
+        let same : new_lane flush inserts ≡ lane =
+        sym (get_or-replicate count place (new_lane flush inserts) lane
+        (omega (arith, length-replicate count (new_lane flush inserts))))
+        ∙ get_or_from_slice_get (replicate count (new_lane flush inserts)) place lane lane is in
         subst (λ (l : LaneState). IfSome (known_of l job) (IsFew 0)) same (idle_knows (flow_of job))

@@ -23,8 +23,12 @@ use Rattle.flow_lanes.specs.declared.job.Work.TheVariants as work
 use Rattle.flow_lanes.specs.Engines.{Making}
 use Rattle.flow_lanes.specs.Flows.{Detection, FlowState, bits_at_hand, bits_found, flow_state, hits, hits_in, session_at_hand, state_after, state_after_one, steered, work_items}
 use Rattle.flow_lanes.specs.ItemHits.{bits_after_item, hit, hits_of}
-use Rattle.flow_lanes.specs.Items.{JobItems, acked_items, both_sides, closing_items, finish_items, head_between, held_items, is_queued, left_items, own_items, packet_items, packet_item, session_after, session_items, stream_items}
-use Rattle.flow_lanes.specs.Sessions.{Packet, Session, ack_of, acked_side, after_ack, after_data, begun_session, client_end, is_from_client, receiver, sender, seq_of, server_end, session_of, settled, sizes_of, state_of, step_of, with_bases}
+use Rattle.flow_lanes.specs.Items.{JobItems, acked_items, both_sides, closing_items, finish_items, head_between, held_items}
+use Rattle.flow_lanes.specs.Items.{is_queued, left_items, own_items, packet_items, packet_item, session_after, session_items}
+use Rattle.flow_lanes.specs.Items.{stream_items}
+use Rattle.flow_lanes.specs.Sessions.{Packet, Session, ack_of, acked_side, after_ack, after_data, begun_session, client_end}
+use Rattle.flow_lanes.specs.Sessions.{is_from_client, receiver, sender, seq_of, server_end, session_of, settled, sizes_of}
+use Rattle.flow_lanes.specs.Sessions.{state_of, step_of, with_bases}
 use Rattle.flow_lanes.specs.Sides.{Side, acked_payloads, held_payloads, left_payloads, side_after_ack, side_after_data, with_base, without_left}
 
 -- something holds of a head, and of what a job and an item have of heads
@@ -189,7 +193,11 @@ module _ (OfHead : IpHead → Body → Type 0) (OfEnds : End → End → Type 0)
 
   acked_have : (p : Packet) (step : Step) (session : Session) (sizes : ℕ × ℕ) → OfSession session → All OfItem (acked_items p step session sizes)
   acked_have p step session sizes has =
-      pick_items step.counts_ack _ [] (stream_has (acked_side step session) (not (unwrap_or step.from_client true)) p.moment sizes (acked_payloads (acked_side step session) (ack_of p)) (choose (is_from_client step) session.server session.client has.server has.client)) (All-nil OfItem)
+      pick_items step.counts_ack _ []
+      (stream_has (acked_side step session) (not (unwrap_or step.from_client true)) p.moment sizes
+      (acked_payloads (acked_side step session) (ack_of p))
+      (choose (is_from_client step) session.server session.client has.server has.client))
+      (All-nil OfItem)
 
   own_have : (making : Making) (p : Packet) (step : Step) (session after : Option Session) → OfItemHead OfHead p.head → All OfItem (own_items making p step session after)
   own_have making p step session after has =
@@ -201,13 +209,22 @@ module _ (OfHead : IpHead → Body → Type 0) (OfEnds : End → End → Type 0)
       → All OfItem (session_items making p step found session after)
   session_have making p step found session after head found_has session_has after_has =
       let sizes : ℕ × ℕ = option_map_or sizes_of after (0, 0) in
-      let one : List Item = if step.ended_before then [] else option_map_or (λ (s : Session). left_items s p.moment sizes) found [] in
+      let one : List Item =
+      if step.ended_before then [] else option_map_or (λ (s : Session). left_items s p.moment sizes) found [] in
       let two : List Item = option_map_or (λ (s : Session). acked_items p step s sizes) session [] in
       let three : List Item = if step.ends then option_map_or (λ (s : Session). held_items s p.moment sizes) after [] else [] in
       let four = own_items making p step session after in
-      let first : All OfItem one = pick_items step.ended_before [] _ (All-nil OfItem) (maybe_have (λ (s : Session). left_items s p.moment sizes) found (λ s it. both_have left_payloads s p.moment sizes it) found_has) in
-      let second : All OfItem two = maybe_have (λ (s : Session). acked_items p step s sizes) session (λ s it. acked_have p step s sizes it) session_has in
-      let third : All OfItem three = pick_items step.ends _ [] (maybe_have (λ (s : Session). held_items s p.moment sizes) after (λ s it. both_have held_payloads s p.moment sizes it) after_has) (All-nil OfItem) in
+      let first : All OfItem one =
+      pick_items step.ended_before [] _ (All-nil OfItem)
+      (maybe_have (λ (s : Session). left_items s p.moment sizes) found
+      (λ s it. both_have left_payloads s p.moment sizes it) found_has) in
+      let second : All OfItem two =
+      maybe_have (λ (s : Session). acked_items p step s sizes) session (λ s it. acked_have p step s sizes it) session_has in
+      let third : All OfItem three =
+      pick_items step.ends _ []
+      (maybe_have (λ (s : Session). held_items s p.moment sizes) after
+      (λ s it. both_have held_payloads s p.moment sizes it) after_has)
+      (All-nil OfItem) in
       All-append OfItem (one ++ two ++ three) four
       (All-append OfItem (one ++ two) three (All-append OfItem one two first second) third)
       (own_have making p step session after head)

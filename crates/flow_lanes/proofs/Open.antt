@@ -13,7 +13,9 @@ use Rattle.flow_lanes.specs.Sound.{FlowFacts, facts_after_work}
 use Rattle.flow_lanes.specs.LanesAfter.{KeptFlow, LaneState, AreAfter, LanesState, facts_kept, is_in_lane, is_of_flow, kept_after, kept_after_one, kept_of, lane_of, state_kept}
 
 -- a flow is kept after one of its jobs, unless it is the flow's end
-kept_work : (flow : ℕ) (make : FlowFacts → KeptFlow) (facts : Option FlowFacts) (moment : Moment) (w : Work) → same_number (Some flow) (flow_of_work w) ≡ true → is_some (option_map make (facts_after_work facts moment w)) ≡ not (is_end w)
+kept_work : (flow : ℕ) (make : FlowFacts → KeptFlow) (facts : Option FlowFacts) (moment : Moment) (w : Work)
+    → same_number (Some flow) (flow_of_work w) ≡ true
+    → is_some (option_map make (facts_after_work facts moment w)) ≡ not (is_end w)
 kept_work flow make facts moment (work.Alone head payload) own = absurd (false≢true own)
 kept_work flow make facts moment (work.Packet other head payload to_dst to_src) own = refl
 kept_work flow make facts moment (work.Finish other) own = refl
@@ -43,7 +45,10 @@ module _ (d : Detection) (count place flow : ℕ) where
       ap (λ (b : Bool). filter (is_of_flow flow) (cond b (job ∷ filter (is_in_lane count place) jobs) (filter (is_in_lane count place) jobs))) (in_lane job is ∙ here)
       ∙ ap (λ (b : Bool). cond b (job ∷ own jobs) (own jobs)) is
 
-  kept_own : (jobs : List Job) (kept : Option KeptFlow) (was : Bool) → (lane_of count (Some flow) == place) ≡ true → is_some kept ≡ was → is_some (fold (kept_after_one d) kept (own jobs)) ≡ fold (open_after flow) was jobs
+  kept_own : (jobs : List Job) (kept : Option KeptFlow) (was : Bool)
+      → (lane_of count (Some flow) == place) ≡ true
+      → is_some kept ≡ was
+      → is_some (fold (kept_after_one d) kept (own jobs)) ≡ fold (open_after flow) was jobs
   kept_own [] kept was here same = same
   kept_own (job ∷ jobs) kept was here same = by_flow (is_of_flow flow job) refl (λ kept was same. kept_own jobs kept was here same)
     where

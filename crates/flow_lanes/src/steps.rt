@@ -67,5 +67,12 @@ pub(crate) fn take_step(
     ensures state { state.new ≡ state_of (making_of settings.now) (packet_of p.now) (session_at_hand found.now) }
 {
     let rules = session_rules(settings, p, found);
-    state.take(&p.head.ip, &p.head.body, p.payload.len(), p.moment, &rules, step);
+    state.take(
+        &p.head.ip,
+        &p.head.body,
+        p.payload.len(),
+        p.moment,
+        &rules,
+        step,
+    );
 }

@@ -117,7 +117,9 @@ is_set-slice_set words word change bit other within each =
         ∙ ap (λ at. if other == bit then bit_after change (is_set words bit) else is_bit (slice_index words at) (other % 64)) (sym e)
 
     elsewhere : other / 64 ≢ bit / 64 → is_set (slice_set words (bit / 64) word) other ≡ (if other == bit then bit_after change (is_set words bit) else is_set words other)
-    elsewhere apart = ap (λ w. is_bit w (other % 64)) (get_or-set_other words (bit / 64) (other / 64) word 0 apart) ∙ kept other bit (is_set words other) (bit_after change (is_set words bit)) (λ e. apart (ap (λ n. n / 64) e))
+    elsewhere apart =
+        ap (λ w. is_bit w (other % 64)) (get_or-set_other words (bit / 64) (other / 64) word 0 apart)
+        ∙ kept other bit (is_set words other) (bit_after change (is_set words bit)) (λ e. apart (ap (λ n. n / 64) e))
 
 -- the bits of a mask, and of a word under it
 abbrev pub mask : ℕ → ℕ

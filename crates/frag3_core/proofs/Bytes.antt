@@ -1,5 +1,6 @@
 -- The bytes of a datagram: as a queue's answers tell them, and that fewer bytes than places leave a gap.
-use Rattle.std.proofs.Common.{◌≡◌, ℕ, zero, suc, ◌+◌, ◌-◌, ◌<◌, ◌≤◌, Bool, true, false, cond, ltb, leb, ◌&&◌, ◌||◌, List, [], ◌∷◌, Option, Some, None, IsSome, length, max, ◌++◌, min, ◌^◌, refl, sym, ap, ◌∙◌, arith}
+use Rattle.std.proofs.Common.{◌≡◌, ℕ, zero, suc, ◌+◌, ◌-◌, ◌<◌, ◌≤◌, Bool, true, false, cond, ltb, leb, ◌&&◌, ◌||◌, List, [], ◌∷◌}
+use Rattle.std.proofs.Common.{Option, Some, None, IsSome, length, max, ◌++◌, min, ◌^◌, refl, sym, ap, ◌∙◌, arith}
 use Rattle.std.specs.List.{range_with_len}
 use Rattle.std.specs.Option.{is_some, option_map, option_and_then}
 use Rattle.std.proofs.lemmas.Bool.Decides.{nat_tests}
@@ -15,7 +16,10 @@ use Rattle.frag3_core.specs.Parts.{IsRoomFor}
 use Rattle.frag3_core.specs.Trackers.{TrackerState, bytes_at, datagram_of}
 
 -- a first byte and the bytes after it
-bytes_at-cons : (byte : ℕ → Option ℕ) (place : ℕ) (later : List ℕ) (first : ℕ) (rest : List ℕ) → byte place ≡ Some first → bytes_at byte later ≡ Some rest → bytes_at byte (place ∷ later) ≡ Some (first ∷ rest)
+bytes_at-cons : (byte : ℕ → Option ℕ) (place : ℕ) (later : List ℕ) (first : ℕ) (rest : List ℕ)
+    → byte place ≡ Some first
+    → bytes_at byte later ≡ Some rest
+    → bytes_at byte (place ∷ later) ≡ Some (first ∷ rest)
 bytes_at-cons byte place later first rest here after = rw (here, after)
 
 -- bytes that are there place by place are the bytes at these places
@@ -39,7 +43,9 @@ head_some : (found : Option ℕ) (rest : Option (List ℕ)) (bytes : List ℕ) �
 head_some None rest bytes is = cc
 head_some (Some first) rest bytes is = refl
 
-tail_some : (found : Option ℕ) (rest : Option (List ℕ)) (bytes : List ℕ) → option_and_then (λ first. option_map (λ later. first ∷ later) rest) found ≡ Some bytes → (later : List ℕ) × (rest ≡ Some later)
+tail_some : (found : Option ℕ) (rest : Option (List ℕ)) (bytes : List ℕ)
+    → option_and_then (λ first. option_map (λ later. first ∷ later) rest) found ≡ Some bytes
+    → (later : List ℕ) × (rest ≡ Some later)
 tail_some None rest bytes is = cc
 tail_some (Some first) None bytes is = cc
 tail_some (Some first) (Some later) bytes is = (later, refl)
@@ -115,11 +121,17 @@ bytes_at-short preference segments n short = bytes_at-none (chosen_byte preferen
     omega (arith, covered, count-covered segments 0 n))
 
 -- the count of bytes with one segment more, where the sum may be at its type's end
-pub byte_count_push : (segments : List Segment) (new : Segment) (held : ℕ) → min (byte_count segments) (2 ^ 64 - 1) ≤ held → min (byte_count (segments ++ new ∷ [])) (2 ^ 64 - 1) ≤ min (held + length new.bytes) (2 ^ 64 - 1)
+pub byte_count_push : (segments : List Segment) (new : Segment) (held : ℕ)
+    → min (byte_count segments) (2 ^ 64 - 1) ≤ held
+    → min (byte_count (segments ++ new ∷ [])) (2 ^ 64 - 1) ≤ min (held + length new.bytes) (2 ^ 64 - 1)
 byte_count_push segments new held before = omega (arith, sum_by_push (λ (t : Segment). length t.bytes) segments new)
 
 -- the bytes in a room for them are those of the datagram, and where there is no room it isn't whole
-pub datagram_by_room : (t : TrackerState) (held : ℕ) (room : Option ℕ) → ForSome t.end (λ e. e ≤ 65535) → min (byte_count t.segments) (2 ^ 64 - 1) ≤ held → IsRoomFor t.end held room → option_and_then (λ n. bytes_at (chosen_byte t.preference t.segments) (range_with_len 0 n)) room ≡ datagram_of t
+pub datagram_by_room : (t : TrackerState) (held : ℕ) (room : Option ℕ)
+    → ForSome t.end (λ e. e ≤ 65535)
+    → min (byte_count t.segments) (2 ^ 64 - 1) ≤ held
+    → IsRoomFor t.end held room
+    → option_and_then (λ n. bytes_at (chosen_byte t.preference t.segments) (range_with_len 0 n)) room ≡ datagram_of t
 unfolding datagram_of
 datagram_by_room t held (Some n) small counted is = ap (option_and_then (λ n. bytes_at (chosen_byte t.preference t.segments) (range_with_len 0 n))) (sym is)
 datagram_by_room t held None small counted is = no_room t.end small is where

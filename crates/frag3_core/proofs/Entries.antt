@@ -1,5 +1,6 @@
 -- Lists of trackers: their keys stay apart, none is without a fragment, and how many fragments they hold.
-use Rattle.std.proofs.Common.{◌≡◌, ℕ, ◌+◌, ◌-◌, ◌^◌, ◌<◌, ◌≤◌, true, false, cond, [], ◌∷◌, ◌++◌, Option, Some, None, IfSome, All, length, drop, take, slice_get, sum_by, unwrap_or, refl, sym, ap, subst, ◌∙◌, arith}
+use Rattle.std.proofs.Common.{◌≡◌, ℕ, ◌+◌, ◌-◌, ◌^◌, ◌<◌, ◌≤◌, true, false, cond, [], ◌∷◌, ◌++◌, Option, Some, None, IfSome, All}
+use Rattle.std.proofs.Common.{length, drop, take, slice_get, sum_by, unwrap_or, refl, sym, ap, subst, ◌∙◌, arith}
 use Rattle.std.specs.List.{IsDistinct, AllByRecursion}
 use Rattle.std.specs.Map.{keys_of, values_of, lookup, lookup_entry, remove_entry, set_value}
 use Rattle.std.specs.Option.{is_some, option_map, option_map_or}
@@ -97,16 +98,21 @@ AreTrackers-set key ts t are some = record {
   apart = subst (IsDistinct same_key) (sym (keys-set_value (same_key key) ts t)) are.apart;
 }
 
-pub held_count-set : (key : DatagramKey) (ts : Trackers) (old new : TrackerState) → lookup (same_key key) ts ≡ Some old → held_count (set_value (same_key key) ts new) + length old.segments ≡ held_count ts + length new.segments
+pub held_count-set : (key : DatagramKey) (ts : Trackers) (old new : TrackerState)
+    → lookup (same_key key) ts ≡ Some old
+    → held_count (set_value (same_key key) ts new) + length old.segments ≡ held_count ts + length new.segments
 held_count-set key ts old new is = sum_by-set_value frags_of (same_key key) ts old new is
 
 -- ---- the tracker of a key, put last
 entry_found : (key : DatagramKey) (ts : Trackers) (o : Option TrackerState) → lookup (same_key key) ts ≡ o → lookup_entry (same_key key) ts ≡ option_map (λ t. (key, t)) o
 entry_found key [] o is = ap (option_map (λ t. (key, t))) is
-entry_found key (t ∷ ts) o is = (elim (same_key key t.0) as (λ b. same_key key t.0 ≡ b → cond b (Some t.1) (lookup (same_key key) ts) ≡ o → cond b (Some t) (lookup_entry (same_key key) ts) ≡ option_map (λ t. (key, t)) o) [
-  | true ↦ λ same found. ap (λ k. Some (k, t.1)) (sym (same_key-true key t.0 same)) ∙ ap (option_map (λ t. (key, t))) found
-  | false ↦ λ other found. entry_found key ts o found
-]) refl is
+entry_found key (t ∷ ts) o is =
+    (elim (same_key key t.0) as
+    (λ b. same_key key t.0 ≡ b → cond b (Some t.1) (lookup (same_key key) ts) ≡ o →
+    cond b (Some t) (lookup_entry (same_key key) ts) ≡ option_map (λ t. (key, t)) o) [
+      | true ↦ λ same found. ap (λ k. Some (k, t.1)) (sym (same_key-true key t.0 same)) ∙ ap (option_map (λ t. (key, t))) found
+      | false ↦ λ other found. entry_found key ts o found
+    ]) refl is
 
 pub demoted-found : (key : DatagramKey) (ts : Trackers) (t : TrackerState) → lookup (same_key key) ts ≡ Some t → demoted (same_key key) ts ≡ remove_entry (same_key key) ts ++ (key, t) ∷ []
 demoted-found key ts t is = ap (λ o. option_map_or (λ e. remove_entry (same_key key) ts ++ e ∷ []) o ts) (entry_found key ts (Some t) is)
@@ -123,7 +129,12 @@ unfolding IsDistinct
 AreTrackers-nil = record { some = λ k d below. absurd (omega arith); apart = tt }
 
 -- the invariant from the parts of the cache
-pub is_cache : (cache : LruCache DatagramKey TrackerState) (held : ℕ) (ts : Trackers) (cap : ℕ) → cache ≡ lru_cache ts cap → held ≡ held_count ts → cap ≡ 2 ^ 64 - 1 → AreTrackers ts → IsCache (record { cache = cache; held = held })
+pub is_cache : (cache : LruCache DatagramKey TrackerState) (held : ℕ) (ts : Trackers) (cap : ℕ)
+    → cache ≡ lru_cache ts cap
+    → held ≡ held_count ts
+    → cap ≡ 2 ^ 64 - 1
+    → AreTrackers ts
+    → IsCache (record { cache = cache; held = held })
 is_cache cache held ts cap is counted wide are = record {
   held = counted ∙ ap (λ (c : LruCache DatagramKey TrackerState). held_count c.entries) (sym is);
   room = ap (λ (c : LruCache DatagramKey TrackerState). c.cap) is ∙ wide;
@@ -162,14 +173,18 @@ demoted-first key t ts = rw (same_key-refl key)
 
 pub demoted-put : (key : DatagramKey) (ts : Trackers) (t : TrackerState) (cap : ℕ) → length ts < cap →
     demoted (same_key key) (put_entries same_key (lru_cache ts cap) key t) ≡ remove_entry (same_key key) ts ++ (key, t) ∷ []
-demoted-put key ts t cap room = (elim (lookup (same_key key) ts) as (λ o. lookup (same_key key) ts ≡ o → demoted (same_key key) (put_entries same_key (lru_cache ts cap) key t) ≡ remove_entry (same_key key) ts ++ (key, t) ∷ []) [
-  | None ↦ λ is.
-      ap (λ o. demoted (same_key key) (put_of o)) (entry_found key ts None is)
-      ∙ ap (λ l. demoted (same_key key) ((key, t) ∷ l)) (take_all (cap - 1) ts (omega arith))
-      ∙ demoted-first key t ts ∙ ap (λ l. l ++ (key, t) ∷ []) (sym (remove-none key ts is))
-  | Some old ↦ λ is.
-      ap (λ o. demoted (same_key key) (put_of o)) (entry_found key ts (Some old) is) ∙ demoted-first key t (remove_entry (same_key key) ts)
-]) refl
+demoted-put key ts t cap room =
+    (elim (lookup (same_key key) ts) as
+    (λ o. lookup (same_key key) ts ≡ o →
+    demoted (same_key key) (put_entries same_key (lru_cache ts cap) key t) ≡ remove_entry (same_key key) ts ++ (key, t) ∷ []) [
+      | None ↦ λ is.
+          ap (λ o. demoted (same_key key) (put_of o)) (entry_found key ts None is)
+          ∙ ap (λ l. demoted (same_key key) ((key, t) ∷ l)) (take_all (cap - 1) ts (omega arith))
+          ∙ demoted-first key t ts ∙ ap (λ l. l ++ (key, t) ∷ []) (sym (remove-none key ts is))
+      | Some old ↦ λ is.
+          ap (λ o. demoted (same_key key) (put_of o)) (entry_found key ts (Some old) is)
+          ∙ demoted-first key t (remove_entry (same_key key) ts)
+    ]) refl
   where
     put_of : Option (DatagramKey × TrackerState) → Trackers
     put_of o = option_map_or (λ e. (e.0, t) ∷ remove_entry (same_key key) ts) o ((key, t) ∷ take (cap - 1) ts)

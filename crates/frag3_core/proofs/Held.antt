@@ -1,5 +1,6 @@
 -- What waits is little, whatever fragments come.
-use Rattle.std.proofs.Common.{◌≡◌, ℕ, ◌+◌, ◌*◌, ◌<◌, ◌≤◌, Bool, true, false, cond, List, [], ◌∷◌, Option, Some, None, IfSome, All, length, fold, sum_by, unwrap_or, refl, sym, ap, subst, ◌∙◌, arith, nat_lt, max, get_or, ◌==◌}
+use Rattle.std.proofs.Common.{◌≡◌, ℕ, ◌+◌, ◌*◌, ◌<◌, ◌≤◌, Bool, true, false, cond, List, [], ◌∷◌, Option, Some, None, IfSome, All}
+use Rattle.std.proofs.Common.{length, fold, sum_by, unwrap_or, refl, sym, ap, subst, ◌∙◌, arith, nat_lt, max, get_or, ◌==◌}
 use Rattle.std.specs.Map.{values_of}
 use Rattle.std.specs.Option.{option_map, option_map_or}
 use Rattle.std.proofs.lemmas.Bool.Decides.{nat_tests}
@@ -14,7 +15,9 @@ use Rattle.frag3_core.specs.declared.answer.Ignored.{Ignored}
 use Rattle.frag3_core.specs.declared.answer.Ignored.TheVariants.{Ttl, Reach, Empty}
 use Rattle.frag3_core.specs.declared.key.DatagramKey.{DatagramKey}
 use Rattle.frag3_core.specs.Held.{held_bytes, longest, tracker_bytes}
-use Rattle.frag3_core.specs.Trackers.{Fragment, Frag3State, Trackers, TrackerState, after, begun, datagram_of, end_of, found, held_count, ignored, in_time, is_timed_out, key_of, others, own, same_key, start_of, state_after, tracker_of, trackers_after, with_own, with_room, without}
+use Rattle.frag3_core.specs.Trackers.{Fragment, Frag3State, Trackers, TrackerState, after, begun, datagram_of, end_of, found}
+use Rattle.frag3_core.specs.Trackers.{held_count, ignored, in_time, is_timed_out, key_of, others, own, same_key, start_of}
+use Rattle.frag3_core.specs.Trackers.{state_after, tracker_of, trackers_after, with_own, with_room, without}
 use Rattle.frag3_core.proofs.Entries.{frags_of, held_count-cons, held_count-push, held_count-remove}
 use Rattle.frag3_core.proofs.Steps.{with_room-below}
 
@@ -107,7 +110,9 @@ module _ (most : ℕ) (some : 0 < most) (frag3 : Frag3State) (f : Fragment) (hel
   held_with taken None = record {
     max = held.max;
     few = omega (arith, held_count-push (others frag3 f) (key_of f.ip) mine, count_own, few_before);
-    small = subst (All IsSmall) (sym (map-append (λ e. e.1) (others frag3 f) ((key_of f.ip, mine) ∷ []))) (All-push IsSmall (values_of (others frag3 f)) mine (small_without (key_of f.ip) before small_before) (small_own taken));
+    small =
+        subst (All IsSmall) (sym (map-append (λ e. e.1) (others frag3 f) ((key_of f.ip, mine) ∷ [])))
+        (All-push IsSmall (values_of (others frag3 f)) mine (small_without (key_of f.ip) before small_before) (small_own taken));
   }
   held_with taken (Some bytes) = record {
     max = held.max;

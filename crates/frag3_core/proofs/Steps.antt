@@ -1,5 +1,7 @@
 -- The code's step is the definition's: at most one tracker is dropped for room, and only the first.
-use Rattle.std.proofs.Common.{◌≡◌, ℕ, ◌+◌, ◌<◌, ◌≤◌, Bool, true, false, cond, not, ◌&&◌, ltb, leb, List, [], ◌∷◌, ◌++◌, Option, Some, None, is_some, length, drop, unwrap_or, option_map, inl, inr, refl, sym, ap, ◌∙◌, arith, length-append}
+use Rattle.std.proofs.Common.{◌≡◌, ℕ, ◌+◌, ◌<◌, ◌≤◌, Bool, true, false, cond, not, ◌&&◌, ltb, leb, List, [], ◌∷◌, ◌++◌, Option}
+use Rattle.std.proofs.Common.{Some, None, is_some, length, drop, unwrap_or, option_map, inl, inr, refl, sym, ap, ◌∙◌, arith}
+use Rattle.std.proofs.Common.{length-append}
 use Rattle.std.specs.Map.{lookup, remove_entry, set_value}
 use Rattle.std.specs.Option.{option_map_or}
 use Rattle.std.proofs.lemmas.Bool.{cases_lt}
@@ -8,7 +10,9 @@ use borrow.Author.Tests.{leb-true}
 use Rattle.frag3_core.specs.declared.key.DatagramKey.{DatagramKey}
 use Rattle.frag3_core.specs.Parts.{Begins, Grows, Takes, is_first, is_kept, placed, roomy, settled}
 use Rattle.frag3_core.specs.Sound.{AreTrackers}
-use Rattle.frag3_core.specs.Trackers.{Fragment, Frag3State, Trackers, TrackerState, begun, datagram_of, found, held_count, in_time, is_timed_out, joined, key_of, others, own, same_key, trackers_after, with_own, with_room}
+use Rattle.frag3_core.specs.Trackers.{Fragment, Frag3State, Trackers, TrackerState, begun, datagram_of, found, held_count}
+use Rattle.frag3_core.specs.Trackers.{in_time, is_timed_out, joined, key_of, others, own, same_key, trackers_after, with_own}
+use Rattle.frag3_core.specs.Trackers.{with_room}
 use Rattle.frag3_core.proofs.Entries.{demoted-found, held_count-cons, held_count-push, held_count-remove, held_count-set, lookup-removed, remove-none, some_found}
 
 lt_test : (a b : ℕ) → a < b → ltb a b ≡ true
@@ -126,14 +130,22 @@ pub record IsKeptAt (most : ℕ) (ts : Trackers) (key : DatagramKey) (moment : �
 
 kept_at : (most : ℕ) (ts : Trackers) (key : DatagramKey) (moment : ℕ) → is_kept most ts key moment ≡ true → (t : TrackerState) × IsKeptAt most ts key moment t
 kept_at most ts key moment kept = (elim (lookup (same_key key) ts) as (λ o. lookup (same_key key) ts ≡ o →
-    option_map_or (λ (t : TrackerState). not (is_timed_out moment t) && not (leb most (held_count ts) && is_first key ts)) o false ≡ true → (t : TrackerState) × IsKeptAt most ts key moment t) [
+    option_map_or (λ (t : TrackerState). not (is_timed_out moment t) && not (leb most (held_count ts) && is_first key ts)) o
+    false ≡
+    true →
+    (t : TrackerState) × IsKeptAt most ts key moment t) [
       | None ↦ λ is test. cc
       | Some t ↦ λ is test. (
         t,
         record {
           is = is;
-          in_time = not_true (is_timed_out moment t) (and_left (not (is_timed_out moment t)) (not (leb most (held_count ts) && is_first key ts)) test);
-          kept = and_false (leb most (held_count ts)) (is_first key ts) (not_true (leb most (held_count ts) && is_first key ts) (and_right (not (is_timed_out moment t)) (not (leb most (held_count ts) && is_first key ts)) test));
+          in_time =
+              not_true (is_timed_out moment t)
+              (and_left (not (is_timed_out moment t)) (not (leb most (held_count ts) && is_first key ts)) test);
+          kept =
+              and_false (leb most (held_count ts)) (is_first key ts)
+              (not_true (leb most (held_count ts) && is_first key ts)
+              (and_right (not (is_timed_out moment t)) (not (leb most (held_count ts) && is_first key ts)) test));
         },
       )
     ]) refl kept
@@ -152,12 +164,15 @@ roomy-set most ts key moment t new kept_here more =
     let count = held_count-set key ts t new kept_here.is in
     elim (cases_lt (held_count ts) most) [
       | inl fits ↦ (
-        roomy-fits (most + 1) (set_value (same_key key) ts new) (omega (arith, count, more)) ∙ ap (λ l. set_value (same_key key) l new) (sym (roomy-fits most ts fits)),
+        roomy-fits (most + 1) (set_value (same_key key) ts new) (omega (arith, count, more))
+            ∙ ap (λ l. set_value (same_key key) l new) (sym (roomy-fits most ts fits)),
         ap (lookup (same_key key)) (roomy-fits most ts fits) ∙ kept_here.is,
       )
       | inr full ↦
           let other = kept_here.kept (le_test most (held_count ts) full) in (
-            roomy-full (most + 1) (set_value (same_key key) ts new) (omega (arith, count, more)) ∙ set-first key ts new other ∙ ap (λ l. set_value (same_key key) l new) (sym (roomy-full most ts full)),
+            roomy-full (most + 1) (set_value (same_key key) ts new) (omega (arith, count, more))
+                ∙ set-first key ts new other
+                ∙ ap (λ l. set_value (same_key key) l new) (sym (roomy-full most ts full)),
             ap (lookup (same_key key)) (roomy-full most ts full) ∙ lookup-first key ts other ∙ kept_here.is,
           )
     ]
@@ -175,9 +190,13 @@ takes-grown most f ts new bytes are few kept grows =
     let more : length grown.segments ≡ length t.segments + 1 = length-append t.segments _ in
     let room = roomy-set most ts key f.moment t grown kept_here more in
     let finds = found-kept_at most f ts t are few kept_here in
-    let mine : own frag3 f ≡ grown = ap (λ l. joined f.ip f.part (unwrap_or (lookup (same_key key) l) (begun f.moment f.rules))) finds ∙ ap (λ o. joined f.ip f.part (unwrap_or o (begun f.moment f.rules))) room.1 in
+    let mine : own frag3 f ≡ grown =
+    ap (λ l. joined f.ip f.part (unwrap_or (lookup (same_key key) l) (begun f.moment f.rules))) finds
+    ∙ ap (λ o. joined f.ip f.part (unwrap_or o (begun f.moment f.rules))) room.1 in
     let step = grows t kept_here.is in (
-      step.0 ∙ ap (settled key (is_some (datagram_of grown))) room.0 ∙ settled-set key (roomy most ts) t grown (datagram_of grown) room.1
+      step.0
+          ∙ ap (settled key (is_some (datagram_of grown))) room.0
+          ∙ settled-set key (roomy most ts) t grown (datagram_of grown) room.1
           ∙ sym (ap (λ l. with_own key (own frag3 f) (remove_entry (same_key key) l) (datagram_of (own frag3 f))) finds
           ∙ ap (λ m. with_own key m (remove_entry (same_key key) (roomy most ts)) (datagram_of m)) mine),
       step.1 ∙ sym (ap datagram_of mine),
@@ -201,7 +220,11 @@ lookup-roomy-none most key ts none = elim (cases_lt (held_count ts) most) [
 ]
 
 -- without a tracker that has a fragment there is room
-removed-fits : (most : ℕ) (key : DatagramKey) (ts : Trackers) (t : TrackerState) → AreTrackers ts → held_count ts ≤ most → lookup (same_key key) ts ≡ Some t → held_count (remove_entry (same_key key) ts) < most
+removed-fits : (most : ℕ) (key : DatagramKey) (ts : Trackers) (t : TrackerState)
+    → AreTrackers ts
+    → held_count ts ≤ most
+    → lookup (same_key key) ts ≡ Some t
+    → held_count (remove_entry (same_key key) ts) < most
 removed-fits most key ts t are few is =
     let some = some_found key ts t are is in
     let count = ap (λ o. held_count (remove_entry (same_key key) ts) + unwrap_or (option_map (λ (t : TrackerState). length t.segments) o) 0) (sym is) ∙ held_count-remove key ts in
@@ -264,10 +287,13 @@ takes-begun most f ts new bytes are few some kept begins =
     let is = fresh most f ts are few kept in
     let rest = roomy most (remove_entry (same_key key) ts) in
     let first = joined f.ip f.part (begun f.moment f.rules) in
-    let mine : own frag3 f ≡ first = ap (λ l. joined f.ip f.part (unwrap_or (lookup (same_key key) l) (begun f.moment f.rules))) is.finds ∙ ap (λ o. joined f.ip f.part (unwrap_or o (begun f.moment f.rules))) is.none in
+    let mine : own frag3 f ≡ first =
+    ap (λ l. joined f.ip f.part (unwrap_or (lookup (same_key key) l) (begun f.moment f.rules))) is.finds
+    ∙ ap (λ o. joined f.ip f.part (unwrap_or o (begun f.moment f.rules))) is.none in
     let left : others frag3 f ≡ rest = ap (remove_entry (same_key key)) is.finds ∙ remove-none key rest is.none in (
       begins.0 ∙ placed-own most key first ts (datagram_of first) some refl
-          ∙ sym (ap (λ l. with_own key (own frag3 f) l (datagram_of (own frag3 f))) left ∙ ap (λ m. with_own key m rest (datagram_of m)) mine),
+          ∙ sym (ap (λ l. with_own key (own frag3 f) l (datagram_of (own frag3 f))) left ∙
+          ap (λ m. with_own key m rest (datagram_of m)) mine),
       begins.1 ∙ sym (ap datagram_of mine),
     )
 
@@ -284,7 +310,9 @@ held_count-after most f ts some =
     let below : held_count (found frag3 f) < most = with_room-below most (in_time f ts) some in
     let split = held_count-remove key (found frag3 f) in
     let all = with_own-held key (own frag3 f) (others frag3 f) (datagram_of (own frag3 f)) in
-    let one : length (own frag3 f).segments ≡ unwrap_or (option_map (λ (t : TrackerState). length t.segments) (lookup (same_key key) (found frag3 f))) 0 + 1 = own_count (lookup (same_key key) (found frag3 f)) in
+    let one : length (own frag3 f).segments
+    ≡ unwrap_or (option_map (λ (t : TrackerState). length t.segments) (lookup (same_key key) (found frag3 f))) 0 + 1 =
+    own_count (lookup (same_key key) (found frag3 f)) in
     omega (arith, below, split, all, one)
   where
     own_count : (o : Option TrackerState) → length (joined f.ip f.part (unwrap_or o (begun f.moment f.rules))).segments ≡ unwrap_or (option_map (λ (t : TrackerState). length t.segments) o) 0 + 1

@@ -1,5 +1,6 @@
 -- The index of no entries, and with one entry more.
-use Rattle.std.proofs.Common.{◌≡◌, ℕ, ◌<◌, ◌≤◌, Bool, true, false, cond, List, [], ◌∷◌, ◌++◌, length, get_or, set, get_or-set_same, get_or-set_other, Option, Some, None, is_some, refl, sym, ap, ◌∙◌, arith}
+use Rattle.std.proofs.Common.{◌≡◌, ℕ, ◌<◌, ◌≤◌, Bool, true, false, cond, List, [], ◌∷◌, ◌++◌, length, get_or, set}
+use Rattle.std.proofs.Common.{get_or-set_same, get_or-set_other, Option, Some, None, is_some, refl, sym, ap, ◌∙◌, arith}
 use Rattle.std.specs.List.{position_from}
 use Rattle.std.specs.BTreeMap.{BTreeMap, get, is_at}
 use Rattle.std.specs.Map.{lookup}
@@ -54,8 +55,14 @@ module _ (entries : List HostLine) (entry : HostLine) where
   unfolding place_of
   place-other net is = place-push_other (has net) 0 entries entry is
 
-  pub indexed-push : (places after : BTreeMap Key ℕ) (lengths : List Bool) → IsIndexed entries places lengths → IsNetwork entry.network → place_of entries entry.network ≡ None → entry.network.length < length lengths →
-      ((q : Key) → get key_cmp after q ≡ cond (is_at (key_cmp (key_of entry.network)) q) (Some (length entries)) (get key_cmp places q)) → IsIndexed (entries ++ entry ∷ []) after (set lengths entry.network.length true)
+  pub indexed-push : (places after : BTreeMap Key ℕ) (lengths : List Bool)
+      → IsIndexed entries places lengths
+      → IsNetwork entry.network
+      → place_of entries entry.network ≡ None
+      → entry.network.length < length lengths
+      → ((q : Key) →
+      get key_cmp after q ≡ cond (is_at (key_cmp (key_of entry.network)) q) (Some (length entries)) (get key_cmp places q))
+      → IsIndexed (entries ++ entry ∷ []) after (set lengths entry.network.length true)
   indexed-push places after lengths indexed sound new within updated = record {
     found = λ net.
         updated (key_of net)
@@ -77,7 +84,10 @@ module _ (entries : List HostLine) (entry : HostLine) where
         place-other net is ∙ indexed.marked net (sym (get_or-set_other lengths entry.network.length net.length true false (λ same. apart net fails (sym same))) ∙ fails)
 
 -- an entry has the network where the map has its place
-pub is_given-indexed : (entries : List HostLine) (places : BTreeMap Key ℕ) (lengths : List Bool) → IsIndexed entries places lengths → (net : Network) → is_some (get key_cmp places (key_of net)) ≡ is_given entries net
+pub is_given-indexed : (entries : List HostLine) (places : BTreeMap Key ℕ) (lengths : List Bool)
+    → IsIndexed entries places lengths
+    → (net : Network)
+    → is_some (get key_cmp places (key_of net)) ≡ is_given entries net
 unfolding place_of is_given
 is_given-indexed entries places lengths indexed net = ap is_some (indexed.found net) ∙ sym (any-place (has net) 0 entries)
 

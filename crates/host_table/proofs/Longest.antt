@@ -73,7 +73,10 @@ is_at entry addr n = by (eqb (length_of entry) n) refl where
 found : (entries : List HostLine) (addr : Addr) (n : ℕ) → IfSome (at_length entries addr n) (λ e. length_of e ≡ n)
 found [] addr n = tt
 found (entry ∷ rest) addr n = by (same_network entry.network (network_at addr n)) refl (found rest addr n) where
-  by : (b : Bool) → same_network entry.network (network_at addr n) ≡ b → IfSome (at_length rest addr n) (λ e. length_of e ≡ n) → IfSome (cond b (Some entry) (at_length rest addr n)) (λ e. length_of e ≡ n)
+  by : (b : Bool)
+      → same_network entry.network (network_at addr n) ≡ b
+      → IfSome (at_length rest addr n) (λ e. length_of e ≡ n)
+      → IfSome (cond b (Some entry) (at_length rest addr n)) (λ e. length_of e ≡ n)
   by true is later = ap (λ (net : Network). net.length) (same_network-is entry.network (network_at addr n) is) ∙ length-network_at addr n
   by false is later = later
 
@@ -88,7 +91,9 @@ short entries addr zero = tt
 short entries addr (suc n) = or_below (at_length entries addr n) (below entries addr n) n (found entries addr n) (short entries addr n)
 
 -- one entry more in front
-more : (entry : HostLine) (rest : List HostLine) (addr : Addr) (n : ℕ) → below (entry ∷ rest) addr n ≡ cond (has_address addr entry && ltb (length_of entry) n) (Some (longer entry (below rest addr n))) (below rest addr n)
+more : (entry : HostLine) (rest : List HostLine) (addr : Addr) (n : ℕ)
+    → below (entry ∷ rest) addr n ≡
+    cond (has_address addr entry && ltb (length_of entry) n) (Some (longer entry (below rest addr n))) (below rest addr n)
 unfolding below
 more entry rest addr zero = grind (arith, nat_tests)
 more entry rest addr (suc n) =
@@ -107,11 +112,15 @@ nothing_below [] addr (suc n) is = nothing_below [] addr n refl
 nothing_below (e ∷ es) addr n is = cc
 
 -- the entry in front, if it has the address, beside what is found after it
-front : (entry : HostLine) (rest : Option HostLine) (has : Bool) (n : ℕ) → (has ≡ true → length_of entry < n) → cond has (Some (longer entry rest)) rest ≡ cond (has && ltb (length_of entry) n) (Some (longer entry rest)) rest
+front : (entry : HostLine) (rest : Option HostLine) (has : Bool) (n : ℕ)
+    → (has ≡ true → length_of entry < n)
+    → cond has (Some (longer entry rest)) rest ≡ cond (has && ltb (length_of entry) n) (Some (longer entry rest)) rest
 front entry rest true n bound = let lt : length_of entry < n = bound refl in grind (arith, nat_tests)
 front entry rest false n bound = refl
 
-longest-filter : (entry : HostLine) (rest : List HostLine) (has : HostLine → Bool) → longest (filter has (entry ∷ rest)) ≡ cond (has entry) (Some (longer entry (longest (filter has rest)))) (longest (filter has rest))
+longest-filter : (entry : HostLine) (rest : List HostLine) (has : HostLine → Bool)
+    → longest (filter has (entry ∷ rest)) ≡
+    cond (has entry) (Some (longer entry (longest (filter has rest)))) (longest (filter has rest))
 longest-filter entry rest has = by (has entry) where
   by : (b : Bool) → longest (cond b (entry ∷ filter has rest) (filter has rest)) ≡ cond b (Some (longer entry (longest (filter has rest)))) (longest (filter has rest))
   by true = refl

@@ -23,12 +23,17 @@ module _ {X : Type 0} (test : X → Bool) where
     at_last : from + 1 + length xs ≡ from + length (y ∷ xs)
     at_last = omega arith
 
-    by : (b : Bool) → cond b (Some from) (position_from test (from + 1) xs) ≡ None → (position_from test (from + 1) xs ≡ None → position_from test (from + 1) (xs ++ x ∷ []) ≡ Some (from + 1 + length xs)) → cond b (Some from) (position_from test (from + 1) (xs ++ x ∷ [])) ≡ Some (from + length (y ∷ xs))
+    by : (b : Bool)
+        → cond b (Some from) (position_from test (from + 1) xs) ≡ None
+        → (position_from test (from + 1) xs ≡ None → position_from test (from + 1) (xs ++ x ∷ []) ≡ Some (from + 1 + length xs))
+        → cond b (Some from) (position_from test (from + 1) (xs ++ x ∷ [])) ≡ Some (from + length (y ∷ xs))
     by true some later = cc
     by false none later = later none ∙ ap Some at_last
 
   -- what is found first is at that place
-  pub place-finds : (from : ℕ) (xs : List X) (place : ℕ) (d : X) → position_from test from xs ≡ Some place → (from ≤ place) × (place < from + length xs) × (find test xs ≡ Some (get_or xs (place - from) d))
+  pub place-finds : (from : ℕ) (xs : List X) (place : ℕ) (d : X)
+      → position_from test from xs ≡ Some place
+      → (from ≤ place) × (place < from + length xs) × (find test xs ≡ Some (get_or xs (place - from) d))
   place-finds from [] place d is = cc
   place-finds from (x ∷ xs) place d is = by (test x) refl is (place-finds (from + 1) xs place d) where
     passes : test x ≡ true → Some from ≡ Some place → (from ≤ place) × (place < from + length (x ∷ xs)) × (find test (x ∷ xs) ≡ Some (get_or (x ∷ xs) (place - from) d))
@@ -37,7 +42,9 @@ module _ {X : Type 0} (test : X → Bool) where
         let none : place - from ≡ 0 = omega arith in
         (omega arith, omega arith, ap (λ b. cond b (Some x) (find test xs)) test_is ∙ ap (λ k. Some (get_or (x ∷ xs) k d)) (sym none))
 
-    fails : test x ≡ false → (from + 1 ≤ place) × (place < from + 1 + length xs) × (find test xs ≡ Some (get_or xs (place - (from + 1)) d)) → (from ≤ place) × (place < from + length (x ∷ xs)) × (find test (x ∷ xs) ≡ Some (get_or (x ∷ xs) (place - from) d))
+    fails : test x ≡ false
+        → (from + 1 ≤ place) × (place < from + 1 + length xs) × (find test xs ≡ Some (get_or xs (place - (from + 1)) d))
+        → (from ≤ place) × (place < from + length (x ∷ xs)) × (find test (x ∷ xs) ≡ Some (get_or (x ∷ xs) (place - from) d))
     fails test_is later =
         let next : suc (place - (from + 1)) ≡ place - from = omega (arith, later.0) in
         (omega (arith, later.0), omega (arith, later.1), ap (λ b. cond b (Some x) (find test xs)) test_is ∙ later.2 ∙ ap (λ k. Some (get_or (x ∷ xs) k d)) next)

@@ -32,7 +32,10 @@ module _ (entries : List HostLine) (number : ℕ) (line : List ℕ) (rest : List
   hosts_after-skipped none = ap (λ b. hosts_after entries (cond b (numbered number (trimmed line) ∷ later) later)) none
 
   -- a line with content gives an entry or a refusal
-  pub hosts_after-read : has_content (trimmed line) ≡ true → hosts_after entries (kept (numbered_lines number (line ∷ rest))) ≡ (host_line entries (numbered number (trimmed line)) >>= (λ entry. hosts_after (entries ++ entry ∷ []) (kept (numbered_lines (number + 1) rest))))
+  pub hosts_after-read : has_content (trimmed line) ≡ true
+      → hosts_after entries (kept (numbered_lines number (line ∷ rest))) ≡
+      (host_line entries (numbered number (trimmed line)) >>=
+      (λ entry. hosts_after (entries ++ entry ∷ []) (kept (numbered_lines (number + 1) rest))))
   unfolding numbered_lines hosts_after
   hosts_after-read some = ap (λ b. hosts_after entries (cond b (numbered number (trimmed line) ∷ later) later)) some
 
@@ -47,13 +50,21 @@ module _ (entries : List HostLine) (number : ℕ) (text line after bare : List �
   pub turn-skipped : false ≡ has_content bare → hosts_after entries (kept (numbered_lines number (lines text))) ≡ hosts_after entries (kept (numbered_lines (number + 1) (lines after)))
   turn-skipped none = opened ∙ hosts_after-skipped entries number line (lines after) (bare_content ∙ sym none)
 
-  turn-read : true ≡ has_content bare → (given : Result HostLine HostFault) → given ≡ host_line entries (numbered number bare) → hosts_after entries (kept (numbered_lines number (lines text))) ≡ (given >>= (λ entry. hosts_after (entries ++ entry ∷ []) (kept (numbered_lines (number + 1) (lines after)))))
+  turn-read : true ≡ has_content bare
+      → (given : Result HostLine HostFault)
+      → given ≡ host_line entries (numbered number bare)
+      → hosts_after entries (kept (numbered_lines number (lines text))) ≡
+      (given >>= (λ entry. hosts_after (entries ++ entry ∷ []) (kept (numbered_lines (number + 1) (lines after)))))
   turn-read some given gives =
       opened ∙ hosts_after-read entries number line (lines after) (bare_content ∙ sym some)
       ∙ ap (λ (r : Result HostLine HostFault). r >>= (λ entry. hosts_after (entries ++ entry ∷ []) (kept (numbered_lines (number + 1) (lines after)))))
       (ap (λ t. host_line entries (numbered number t)) (sym is) ∙ sym gives)
 
-  pub turn-taken : true ≡ has_content bare → (entry : HostLine) → Ok entry ≡ host_line entries (numbered number bare) → hosts_after entries (kept (numbered_lines number (lines text))) ≡ hosts_after (entries ++ entry ∷ []) (kept (numbered_lines (number + 1) (lines after)))
+  pub turn-taken : true ≡ has_content bare
+      → (entry : HostLine)
+      → Ok entry ≡ host_line entries (numbered number bare)
+      → hosts_after entries (kept (numbered_lines number (lines text))) ≡
+      hosts_after (entries ++ entry ∷ []) (kept (numbered_lines (number + 1) (lines after)))
   turn-taken some entry gives = turn-read some (Ok entry) gives
 
   pub turn-refused : true ≡ has_content bare → (fault : HostFault) → Err fault ≡ host_line entries (numbered number bare) → hosts_after entries (kept (numbered_lines number (lines text))) ≡ Err fault

@@ -14,7 +14,9 @@ use Rattle.packet_decode.specs.declared.skip.Skip.TheVariants as skip
 use Rattle.packet_decode.specs.declared.version.IpVersion.{IpVersion}
 use Rattle.packet_decode.specs.declared.version.IpVersion.TheVariants.{Four, Six}
 use Rattle.packet_decode.specs.Checksum.{is_all_ones}
-use Rattle.packet_decode.specs.Decoding.{Fields, data_bounds, datagram_at, decoded, icmp_at, ip_head_at, is_fragment, is_message_right, is_segment_right, link_start, tcp_at, tcp_head_at, transport_at, udp_at}
+use Rattle.packet_decode.specs.Decoding.{Fields, data_bounds, datagram_at, decoded, icmp_at, ip_head_at, is_fragment}
+use Rattle.packet_decode.specs.Decoding.{is_message_right, is_segment_right, link_start, tcp_at, tcp_head_at, transport_at}
+use Rattle.packet_decode.specs.Decoding.{udp_at}
 use Rattle.packet_decode.specs.Versions.{icmp_protocol, version_of}
 use Rattle.ipv6_decode.specs.declared.walk.Walk.{Walk}
 use Rattle.ipv6_decode.specs.Addresses.{HaveSameEnds, IsOfOneVersion, IsOfVersion, KeepVersions}

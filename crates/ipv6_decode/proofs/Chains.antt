@@ -1,6 +1,7 @@
 -- Whole chains of extension headers, as a sender writes them (RFC 8200, section 4.1): a walk goes
 -- over every chain of at most eight headers, whatever they hold, and a longer one is malformed.
-use Rattle.std.proofs.Common.{◌≡◌, ℕ, zero, suc, ◌+◌, ◌*◌, ◌<◌, ◌≤◌, List, [], ◌∷◌, ◌++◌, length, true, false, ◌||◌, nat_lt, ◌==◌, Ok, Err, refl, sym, ap, ◌∙◌, arith, length-append, append_assoc, append-nil}
+use Rattle.std.proofs.Common.{◌≡◌, ℕ, zero, suc, ◌+◌, ◌*◌, ◌<◌, ◌≤◌, List, [], ◌∷◌, ◌++◌, length, true, false, ◌||◌, nat_lt, ◌==◌}
+use Rattle.std.proofs.Common.{Ok, Err, refl, sym, ap, ◌∙◌, arith, length-append, append_assoc, append-nil}
 use Rattle.std.proofs.lemmas.List.{get_or_at, get_or-append-add}
 use Rattle.std.proofs.lemmas.Bool.{le-ltb}
 use Rattle.std.proofs.lemmas.Bool.Decides.{nat_tests}
@@ -69,9 +70,11 @@ over_one head header next before after good =
     rw (other, field, units, whole, number, end) refl
 
 -- a walk over a chain goes over its first header
-over_first : (head : IpHead) (header : Extension) (headers : List Extension) (left next : ℕ) (before after : List ℕ) → IsExtension header
+over_first : (head : IpHead) (header : Extension) (headers : List Extension) (left next : ℕ) (before after : List ℕ)
+    → IsExtension header
     → walk_end (suc left) (walk_after head header.number before) (before ++ (chain_bytes (header ∷ headers) next ++ after))
-    ≡ walk_end left (walk_after head (first_number headers next) (before ++ header_bytes header (first_number headers next))) ((before ++ header_bytes header (first_number headers next)) ++ (chain_bytes headers next ++ after))
+    ≡ walk_end left (walk_after head (first_number headers next) (before ++ header_bytes header (first_number headers next)))
+    ((before ++ header_bytes header (first_number headers next)) ++ (chain_bytes headers next ++ after))
 over_first head header headers left next before after good =
     let here : List ℕ = header_bytes header (first_number headers next) in
     let later : List ℕ = chain_bytes headers next in
@@ -82,8 +85,12 @@ over_first head header headers left next before after good =
     ∙ ap (λ (bytes : List ℕ). walk_end left beyond bytes) (sym (append_assoc before here (later ++ after)))
 
 -- a chain of at most `left` headers is gone over whole, up to what is no extension header
-pub walk_end-chain : (headers : List Extension) (left : ℕ) (head : IpHead) (next : ℕ) (before after : List ℕ) → AreExtensions headers → length headers ≤ left → (has_length_field next || next == 44) ≡ false
-    → walk_end left (walk_after head (first_number headers next) before) (before ++ (chain_bytes headers next ++ after)) ≡ Ok (walk_after head next (before ++ chain_bytes headers next))
+pub walk_end-chain : (headers : List Extension) (left : ℕ) (head : IpHead) (next : ℕ) (before after : List ℕ)
+    → AreExtensions headers
+    → length headers ≤ left
+    → (has_length_field next || next == 44) ≡ false
+    → walk_end left (walk_after head (first_number headers next) before) (before ++ (chain_bytes headers next ++ after)) ≡
+    Ok (walk_after head next (before ++ chain_bytes headers next))
 walk_end-chain [] left head next before after good few last =
     ended left (walk_after head next before) (before ++ after) (rw last refl)
     ∙ ap (λ (bytes : List ℕ). Ok (walk_after head next bytes)) (sym (append-nil before))

@@ -16,7 +16,10 @@ use Rattle.flow_lanes.specs.declared.facts.FlowFacts.{FlowFacts}
 use Rattle.flow_lanes.specs.Sound.{IsSoundFor, ends_of, facts_after_one, facts_after_work}
 use Rattle.flow_lanes.specs.LanesAfter.{LaneState, LearnsJob, facts_kept, kept_of, known_of}
 
-ends_same : (preference : Preference) (done : ℕ) (known : Option FlowFacts) (p : Packet) → ends_of p ≡ dialogue_ends preference → IfSome known (IsFewTurns preference done) → IfSome known (λ f. f.ends ≡ ends_of p)
+ends_same : (preference : Preference) (done : ℕ) (known : Option FlowFacts) (p : Packet)
+    → ends_of p ≡ dialogue_ends preference
+    → IfSome known (IsFewTurns preference done)
+    → IfSome known (λ f. f.ends ≡ ends_of p)
 ends_same preference done None p ends few = tt
 ends_same preference done (Some f) p ends few = few.ends ∙ sym ends
 
@@ -24,7 +27,10 @@ few_enough : (preference : Preference) (done : ℕ) (known : Option FlowFacts) �
 few_enough preference done None below few = tt
 few_enough preference done (Some f) below few = let here = few.packets in omega arith
 
-sound_turn : (preference : Preference) (lane : LaneState) (done : ℕ) (number : ℕ) (moment : Moment) (w : Work) (engines : ℕ) → IsTurnWork preference moment w → IsDialogue preference lane done → done < 2 ^ 32
+sound_turn : (preference : Preference) (lane : LaneState) (done : ℕ) (number : ℕ) (moment : Moment) (w : Work) (engines : ℕ)
+    → IsTurnWork preference moment w
+    → IsDialogue preference lane done
+    → done < 2 ^ 32
     → IsSoundFor engines (facts_kept (kept_of lane 0)) (record { number = number; moment = moment; work = w })
 sound_turn preference lane done number moment (work.Alone head payload) engines turn so_far below = tt
 sound_turn preference lane done number moment (work.Packet flow head payload to_dst to_src) engines turn so_far below =
@@ -42,17 +48,26 @@ sound_turn preference lane done number moment (work.Packet flow head payload to_
 sound_turn preference lane done number moment (work.Finish flow) engines turn so_far below = tt
 
 -- the lane knows of a turn's flow what it knows of flow 0
-known_of_turn : (preference : Preference) (lane : LaneState) (number : ℕ) (moment : Moment) (w : Work) → IsTurnWork preference moment w → known_of lane (record { number = number; moment = moment; work = w }) ≡ facts_kept (kept_of lane 0)
+known_of_turn : (preference : Preference) (lane : LaneState) (number : ℕ) (moment : Moment) (w : Work)
+    → IsTurnWork preference moment w
+    → known_of lane (record { number = number; moment = moment; work = w }) ≡ facts_kept (kept_of lane 0)
 known_of_turn preference lane number moment (work.Alone head payload) turn = absurd turn
 known_of_turn preference lane number moment (work.Packet flow head payload to_dst to_src) turn = ap (λ f. facts_kept (kept_of lane f)) turn.flow_is
 known_of_turn preference lane number moment (work.Finish flow) turn = ap (λ f. facts_kept (kept_of lane f)) turn
 
-pub dialogue-sound : (preference : Preference) (lane : LaneState) (done : ℕ) (job : Job) (engines : ℕ) → IsTurnJob preference job → IsDialogue preference lane done → done < 2 ^ 32 → IsSoundFor engines (known_of lane job) job
+pub dialogue-sound : (preference : Preference) (lane : LaneState) (done : ℕ) (job : Job) (engines : ℕ)
+    → IsTurnJob preference job
+    → IsDialogue preference lane done
+    → done < 2 ^ 32
+    → IsSoundFor engines (known_of lane job) job
 dialogue-sound preference lane done job engines turn so_far below =
     subst (λ (known : Option FlowFacts). IsSoundFor engines known job) (sym (known_of_turn preference lane job.number job.moment job.work turn))
     (sound_turn preference lane done job.number job.moment job.work engines turn so_far below)
 
-more_turns : (preference : Preference) (done : ℕ) (known : Option FlowFacts) (moment : Moment) (w : Work) → IsTurnWork preference moment w → IfSome known (IsFewTurns preference done) → IfSome (facts_after_work known moment w) (IsFewTurns preference (done + 1))
+more_turns : (preference : Preference) (done : ℕ) (known : Option FlowFacts) (moment : Moment) (w : Work)
+    → IsTurnWork preference moment w
+    → IfSome known (IsFewTurns preference done)
+    → IfSome (facts_after_work known moment w) (IsFewTurns preference (done + 1))
 more_turns preference done known moment (work.Alone head payload) turn few = absurd turn
 more_turns preference done known moment (work.Packet flow head payload to_dst to_src) turn few = record { ends = turn.ends; packets = counted known few }
   where
@@ -66,7 +81,11 @@ same_turn preference number moment (work.Alone head payload) turn = absurd turn
 same_turn preference number moment (work.Packet flow head payload to_dst to_src) turn = grind (arith, nat_tests)
 same_turn preference number moment (work.Finish flow) turn = grind (arith, nat_tests)
 
-pub dialogue-more : (preference : Preference) (old new : LaneState) (done : ℕ) (job : Job) → IsTurnJob preference job → IsDialogue preference old done → LearnsJob old job new → IsDialogue preference new (done + 1)
+pub dialogue-more : (preference : Preference) (old new : LaneState) (done : ℕ) (job : Job)
+    → IsTurnJob preference job
+    → IsDialogue preference old done
+    → LearnsJob old job new
+    → IsDialogue preference new (done + 1)
 dialogue-more preference old new done job turn so_far learns =
     let at = known_of_turn preference in
     let is : facts_kept (kept_of new 0) ≡ facts_after_work (facts_kept (kept_of old 0)) job.moment job.work =

@@ -41,7 +41,11 @@ one_part (byte ∷ part) nonempty = grind (arith, nat_tests)
 pub lines_last : (text : List ℕ) → 0 < length text → IsFirstByte (is_byte 10) text None → lines text ≡ text ∷ lines (take (length text - length text) (drop (length text) text))
 lines_last text nonempty found =
     let rest : take (length text - length text) (drop (length text) text) ≡ [] = grind (arith, common_steps) in
-    ap lines_of_parts (slice_split_none (is_byte 10) text (λ k d within. let same : get_or text k d ≡ get_or text k 0 = grind (arith, common_steps) in rw same (not_true _ (found k (omega arith) within))))
+    ap lines_of_parts
+    (slice_split_none (is_byte 10) text
+    (λ k d within.
+    let same : get_or text k d ≡ get_or text k 0 = grind (arith, common_steps) in
+    rw same (not_true _ (found k (omega arith) within))))
     ∙ one_part text nonempty
     ∙ ap (λ (after : List ℕ). text ∷ lines after) (sym rest)
 
@@ -59,7 +63,10 @@ lines-cons : (front text : List ℕ) → lines_of_parts (front ∷ slice_split i
 lines-cons front [] = refl
 lines-cons front (x ∷ xs) = go (is_feed x)
   where
-    go : (b : Bool) → lines_of_parts (front ∷ cond b ([] ∷ slice_split is_feed xs) (onto_first x (slice_split is_feed xs))) ≡ strip_carriage_return front ∷ lines_of_parts (cond b ([] ∷ slice_split is_feed xs) (onto_first x (slice_split is_feed xs)))
+    go : (b : Bool)
+        → lines_of_parts (front ∷ cond b ([] ∷ slice_split is_feed xs) (onto_first x (slice_split is_feed xs))) ≡
+        strip_carriage_return front ∷
+        lines_of_parts (cond b ([] ∷ slice_split is_feed xs) (onto_first x (slice_split is_feed xs)))
     go true = refl
     go false = joined_front x (slice_split is_feed xs) front
 
@@ -79,4 +86,8 @@ lines-some x xs = go (is_feed x) refl (slice_split is_feed xs) refl
     go true e parts p = record { line = strip_carriage_return []; more = lines xs; begins = parts_are true e ∙ lines-cons [] xs }
     go false e [] p = record { line = x ∷ []; more = []; begins = parts_are false e ∙ ap (λ ps. lines_of_parts (onto_first x ps)) p ∙ one_part (x ∷ []) (omega arith) }
     go false e (part ∷ []) p = record { line = x ∷ part; more = []; begins = parts_are false e ∙ ap (λ ps. lines_of_parts (onto_first x ps)) p ∙ one_part (x ∷ part) (omega arith) }
-    go false e (part ∷ next ∷ rest) p = record { line = strip_carriage_return (x ∷ part); more = lines_of_parts (next ∷ rest); begins = parts_are false e ∙ ap (λ ps. lines_of_parts (onto_first x ps)) p }
+    go false e (part ∷ next ∷ rest) p = record {
+      line = strip_carriage_return (x ∷ part);
+      more = lines_of_parts (next ∷ rest);
+      begins = parts_are false e ∙ ap (λ ps. lines_of_parts (onto_first x ps)) p;
+    }

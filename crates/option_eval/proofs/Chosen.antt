@@ -41,7 +41,10 @@ same_at (a ∷ xs) zero x y below is-x is-y = is-x ∙ sym is-y
 same_at (a ∷ xs) (suc k) x y below is-x is-y = same_at xs k x y (omega arith) is-x is-y
 
 -- some way leads through the options from the payload's start
-pub way_start : (means : Means) (payload : List ℕ) (options : List Opt) → (((way : List Point) × IsWay means payload options start way) → MatchesFromOne means payload options (0 ∷ 0 ∷ []) (0 ∷ [])) × (MatchesFromOne means payload options (0 ∷ 0 ∷ []) (0 ∷ []) → (way : List Point) × IsWay means payload options start way)
+pub way_start : (means : Means) (payload : List ℕ) (options : List Opt)
+    → (((way : List Point) × IsWay means payload options start way) →
+    MatchesFromOne means payload options (0 ∷ 0 ∷ []) (0 ∷ [])) ×
+    (MatchesFromOne means payload options (0 ∷ 0 ∷ []) (0 ∷ []) → (way : List Point) × IsWay means payload options start way)
 way_start means payload options = (
   λ m. (0, contains_first 0 [], m),
   λ m.
@@ -61,7 +64,10 @@ map_push f [] x = refl
 map_push f (y ∷ xs) x = ap (λ ys. f y ∷ ys) (map_push f xs x)
 
 -- a maker that means the same made the same
-pub made_same : {P : Type 0} (finds : P → List ℕ → Option Span) (means means' : Means) (option : Opt) (pattern : Option P) → SameMeaning means means' → IsMade finds means' option pattern → IsMade finds means option pattern
+pub made_same : {P : Type 0} (finds : P → List ℕ → Option Span) (means means' : Means) (option : Opt) (pattern : Option P)
+    → SameMeaning means means'
+    → IsMade finds means' option pattern
+    → IsMade finds means option pattern
 made_same finds means means' (opt.Pcre text flags relative negated) (Some pattern) same h = λ bytes. h bytes ∙ same text flags bytes
 made_same finds means means' (opt.Pcre text flags relative negated) None same h = h
 made_same finds means means' _ pattern same h = tt

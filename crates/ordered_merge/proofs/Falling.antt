@@ -23,14 +23,32 @@ AtMost-taken : {T : Type 0} (number : ℕ) (left rest : List (Numbered T)) (entr
 AtMost-taken number left rest entry moved = All-permutation (λ entry. entry.number ≤ number) left (entry ∷ rest) moved
 
 -- the greatest of what is left goes after what was taken
-pub FallsInto-more : {T : Type 0} (taken left rest : List (Numbered T)) (entry : Numbered T) → FallsInto taken left → IsPermutation left (entry ∷ rest) → AtMost entry.number left → FallsInto (taken ++ entry ∷ []) rest
+pub FallsInto-more : {T : Type 0} (taken left rest : List (Numbered T)) (entry : Numbered T)
+    → FallsInto taken left
+    → IsPermutation left (entry ∷ rest)
+    → AtMost entry.number left
+    → FallsInto (taken ++ entry ∷ []) rest
 FallsInto-more {T} taken left rest entry so_far moved greatest = record {
-  falls = all_pairs_push (λ (one other : Numbered T). other.number ≤ one.number) taken entry so_far.falls (λ k d within. All-head (λ (e : Numbered T). e.number ≤ (get_or taken k d).number) entry rest (AtMost-taken (get_or taken k d).number left rest entry moved (so_far.above k d within)));
-  above = All-push (λ (e : Numbered T). AtMost e.number rest) taken entry (λ k d within. All-tail (λ (e : Numbered T). e.number ≤ (get_or taken k d).number) entry rest (AtMost-taken (get_or taken k d).number left rest entry moved (so_far.above k d within))) (All-tail (λ (e : Numbered T). e.number ≤ entry.number) entry rest (AtMost-taken entry.number left rest entry moved greatest));
+  falls =
+      all_pairs_push (λ (one other : Numbered T). other.number ≤ one.number) taken entry
+      so_far.falls
+      (λ k d within. All-head (λ (e : Numbered T). e.number ≤ (get_or taken k d).number) entry rest
+      (AtMost-taken (get_or taken k d).number left rest entry moved (so_far.above k d within)));
+  above =
+      All-push (λ (e : Numbered T). AtMost e.number rest) taken entry
+      (λ k d within. All-tail (λ (e : Numbered T). e.number ≤ (get_or taken k d).number) entry rest
+      (AtMost-taken (get_or taken k d).number left rest entry moved (so_far.above k d within)))
+      (All-tail (λ (e : Numbered T). e.number ≤ entry.number) entry rest
+      (AtMost-taken entry.number left rest entry moved greatest));
 }
 
 -- the numbers of a falling list, read from its end, do not fall: here with some entry at hand
-at_reversed : {T : Type 0} (some : Numbered T) (taken : List (Numbered T)) → Falls taken → (i j d : ℕ) → i ≤ j → j < length (numbers (reverse taken)) → get_or (numbers (reverse taken)) i d ≤ get_or (numbers (reverse taken)) j d
+at_reversed : {T : Type 0} (some : Numbered T) (taken : List (Numbered T))
+    → Falls taken
+    → (i j d : ℕ)
+    → i ≤ j
+    → j < length (numbers (reverse taken))
+    → get_or (numbers (reverse taken)) i d ≤ get_or (numbers (reverse taken)) j d
 at_reversed {T} some taken falls i j d up within =
     let number = λ (entry : Numbered T). entry.number in
     let size = length-map (reverse taken) number in
@@ -51,7 +69,9 @@ IsNonDecreasing-reversed (some ∷ taken) falls i j d up within = at_reversed so
 -- a falling list without equal numbers ascends when it is read from its end
 pub Ascends-reversed : {T : Type 0} (taken : List (Numbered T)) → Falls taken → IsDistinct eqb (numbers taken) → Ascends (reverse taken)
 Ascends-reversed {T} taken falls apart =
-    IsStrictlyIncreasing-from_distinct (numbers (reverse taken)) (IsNonDecreasing-reversed taken falls) (IsDistinct-IsPermutation eqb eqb_flips (numbers taken) (numbers (reverse taken)) (IsPermutation-map (λ (e : Numbered T). e.number) taken (reverse taken) (IsPermutation-reverse taken)) apart)
+    IsStrictlyIncreasing-from_distinct (numbers (reverse taken)) (IsNonDecreasing-reversed taken falls)
+    (IsDistinct-IsPermutation eqb eqb_flips (numbers taken) (numbers (reverse taken))
+    (IsPermutation-map (λ (e : Numbered T). e.number) taken (reverse taken) (IsPermutation-reverse taken)) apart)
 
 -- numbers that differ stay so when the entries change places
 pub IsDistinct-moved : {T : Type 0} (entries moved : List (Numbered T)) → IsPermutation entries moved → IsDistinct eqb (numbers entries) → IsDistinct eqb (numbers moved)

@@ -16,7 +16,11 @@ use Rattle.ordered_merge.proofs.Numbers.{apart_above, eqb_flips}
 -- ---- the entry of a number
 
 -- what a number finds at the first entry or after it
-at_first : {T : Type 0} (first entry : Numbered T) (entries : List (Numbered T)) (number : ℕ) (same : Bool) → eqb first.number number ≡ same → cond same (Some first) (entry_of entries number) ≡ Some entry → (entry_of entries number ≡ Some entry → Contains entries entry × (entry.number ≡ number)) → Contains (first ∷ entries) entry × (entry.number ≡ number)
+at_first : {T : Type 0} (first entry : Numbered T) (entries : List (Numbered T)) (number : ℕ) (same : Bool)
+    → eqb first.number number ≡ same
+    → cond same (Some first) (entry_of entries number) ≡ Some entry
+    → (entry_of entries number ≡ Some entry → Contains entries entry × (entry.number ≡ number))
+    → Contains (first ∷ entries) entry × (entry.number ≡ number)
 at_first {T} first entry entries number true test found after =
     let is : first ≡ entry = same_Some first entry found in
     let numbered : first.number ≡ number = grind (arith, nat_tests) in
@@ -50,12 +54,22 @@ entry_of-from_Contains (first ∷ entries) entry apart (suc k, within, is) =
     rw (apart_from_first first entry entries apart has) (entry_of-from_Contains entries entry (IsDistinct-tail eqb first.number (numbers entries) apart) has)
 
 -- what is found in some order is found in each
-found_too : {T : Type 0} (entries moved : List (Numbered T)) (number : ℕ) (entry : Numbered T) → IsPermutation entries moved → IsDistinct eqb (numbers moved) → entry_of entries number ≡ Some entry → entry_of moved number ≡ Some entry
+found_too : {T : Type 0} (entries moved : List (Numbered T)) (number : ℕ) (entry : Numbered T)
+    → IsPermutation entries moved
+    → IsDistinct eqb (numbers moved)
+    → entry_of entries number ≡ Some entry
+    → entry_of moved number ≡ Some entry
 found_too entries moved number entry permutation apart found =
     let has = entry_of-Some entries number entry found in
     subst (λ (n : ℕ). entry_of moved n ≡ Some entry) has.1 (entry_of-from_Contains moved entry apart (Contains-permutation entries moved entry permutation has.0))
 
-by_answers : {T : Type 0} (entries moved : List (Numbered T)) (number : ℕ) (one other : Option (Numbered T)) → IsPermutation entries moved → IsDistinct eqb (numbers entries) → IsDistinct eqb (numbers moved) → entry_of entries number ≡ one → entry_of moved number ≡ other → other ≡ one
+by_answers : {T : Type 0} (entries moved : List (Numbered T)) (number : ℕ) (one other : Option (Numbered T))
+    → IsPermutation entries moved
+    → IsDistinct eqb (numbers entries)
+    → IsDistinct eqb (numbers moved)
+    → entry_of entries number ≡ one
+    → entry_of moved number ≡ other
+    → other ≡ one
 by_answers entries moved number (Some entry) other permutation apart apart_too found found_moved =
     sym found_moved ∙ found_too entries moved number entry permutation apart_too found
 by_answers entries moved number None None permutation apart apart_too found found_moved = refl
@@ -64,7 +78,11 @@ by_answers entries moved number None (Some entry) permutation apart apart_too fo
     cc
 
 -- entries of which no two have one number are found alike in any order
-pub entry_of-permutation : {T : Type 0} (entries moved : List (Numbered T)) (number : ℕ) → IsPermutation entries moved → IsDistinct eqb (numbers entries) → IsDistinct eqb (numbers moved) → entry_of moved number ≡ entry_of entries number
+pub entry_of-permutation : {T : Type 0} (entries moved : List (Numbered T)) (number : ℕ)
+    → IsPermutation entries moved
+    → IsDistinct eqb (numbers entries)
+    → IsDistinct eqb (numbers moved)
+    → entry_of moved number ≡ entry_of entries number
 entry_of-permutation entries moved number permutation apart apart_too =
     by_answers entries moved number (entry_of entries number) (entry_of moved number) permutation apart apart_too refl refl
 
@@ -110,9 +128,14 @@ same_lists (x ∷ xs) (y ∷ ys) up up_too there back =
 -- the ascending order of some numbers is unique
 pub ascending_unique : (xs ys : List ℕ) → IsPermutation xs ys → IsStrictlyIncreasing xs → IsStrictlyIncreasing ys → xs ≡ ys
 ascending_unique xs ys permutation up up_too =
-    same_lists xs ys (AllPairs-from_increasing xs up) (AllPairs-from_increasing ys up_too) (λ z. Contains-permutation xs ys z permutation) (λ z. Contains-permutation ys xs z (IsPermutation-sym xs ys permutation))
+    same_lists xs ys (AllPairs-from_increasing xs up) (AllPairs-from_increasing ys up_too)
+    (λ z. Contains-permutation xs ys z permutation)
+    (λ z. Contains-permutation ys xs z (IsPermutation-sym xs ys permutation))
 
 -- numbers that are those of an ascending list, in another order, are all different
 pub apart_permuted : (given permuted : List ℕ) → IsStrictlyIncreasing given → IsPermutation given permuted → IsDistinct eqb permuted
 apart_permuted given permuted up permutation =
-    IsDistinct-IsPermutation eqb eqb_flips given permuted permutation (IsDistinct-from_apart eqb given (λ i j d before within. apart_above (get_or given i d) (get_or given j d) (AllPairs-from_increasing given up i j d before within)))
+    IsDistinct-IsPermutation eqb eqb_flips given permuted permutation
+    (IsDistinct-from_apart eqb given
+    (λ i j d before within. apart_above (get_or given i d) (get_or given j d)
+    (AllPairs-from_increasing given up i j d before within)))

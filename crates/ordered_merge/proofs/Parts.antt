@@ -10,12 +10,18 @@ use Rattle.ordered_merge.specs.Merging.{Ascends, joined, numbers}
 use Rattle.ordered_merge.specs.Greatest.{AtMost, EndsIn}
 
 -- where a part loses its last entry, the joined list loses that entry
-pub IsPermutation-popped : {T A : Type 0} (parts : List (Vec (Numbered T) A)) (at : ℕ) (left d : Vec (Numbered T) A) (entry : Numbered T) → at < length parts → (get_or parts at d).items ≡ left.items ++ entry ∷ [] → IsPermutation (joined parts) (entry ∷ joined (set parts at left))
+pub IsPermutation-popped : {T A : Type 0} (parts : List (Vec (Numbered T) A)) (at : ℕ) (left d : Vec (Numbered T) A)
+    (entry : Numbered T)
+    → at < length parts
+    → (get_or parts at d).items ≡ left.items ++ entry ∷ []
+    → IsPermutation (joined parts) (entry ∷ joined (set parts at left))
 IsPermutation-popped [] at left d entry within is = absurd (omega arith)
 IsPermutation-popped (part ∷ parts) zero left d entry within is =
     rw is (rw append_assoc (IsPermutation-middle left.items entry (joined parts)))
 IsPermutation-popped (part ∷ parts) (suc at) left d entry within is =
-    IsPermutation-trans _ _ _ (IsPermutation-append_right part.items _ _ (IsPermutation-popped parts at left d entry (omega arith) is)) (IsPermutation-middle part.items entry (joined (set parts at left)))
+    IsPermutation-trans _ _ _
+    (IsPermutation-append_right part.items _ _ (IsPermutation-popped parts at left d entry (omega arith) is))
+    (IsPermutation-middle part.items entry (joined (set parts at left)))
 
 -- what holds of each entry of each part holds of each entry of the joined list
 pub All-joined : {T A : Type 0} (P : Numbered T → Type 0) (parts : List (Vec (Numbered T) A)) → All (λ part. All P part.items) parts → All P (joined parts)

@@ -1,7 +1,8 @@
 -- A part of a record reads as the record does: a place in the part is a place further on in the
 -- record. So the transport header, which the code reads in a slice, is the one that the definition
 -- names by places in the whole record.
-use Rattle.std.proofs.Common.{◌≡◌, ℕ, ◌+◌, ◌-◌, ◌*◌, ◌/◌, ◌<◌, ◌≤◌, List, length, take, drop, get_or, Bool, true, false, None, Result, Ok, nat_lt, refl, sym, ap, ◌∙◌, arith, ⊎_elim, length-drop, length-take-le}
+use Rattle.std.proofs.Common.{◌≡◌, ℕ, ◌+◌, ◌-◌, ◌*◌, ◌/◌, ◌<◌, ◌≤◌, List, length, take, drop, get_or, Bool, true, false, None}
+use Rattle.std.proofs.Common.{Result, Ok, nat_lt, refl, sym, ap, ◌∙◌, arith, ⊎_elim, length-drop, length-take-le}
 use Rattle.std.proofs.lemmas.List.{get_or-take, get_or-drop, drop-take, take-take, drop-drop}
 use Rattle.std.proofs.lemmas.Bool.{cases_lt, lt-ltb, le-ltb, or_right}
 use Rattle.std.proofs.lemmas.Bool.Decides.{nat_tests}
@@ -158,7 +159,11 @@ transport_part {bytes = bytes} {part = part} {start = start} {stop = stop} p ip 
     rw (tcp_part p ip checks.tcp, udp_part p ip checks.udp, icmp_part p ip checks.icmp, whole) refl
 
 -- a packet that was read from a part lies so much further on in the record
-pub placed_part : {bytes part : List ℕ} {start stop : ℕ} → IsPart bytes part start stop → (packet : Placed) → packet.start + packet.len ≤ length part → placed part None packet ≡ placed bytes None (record packet { start = packet.start + start })
+pub placed_part : {bytes part : List ℕ} {start stop : ℕ}
+    → IsPart bytes part start stop
+    → (packet : Placed)
+    → packet.start + packet.len ≤ length part
+    → placed part None packet ≡ placed bytes None (record packet { start = packet.start + start })
 placed_part {bytes = bytes} {part = part} {start = start} {stop = stop} p packet within = ap carrying same
   where
     carrying : List ℕ → Result Fields Skip

@@ -32,7 +32,13 @@ keeps-refl used = record { kept = λ byte h. h }
 pub marked-on : (old new : List Bool) (pattern : List ℕ) → KeepsMarks old new → AreMarked old pattern → AreMarked new pattern
 marked-on old new pattern keeps are = record { each = All-weaker (IsMarked old) (IsMarked new) (λ byte is. record { short = is.short; marked = keeps.kept (lower byte) is.marked }) pattern are.each }
 
-pub marked-more : (used : List Bool) (pattern : List ℕ) (i : ℕ) (at : ℕ) → AreMarked used (take i pattern) → i < length pattern → get_or pattern i 0 < 256 → at ≡ lower (get_or pattern i 0) → length used ≡ 256 → AreMarked (set used at true) (take (i + 1) pattern)
+pub marked-more : (used : List Bool) (pattern : List ℕ) (i : ℕ) (at : ℕ)
+    → AreMarked used (take i pattern)
+    → i < length pattern
+    → get_or pattern i 0 < 256
+    → at ≡ lower (get_or pattern i 0)
+    → length used ≡ 256
+    → AreMarked (set used at true) (take (i + 1) pattern)
 marked-more used pattern i at are within short is sized =
     let now = marked-on used (set used at true) (take i pattern) (keeps-set used at) are in
     record {
@@ -51,7 +57,12 @@ marked-none used pattern = record { each = λ k d h. absurd (omega arith) }
 pub patterns-none : (used : List Bool) (patterns : List (List ℕ)) → AllMarked used (take 0 patterns)
 patterns-none used patterns = record { each = λ k d h. absurd (omega arith) }
 
-pub patterns-more : (old new : List Bool) (patterns : List (List ℕ)) (i : ℕ) (d : List ℕ) → AllMarked old (take i patterns) → KeepsMarks old new → i < length patterns → AreMarked new (get_or patterns i d) → AllMarked new (take (i + 1) patterns)
+pub patterns-more : (old new : List Bool) (patterns : List (List ℕ)) (i : ℕ) (d : List ℕ)
+    → AllMarked old (take i patterns)
+    → KeepsMarks old new
+    → i < length patterns
+    → AreMarked new (get_or patterns i d)
+    → AllMarked new (take (i + 1) patterns)
 patterns-more old new patterns i d are keeps within here = record {
   each = All-more (AreMarked new) patterns i d within (All-weaker (AreMarked old) (AreMarked new) (λ pattern. marked-on old new pattern keeps) (take i patterns) are.each) here;
 }
@@ -135,7 +146,9 @@ pub folded-more : (lowered letters : List ℕ) (byte at : ℕ) → AreFolded low
 folded-more lowered letters byte at are within is = record {
   sized = length-set letters byte (get_or lowered at 0) ∙ are.sized;
   folded = λ other h. ⊎_elim
-      (λ e. ap (λ b. get_or (set letters byte (get_or lowered at 0)) b 0) e ∙ get_or-set_same letters byte (get_or lowered at 0) 0 (omega (arith, are.sized)) ∙ ap (λ b. get_or lowered b 0) (is ∙ ap lower (sym e)))
+      (λ e. ap (λ b. get_or (set letters byte (get_or lowered at 0)) b 0) e ∙
+      get_or-set_same letters byte (get_or lowered at 0) 0 (omega (arith, are.sized)) ∙
+      ap (λ b. get_or lowered b 0) (is ∙ ap lower (sym e)))
       (λ ne. get_or-set_other letters byte other (get_or lowered at 0) 0 ne ∙ are.folded other (omega arith))
       (cases_eq other byte);
 }
@@ -161,8 +174,11 @@ module _ (used : List Bool) (lowered letters : List ℕ) (last : ℕ) (numbered 
         let one_is = folded.folded byte is.short in
         let other_is = folded.folded other short in
         same_bools (get_or letters byte 0 == get_or letters other 0) (lower byte == lower other)
-        (λ e. eq-eqb (lower byte) (lower other) (lowered-apart (lower byte) (lower other) (lower-short byte is.short) (lower-short other short) is.marked (sym one_is ∙ eqb-true (get_or letters byte 0) (get_or letters other 0) e ∙ other_is)))
-        (λ e. eq-eqb (get_or letters byte 0) (get_or letters other 0) (one_is ∙ ap (λ b. get_or lowered b 0) (eqb-true (lower byte) (lower other) e) ∙ sym other_is));
+        (λ e. eq-eqb (lower byte) (lower other)
+        (lowered-apart (lower byte) (lower other) (lower-short byte is.short) (lower-short other short) is.marked
+        (sym one_is ∙ eqb-true (get_or letters byte 0) (get_or letters other 0) e ∙ other_is)))
+        (λ e. eq-eqb (get_or letters byte 0) (get_or letters other 0)
+        (one_is ∙ ap (λ b. get_or lowered b 0) (eqb-true (lower byte) (lower other) e) ∙ sym other_is));
   }
 
   pub all-told : (patterns : List (List ℕ)) → AllMarked used patterns → AllTold letters patterns

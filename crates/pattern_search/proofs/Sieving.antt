@@ -13,21 +13,34 @@ use Rattle.pattern_search.proofs.Finding.Occurring.{begins-split}
 use Rattle.pattern_search.proofs.Windowing.{same-lower, same-slot}
 
 -- where a pattern ends, its letters are there
-letters-hold : (letters pattern bytes : List ℕ) (end k : ℕ) → end ≤ length bytes → begins (word_of letters pattern) (word_of letters (take end bytes)) ≡ true → k < length pattern → slice_index letters (slice_index pattern k) ≡ slice_index letters (slice_index bytes (end - length pattern + k))
+letters-hold : (letters pattern bytes : List ℕ) (end k : ℕ)
+    → end ≤ length bytes
+    → begins (word_of letters pattern) (word_of letters (take end bytes)) ≡ true
+    → k < length pattern
+    → slice_index letters (slice_index pattern k) ≡ slice_index letters (slice_index bytes (end - length pattern + k))
 unfolding word_of
 letters-hold letters pattern bytes end k h b low =
     let f : ℕ → ℕ = slice_index letters in
     let read = map f (take end bytes) in
     let split = begins-split (reverse (map f pattern)) (reverse read) b in
     let all : read ≡ reverse split.0 ++ map f pattern =
-    sym (reverse-reverse read) ∙ ap reverse split.1 ∙ reverse-append (reverse (map f pattern)) split.0 ∙ ap (λ t. reverse split.0 ++ t) (reverse-reverse (map f pattern)) in
+    sym (reverse-reverse read)
+    ∙ ap reverse split.1
+    ∙ reverse-append (reverse (map f pattern)) split.0
+    ∙ ap (λ t. reverse split.0 ++ t) (reverse-reverse (map f pattern)) in
     let long : length read ≡ end = length-map (take end bytes) f ∙ length-take-le end bytes h in
-    let sizes : length read ≡ length (reverse split.0) + length (map f pattern) = ap length all ∙ length-append (reverse split.0) (map f pattern) in
+    let sizes : length read ≡ length (reverse split.0) + length (map f pattern) =
+    ap length all ∙ length-append (reverse split.0) (map f pattern) in
     let own : length (map f pattern) ≡ length pattern = length-map pattern f in
     let place : length (reverse split.0) + k ≡ end - length pattern + k = omega (arith, long, sizes, own) in
     let within : end - length pattern + k < end = omega (arith, long, sizes, own) in
-    let left : get_or read (length (reverse split.0) + k) 0 ≡ f (slice_index pattern k) = ap (λ xs. get_or xs (length (reverse split.0) + k) 0) all ∙ get_or-append-add (reverse split.0) (map f pattern) k 0 ∙ get_or-map f pattern k 0 0 low in
-    let right : get_or read (end - length pattern + k) 0 ≡ f (slice_index bytes (end - length pattern + k)) = get_or-map f (take end bytes) (end - length pattern + k) 0 0 (omega (arith, within, length-take-le end bytes h)) ∙ ap f (get_or-take end bytes (end - length pattern + k) 0 within) in
+    let left : get_or read (length (reverse split.0) + k) 0 ≡ f (slice_index pattern k) =
+    ap (λ xs. get_or xs (length (reverse split.0) + k) 0) all
+    ∙ get_or-append-add (reverse split.0) (map f pattern) k 0
+    ∙ get_or-map f pattern k 0 0 low in
+    let right : get_or read (end - length pattern + k) 0 ≡ f (slice_index bytes (end - length pattern + k)) =
+    get_or-map f (take end bytes) (end - length pattern + k) 0 0 (omega (arith, within, length-take-le end bytes h))
+    ∙ ap f (get_or-take end bytes (end - length pattern + k) 0 within) in
     sym left ∙ ap (λ n. get_or read n 0) place ∙ right
 
 -- a byte of a pattern and a byte that has its letter

@@ -1,5 +1,6 @@
 -- Windows with the same letters have the same slot; slots that are set.
-use Rattle.std.proofs.Common.{◌≡◌, ℕ, zero, suc, ◌+◌, ◌-◌, ◌*◌, ◌/◌, ◌%◌, ◌^◌, ◌<◌, ◌≤◌, min, Bool, true, ◌&&◌, ◌==◌, List, [], ◌∷◌, length, drop, slice_index, slice_set, sym, refl, ap, ◌∙◌, arith, ⊎_elim}
+use Rattle.std.proofs.Common.{◌≡◌, ℕ, zero, suc, ◌+◌, ◌-◌, ◌*◌, ◌/◌, ◌%◌, ◌^◌, ◌<◌, ◌≤◌, min, Bool, true, ◌&&◌, ◌==◌, List, []}
+use Rattle.std.proofs.Common.{◌∷◌, length, drop, slice_index, slice_set, sym, refl, ap, ◌∙◌, arith, ⊎_elim}
 use Rattle.std.specs.Int.{bit_at}
 use Rattle.std.specs.Int.{w32}
 use Rattle.std.specs.Int.Bits.{bit_and, bit_or, and_zero_r}
@@ -49,7 +50,10 @@ digits a b c d h k = same_from_bits (bit_and (b + 256 * a) (d + 256 * c)) (bit_a
     (cases_lt i 8))
 
 -- what a mask leaves of two windows
-masked : (n wide i j : ℕ) (one other : List ℕ) → ((k : ℕ) → slice_index one k < 256) → ((k : ℕ) → slice_index other k < 256) → ((k : ℕ) → k < wide → bit_and (slice_index one (i + k)) 223 ≡ bit_and (slice_index other (j + k)) 223)
+masked : (n wide i j : ℕ) (one other : List ℕ)
+    → ((k : ℕ) → slice_index one k < 256)
+    → ((k : ℕ) → slice_index other k < 256)
+    → ((k : ℕ) → k < wide → bit_and (slice_index one (i + k)) 223 ≡ bit_and (slice_index other (j + k)) 223)
     → bit_and (little_from i n one) (folding_mask wide) ≡ bit_and (little_from j n other) (folding_mask wide)
 unfolding folding_mask
 masked zero wide i j one other short small same = refl
@@ -57,11 +61,13 @@ masked (suc n) zero i j one other short small same = and_zero_r (little_from i (
 masked (suc n) (suc wide) i j one other short small same =
     let a : i + 0 ≡ i = omega arith in
     let b : j + 0 ≡ j = omega arith in
-    let first : bit_and (slice_index one i) 223 ≡ bit_and (slice_index other j) 223 = ap (λ x. bit_and (slice_index one x) 223) (sym a) ∙ same 0 (omega arith) ∙ ap (λ x. bit_and (slice_index other x) 223) b in
+    let first : bit_and (slice_index one i) 223 ≡ bit_and (slice_index other j) 223 =
+    ap (λ x. bit_and (slice_index one x) 223) (sym a) ∙ same 0 (omega arith) ∙ ap (λ x. bit_and (slice_index other x) 223) b in
     let rest = masked n wide (suc i) (suc j) one other short small (λ k h.
     let c : suc i + k ≡ i + suc k = omega arith in
     let d : suc j + k ≡ j + suc k = omega arith in
-    ap (λ x. bit_and (slice_index one x) 223) c ∙ same (suc k) (omega arith) ∙ ap (λ x. bit_and (slice_index other x) 223) (sym d)) in
+    ap (λ x. bit_and (slice_index one x) 223) c ∙ same (suc k) (omega arith) ∙
+    ap (λ x. bit_and (slice_index other x) 223) (sym d)) in
     digits (little_from (suc i) n one) (slice_index one i) (folding_mask wide) 223 (short i) (omega arith)
     ∙ ap (λ x. x + 256 * bit_and (little_from (suc i) n one) (folding_mask wide)) first
     ∙ ap (λ x. bit_and (slice_index other j) 223 + 256 * x) rest
@@ -90,7 +96,10 @@ pub same-lower : (one other : ℕ) → one < 256 → other < 256 → lower one �
 same-lower one other h k e = sym (lowers-tell 256 one lowers-all h) ∙ ap (λ x. bit_and x 223) e ∙ lowers-tell 256 other lowers-all k
 
 -- windows whose letters are the same, whatever their case, have the same slot
-pub same-slot : (wide i j : ℕ) (one other : List ℕ) → ((k : ℕ) → slice_index one k < 256) → ((k : ℕ) → slice_index other k < 256) → ((k : ℕ) → k < wide → bit_and (slice_index one (i + k)) 223 ≡ bit_and (slice_index other (j + k)) 223)
+pub same-slot : (wide i j : ℕ) (one other : List ℕ)
+    → ((k : ℕ) → slice_index one k < 256)
+    → ((k : ℕ) → slice_index other k < 256)
+    → ((k : ℕ) → k < wide → bit_and (slice_index one (i + k)) 223 ≡ bit_and (slice_index other (j + k)) 223)
     → slot_of (window_at one i) (folding_mask wide) ≡ slot_of (window_at other j) (folding_mask wide)
 unfolding slot_of window_at
 same-slot wide i j one other short small same =

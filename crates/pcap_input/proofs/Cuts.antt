@@ -75,7 +75,9 @@ front_of_nothing {R} given cut nothing = ap (λ (records : List R). given ++ rec
 pub front_none : {R F : Type 0} (cut : Cut R F) → with_front [] cut ≡ cut
 front_none cut = refl
 
-one_counted : {R F : Type 0} (limit room count : ℕ) (first : R) (cut : Cut R F) → suc count + room ≡ limit → first_records (Some limit) (with_first first cut) ≡ with_first first (first_records (Some (count + room)) cut)
+one_counted : {R F : Type 0} (limit room count : ℕ) (first : R) (cut : Cut R F)
+    → suc count + room ≡ limit
+    → first_records (Some limit) (with_first first cut) ≡ with_first first (first_records (Some (count + room)) cut)
 one_counted {R} {F} limit room count first cut is =
     let step : limit ≡ (count + room) + 1 = omega (arith, is) in
     ap (λ (n : ℕ). first_records (Some n) (with_first first cut)) step ∙ first_records-with_first (count + room) first cut

@@ -49,7 +49,9 @@ head_of-append front back long =
     rw (longer, as_long, least, most, a, b, c, d) refl
 
 -- where there is a record, a test that ends the capture doesn't hold
-not_ended : (test : Bool) (ending : Ending CaptureFault) (next : Next) (given : Record) (rest : List ℕ) → (if test then Ends ending else next) ≡ Follows given rest → (test ≡ false) × (next ≡ Follows given rest)
+not_ended : (test : Bool) (ending : Ending CaptureFault) (next : Next) (given : Record) (rest : List ℕ)
+    → (if test then Ends ending else next) ≡ Follows given rest
+    → (test ≡ false) × (next ≡ Follows given rest)
 not_ended true ending next given rest is = cc
 not_ended false ending next given rest is = (refl, is)
 
@@ -162,10 +164,22 @@ pub next_of_few : (head : CaptureHead) (number place : ℕ) (bytes : List ℕ) �
 unfolding next_of
 next_of_few head number place bytes fewer =
     let three : nat_lt (length bytes) 16 ≡ true = grind (arith, nat_tests) in
-    elim (length bytes == 0) as (λ test. (ending : Ending CaptureFault) × ((if test then Ends Clean else if nat_le 4294967295 number then Ends (Refused TooMany) else if nat_lt (length bytes) 16 then Ends (Refused (Truncated place)) else next_after head number place (take 16 bytes) (drop 16 bytes)) ≡ Ends ending)) [
+    elim (length bytes == 0) as
+    (λ test. (ending : Ending CaptureFault) ×
+    ((if test then Ends Clean
+    else if nat_le 4294967295 number then Ends (Refused TooMany)
+    else if nat_lt (length bytes) 16 then Ends (Refused (Truncated place))
+    else next_after head number place (take 16 bytes) (drop 16 bytes)) ≡
+    Ends ending)) [
       | true ↦ (Clean, refl)
-      | false ↦ elim (nat_le 4294967295 number) as (λ test. (ending : Ending CaptureFault) × ((if test then Ends (Refused TooMany) else if nat_lt (length bytes) 16 then Ends (Refused (Truncated place)) else next_after head number place (take 16 bytes) (drop 16 bytes)) ≡ Ends ending)) [
-        | true ↦ (Refused TooMany, refl)
-        | false ↦ (Refused (Truncated place), rw three refl)
-      ]
+      | false ↦
+          elim (nat_le 4294967295 number) as
+          (λ test. (ending : Ending CaptureFault) ×
+          ((if test then Ends (Refused TooMany)
+          else if nat_lt (length bytes) 16 then Ends (Refused (Truncated place))
+          else next_after head number place (take 16 bytes) (drop 16 bytes)) ≡
+          Ends ending)) [
+            | true ↦ (Refused TooMany, refl)
+            | false ↦ (Refused (Truncated place), rw three refl)
+          ]
     ]

@@ -29,7 +29,11 @@ pub tells_end : (swapped : Bool) (so_far : Resolution) (rest options : List ℕ)
 tells_end swapped so_far rest options tells fewer = tells.same ∙ end_by swapped so_far rest tells.most tells.enough fewer
 
 -- the option that ends the list
-stop_by : (swapped : Bool) (so_far : Resolution) (rest : List ℕ) (most : ℕ) → length rest < most → 4 ≤ length rest → option_code swapped rest ≡ 0 → resolution_along most swapped so_far rest ≡ Some so_far
+stop_by : (swapped : Bool) (so_far : Resolution) (rest : List ℕ) (most : ℕ)
+    → length rest < most
+    → 4 ≤ length rest
+    → option_code swapped rest ≡ 0
+    → resolution_along most swapped so_far rest ≡ Some so_far
 unfolding resolution_along
 stop_by swapped so_far rest zero enough long is = refl
 stop_by swapped so_far rest (suc most) enough long is =
@@ -37,7 +41,11 @@ stop_by swapped so_far rest (suc most) enough long is =
     let two : (option_code swapped rest == 0) ≡ true = grind (arith, nat_tests, is) in
     rw (resolution_along, one, two) refl
 
-pub tells_stop : (swapped : Bool) (so_far : Resolution) (rest options : List ℕ) → Tells swapped so_far rest options → 4 ≤ length rest → option_code swapped rest ≡ 0 → resolution_told swapped options ≡ Some so_far
+pub tells_stop : (swapped : Bool) (so_far : Resolution) (rest options : List ℕ)
+    → Tells swapped so_far rest options
+    → 4 ≤ length rest
+    → option_code swapped rest ≡ 0
+    → resolution_told swapped options ≡ Some so_far
 tells_stop swapped so_far rest options tells long is = tells.same ∙ stop_by swapped so_far rest tells.most tells.enough long is
 
 -- an option that passes the end

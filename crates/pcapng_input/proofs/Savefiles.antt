@@ -139,7 +139,9 @@ pcap_records-are swapped nanos link number place (packet ∷ packets) all few =
     ∙ ap (with_first first)
     (pcap_records-are swapped nanos link (number + 1) (place_after place first) packets (All-tail (IsWritable nanos) packet packets all) (omega arith))
 
-savefile_with : (bytes : List ℕ) (head : CaptureHead) (limit : Option ℕ) → head_of bytes ≡ Ok head → savefile bytes limit ≡ Ok (record { head = head; cut = first_records limit (records_left head 0 24 (drop 24 bytes)) })
+savefile_with : (bytes : List ℕ) (head : CaptureHead) (limit : Option ℕ)
+    → head_of bytes ≡ Ok head
+    → savefile bytes limit ≡ Ok (record { head = head; cut = first_records limit (records_left head 0 24 (drop 24 bytes)) })
 unfolding savefile
 savefile_with bytes head limit is = rw (savefile, is) refl
 

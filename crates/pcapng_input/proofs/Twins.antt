@@ -1,5 +1,6 @@
 -- A savefile and a pcapng file of the same packets give the same records.
-use Rattle.std.proofs.Common.{◌≡◌, ◌/◌, ◌%◌, ℕ, ◌+◌, ◌*◌, ◌^◌, ◌<◌, ◌≤◌, Bool, true, false, List, [], ◌∷◌, ◌++◌, Option, Some, None, Ok, length, take, drop, refl, sym, ap, subst, append_assoc, ◌∙◌, arith}
+use Rattle.std.proofs.Common.{◌≡◌, ◌/◌, ◌%◌, ℕ, ◌+◌, ◌*◌, ◌^◌, ◌<◌, ◌≤◌, Bool, true, false, List, [], ◌∷◌, ◌++◌, Option, Some}
+use Rattle.std.proofs.Common.{None, Ok, length, take, drop, refl, sym, ap, subst, append_assoc, ◌∙◌, arith}
 use Rattle.std.specs.Prelude.{◌-◌, ◌==◌, ◌&&◌, ◌||◌, if◌then◌else◌, map, nat_lt, nat_le, replicate}
 use Rattle.std.specs.List.{All, flat_map}
 use Rattle.std.proofs.lemmas.List.{append-nil, length-append, length-map, length-replicate, take-map, take_at, drop_at}
@@ -23,13 +24,17 @@ use Rattle.pcapng_input.specs.declared.content.Content.{Content}
 use Rattle.pcapng_input.specs.declared.content.Content.TheVariants as content
 use Rattle.pcapng_input.specs.declared.walk.Interface.{Interface}
 use Rattle.pcapng_input.specs.declared.walk.Walk.{Walk}
-use Rattle.pcapng_input.specs.Blocks.{Gives, Skips, content_of, enhanced_of, front_length, given_by, inner_length, interface_of, is_full, is_sized, kind_of, known, link_of, other_block, packet_of, section_type, step_of, first_walk, next_of as ng_next, ng_records, opening, order_of, section_of, records_left as ng_left}
+use Rattle.pcapng_input.specs.Blocks.{Gives, Skips, content_of, enhanced_of, front_length, given_by, inner_length, interface_of}
+use Rattle.pcapng_input.specs.Blocks.{is_full, is_sized, kind_of, known, link_of, other_block, packet_of, section_type, step_of}
+use Rattle.pcapng_input.specs.Blocks.{first_walk, next_of as ng_next, ng_records, opening, order_of, section_of}
+use Rattle.pcapng_input.specs.Blocks.{records_left as ng_left}
 use Rattle.pcapng_input.proofs.Captures.Nexts.{next_of-gives, next_of-skips, next_of-stops}
 use Rattle.pcapng_input.proofs.Captures.Records.{records_left-ends as ng_left-ends, records_left-same as ng_left-same, records_left-follows as ng_left-follows}
 use Rattle.pcapng_input.specs.Options.{resolution_along, resolution_told}
 use Rattle.pcapng_input.proofs.Blocks.Begins.{begun_other, begun_section, fronted-ok, known_fronted, section_known, step_begun, step_nothing}
 use Rattle.pcapng_input.proofs.Blocks.Closing.{closing_whole, given-interface, given-packet, given-skipped}
-use Rattle.pcapng_input.specs.Twins.{AreTwins, block_text, Caught, IsPcapngOf, IsWritable, a_second, held_from, interface_body, nanos_each, ng_text, number_of, held_as, on_link, packet_body, pcap_text, section_body, word}
+use Rattle.pcapng_input.specs.Twins.{AreTwins, block_text, Caught, IsPcapngOf, IsWritable, a_second, held_from, interface_body}
+use Rattle.pcapng_input.specs.Twins.{nanos_each, ng_text, number_of, held_as, on_link, packet_body, pcap_text, section_body, word}
 use Rattle.pcapng_input.proofs.Savefiles.{savefile_is, word-length, word-reads}
 
 -- ---- the pcapng file
@@ -90,13 +95,24 @@ block-given swapped interfaces number at last kind front inner more told other s
     let total = 12 + length (front ++ inner) in
     let block : Block = record { kind = kind_of kind; total = total } in
     let first = word swapped 4 kind ++ word swapped 4 total in
-    let eight : length first ≡ 8 = omega (arith, length-append (word swapped 4 kind) (word swapped 4 total), word-length swapped 4 kind, word-length swapped 4 total) in
+    let eight : length first ≡ 8 = omega (
+      arith,
+      length-append (word swapped 4 kind) (word swapped 4 total),
+      word-length swapped 4 kind,
+      word-length swapped 4 total,
+    ) in
     let room : is_full walk ≡ false = grind (arith, nat_tests) in
     let two = two_read swapped kind total other.0 small in
-    let is_block : other_block swapped first ≡ block = ap (λ (n : ℕ). record { kind = kind_of n; total = number_at swapped 4 4 first }) two.0 ∙ ap (λ (n : ℕ). record { kind = kind_of kind; total = n }) two.1 in
+    let is_block : other_block swapped first ≡ block =
+    ap (λ (n : ℕ). record { kind = kind_of n; total = number_at swapped 4 4 first }) two.0
+    ∙ ap (λ (n : ℕ). record { kind = kind_of kind; total = n }) two.1 in
     let four = word-length swapped 4 total in
     let ends : (number_at swapped 0 4 (word swapped 4 total) == total) ≡ true =
-    grind (arith, nat_tests, ap (number_at swapped 0 4) (sym (append-nil (word swapped 4 total))) ∙ word-reads swapped 4 total [] small) in
+    grind (
+      arith,
+      nat_tests,
+      ap (number_at swapped 0 4) (sym (append-nil (word swapped 4 total))) ∙ word-reads swapped 4 total [] small,
+    ) in
     ap (step_of walk) (block-parts (word swapped 4 kind) (word swapped 4 total) front inner (word swapped 4 total) more)
     ∙ step_begun walk first eight room (front ++ ((inner ++ word swapped 4 total) ++ more))
     ∙ begun_other walk first (other.1 swapped total) (front ++ ((inner ++ word swapped 4 total) ++ more))
@@ -175,8 +191,12 @@ packet_told nanos link packet = record {
   captured = length packet.bytes;
 }
 
-packet_of-is : (walk : Walk) (block : Block) (interface : Interface) (link : Link) (moment : Moment) (original captured : ℕ) → link_of interface.link ≡ Some link → captured ≤ 262144 → captured ≤ inner_length block
-    → packet_of walk block interface (Some moment) original captured ≡ Ok (content.Packet (record { link = link; moment = moment; original = original; captured = captured }))
+packet_of-is : (walk : Walk) (block : Block) (interface : Interface) (link : Link) (moment : Moment) (original captured : ℕ)
+    → link_of interface.link ≡ Some link
+    → captured ≤ 262144
+    → captured ≤ inner_length block
+    → packet_of walk block interface (Some moment) original captured ≡
+    Ok (content.Packet (record { link = link; moment = moment; original = original; captured = captured }))
 unfolding packet_of
 packet_of-is walk block interface link moment original captured is short fits =
     let one : nat_lt 262144 captured ≡ false = grind (arith, nat_tests) in
@@ -190,22 +210,34 @@ enhanced-front : (swapped nanos : Bool) (link : Link) (number at total : ℕ) (l
 unfolding content_of enhanced_of walk_in interface_is
 enhanced-front swapped nanos link number at total last front is = rw (enhanced_of, is) refl
 
-packet-content : (swapped nanos : Bool) (link : Link) (number at total : ℕ) (last : Moment) (packet : Caught) → IsWritable nanos packet → 32 + length packet.bytes ≤ total
-    → content_of (walk_in swapped (interface_is nanos link ∷ []) number last at) (record { kind = kind.Enhanced; total = total }) (packet_front swapped packet) ≡ Ok (content.Packet (packet_told nanos link packet))
+packet-content : (swapped nanos : Bool) (link : Link) (number at total : ℕ) (last : Moment) (packet : Caught)
+    → IsWritable nanos packet
+    → 32 + length packet.bytes ≤ total
+    → content_of (walk_in swapped (interface_is nanos link ∷ []) number last at)
+    (record { kind = kind.Enhanced; total = total })
+    (packet_front swapped packet) ≡
+    Ok (content.Packet (packet_told nanos link packet))
 unfolding packet_front packet_told interface_is
 packet-content swapped nanos link number at total last packet held fits =
     let walk = walk_in swapped (interface_is nanos link ∷ []) number last at in
     let block : Block = record { kind = kind.Enhanced; total = total } in
     let front = packet_front swapped packet in
     let time = packet.time in
-    let five = five_read swapped 0 (time / 2 ^ 32) (time % 2 ^ 32) (length packet.bytes) packet.original (omega arith) (time_small nanos time held.second).0 (omega arith) (omega (arith, held.short)) held.length_on_wire in
-    let ticks : number_at swapped 4 4 front * 2 ^ 32 + number_at swapped 8 4 front ≡ time = omega (arith, five.second, five.third) in
+    let five =
+    five_read swapped 0 (time / 2 ^ 32) (time % 2 ^ 32) (length packet.bytes) packet.original (omega arith)
+    (time_small nanos time held.second).0 (omega arith) (omega (arith, held.short)) held.length_on_wire in
+    let ticks : number_at swapped 4 4 front * 2 ^ 32 + number_at swapped 8 4 front ≡ time =
+    omega (arith, five.second, five.third) in
     let moment = ap (ng_moment (TenToMinus (if nanos then 9 else 6))) ticks ∙ moment_is nanos time held.second in
     enhanced-front swapped nanos link number at total last front five.first
-    ∙ ap (λ m. packet_of walk block (interface_is nanos link) m (number_at swapped 16 4 front) (number_at swapped 12 4 front)) moment
-    ∙ ap (λ (n : ℕ). packet_of walk block (interface_is nanos link) (Some (record { nanos = time * nanos_each nanos })) n (number_at swapped 12 4 front)) five.fifth
-    ∙ ap (λ (n : ℕ). packet_of walk block (interface_is nanos link) (Some (record { nanos = time * nanos_each nanos })) packet.original n) five.fourth
-    ∙ packet_of-is walk block (interface_is nanos link) link _ packet.original (length packet.bytes) (link_is link) held.short (omega (arith, fits))
+    ∙ ap (λ m. packet_of walk block (interface_is nanos link) m (number_at swapped 16 4 front) (number_at swapped 12 4 front))
+    moment
+    ∙ ap (λ (n : ℕ). packet_of walk block (interface_is nanos link) (Some (record { nanos = time * nanos_each nanos })) n
+    (number_at swapped 12 4 front)) five.fifth
+    ∙ ap (λ (n : ℕ). packet_of walk block (interface_is nanos link) (Some (record { nanos = time * nanos_each nanos }))
+    packet.original n) five.fourth
+    ∙ packet_of-is walk block (interface_is nanos link) link _ packet.original (length packet.bytes) (link_is link) held.short
+    (omega (arith, fits))
 
 padding_of : Caught → List ℕ
 padding_of packet = replicate ((4 - length packet.bytes % 4) % 4) 0
@@ -258,8 +290,12 @@ packet-given swapped nanos link number at last packet more held few near =
     (packet-content swapped nanos link number at total last packet held (omega (arith, is)))
     ∙ given-packet (walk_in swapped (interface_is nanos link ∷ []) number last at) block (packet_told nanos link packet) packet.bytes (padding_of packet) more refl
 
-packets-are : (swapped nanos : Bool) (link : Link) (number at : ℕ) (last : Moment) (packets : List Caught) → All (IsWritable nanos) packets → number + length packets ≤ 4294967295 → at ≤ 60 + number * 262176
-    → ng_left (walk_in swapped (interface_is nanos link ∷ []) number last at) (flat_map (λ packet. block_text swapped 6 (packet_body swapped packet)) packets)
+packets-are : (swapped nanos : Bool) (link : Link) (number at : ℕ) (last : Moment) (packets : List Caught)
+    → All (IsWritable nanos) packets
+    → number + length packets ≤ 4294967295
+    → at ≤ 60 + number * 262176
+    → ng_left (walk_in swapped (interface_is nanos link ∷ []) number last at)
+    (flat_map (λ packet. block_text swapped 6 (packet_body swapped packet)) packets)
     ≡ clean_with (map (on_link link) (held_from number nanos packets))
 unfolding held_from
 packets-are swapped nanos link number at last [] all few near = ng_left-ends _ [] Clean (next_of-stops _ [] Clean (step_nothing _))
@@ -284,7 +320,11 @@ interface_front swapped link = word swapped 2 (number_of link) ++ word swapped 2
 interface_options : Bool → Bool → List ℕ
 interface_options swapped nanos = word swapped 2 9 ++ word swapped 2 1 ++ (if nanos then 9 else 6) ∷ 0 ∷ 0 ∷ 0 ∷ word swapped 4 0
 
-interface-content : (swapped : Bool) (link : Link) → content_of (walk_in swapped [] 0 (record { nanos = 0 }) 28) (record { kind = kind.Interface; total = 32 }) (interface_front swapped link) ≡ Ok (content.Interface (number_of link) 262144)
+interface-content : (swapped : Bool) (link : Link)
+    → content_of (walk_in swapped [] 0 (record { nanos = 0 }) 28)
+    (record { kind = kind.Interface; total = 32 })
+    (interface_front swapped link) ≡
+    Ok (content.Interface (number_of link) 262144)
 unfolding content_of interface_of interface_front walk_in word number_at
 interface-content true Ethernet = refl
 interface-content true RawIp = refl
@@ -321,12 +361,18 @@ interface-skipped swapped nanos link more =
     let inner_is = interface_options-length swapped nanos in
     let total : 12 + length (front ++ inner) ≡ 32 = omega (arith, length-append front inner, front_is, inner_is) in
     let walk = walk_in swapped [] 0 (record { nanos = 0 }) 28 in
-    subst (λ (n : ℕ). n < 2 ^ 32 → is_sized (record { kind = kind.Interface; total = n }) ≡ true → length inner ≡ inner_length (record { kind = kind.Interface; total = n })
+    subst (λ (n : ℕ). n < 2 ^ 32 → is_sized (record { kind = kind.Interface; total = n }) ≡ true →
+    length inner ≡ inner_length (record { kind = kind.Interface; total = n })
     → content_of walk (record { kind = kind.Interface; total = n }) front ≡ Ok (content.Interface (number_of link) 262144)
-    → step_of walk (block_text swapped 1 (front ++ inner) ++ more) ≡ given_by walk (record { kind = kind.Interface; total = n }) (content.Interface (number_of link) 262144) inner more) total
-    (λ small sized is told. block-given swapped [] 0 28 (record { nanos = 0 }) 1 front inner more (content.Interface (number_of link) 262144) one_other small (omega arith) (omega arith) sized front_is is told)
+    → step_of walk (block_text swapped 1 (front ++ inner) ++ more) ≡
+    given_by walk (record { kind = kind.Interface; total = n }) (content.Interface (number_of link) 262144) inner more)
+    total
+    (λ small sized is told. block-given swapped [] 0 28 (record { nanos = 0 }) 1 front inner more
+    (content.Interface (number_of link) 262144) one_other small
+    (omega arith) (omega arith) sized front_is is told)
     (omega arith) refl inner_is (interface-content swapped link)
-    ∙ given-interface walk (record { kind = kind.Interface; total = 32 }) (number_of link) 262144 inner more (TenToMinus (if nanos then 9 else 6)) (options-told swapped nanos)
+    ∙ given-interface walk (record { kind = kind.Interface; total = 32 })
+    (number_of link) 262144 inner more (TenToMinus (if nanos then 9 else 6)) (options-told swapped nanos)
 
 section_first : Bool → List ℕ
 section_first swapped = word swapped 4 section_type ++ word swapped 4 28
@@ -355,7 +401,10 @@ unfolding section_first section_front order_of word number_at
 section-is true = record { eight = refl; type_is = refl; total_is = refl; order_is = refl; front_is = refl; major_is = refl; ends = refl }
 section-is false = record { eight = refl; type_is = refl; total_is = refl; order_is = refl; front_is = refl; major_is = refl; ends = refl }
 
-section-content : (swapped : Bool) (walk : Walk) (block : Block) → walk.section.swapped ≡ swapped → number_at swapped 0 2 (section_front swapped) ≡ 1 → section_of walk (section_front swapped) ≡ Ok content.Skipped
+section-content : (swapped : Bool) (walk : Walk) (block : Block)
+    → walk.section.swapped ≡ swapped
+    → number_at swapped 0 2 (section_front swapped) ≡ 1
+    → section_of walk (section_front swapped) ≡ Ok content.Skipped
 unfolding section_of
 section-content swapped walk block order is =
     let major : number_at walk.section.swapped 0 2 (section_front swapped) ≡ 1 = ap (λ o. number_at o 0 2 (section_front swapped)) order ∙ is in
@@ -379,7 +428,11 @@ section-skipped swapped more =
     ∙ closing_whole walk block content.Skipped [] (word swapped 4 28) more true refl (word-length swapped 4 28) is.ends
     ∙ given-skipped walk block [] more
 
-opening-on : (bytes : List ℕ) (swapped : Bool) → (nat_le 4 (length bytes) && (number_at false 0 4 bytes == section_type)) ≡ true → nat_lt (length bytes) 12 ≡ false → order_of (take 4 (drop 8 bytes)) ≡ Some swapped → opening bytes ≡ step_of first_walk bytes
+opening-on : (bytes : List ℕ) (swapped : Bool)
+    → (nat_le 4 (length bytes) && (number_at false 0 4 bytes == section_type)) ≡ true
+    → nat_lt (length bytes) 12 ≡ false
+    → order_of (take 4 (drop 8 bytes)) ≡ Some swapped
+    → opening bytes ≡ step_of first_walk bytes
 unfolding opening
 opening-on bytes swapped one two three = rw (opening, one, two, three) refl
 
@@ -391,13 +444,27 @@ section-opens swapped more =
     let rest = word swapped 4 0x1a2b_3c4d ++ (section_front swapped ++ (([] ++ word swapped 4 28) ++ more)) in
     let bytes = section_first swapped ++ rest in
     let parts = section-parts swapped more in
-    let long : 12 ≤ length bytes = omega (arith, length-append (section_first swapped) rest, is.eight, length-append (word swapped 4 0x1a2b_3c4d) (section_front swapped ++ (([] ++ word swapped 4 28) ++ more)), word-length swapped 4 0x1a2b_3c4d) in
-    let type_is : number_at false 0 4 bytes ≡ section_type = number_at-append false 0 4 (section_first swapped) rest (omega (arith, is.eight)) ∙ is.type_is in
-    let begins : (nat_le 4 (length bytes) && (number_at false 0 4 bytes == section_type)) ≡ true = grind (arith, nat_tests, type_is) in
+    let long : 12 ≤ length bytes = omega (
+      arith,
+      length-append (section_first swapped) rest,
+      is.eight,
+      length-append (word swapped 4 0x1a2b_3c4d) (section_front swapped ++ (([] ++ word swapped 4 28) ++ more)),
+      word-length swapped 4 0x1a2b_3c4d,
+    ) in
+    let type_is : number_at false 0 4 bytes ≡ section_type =
+    number_at-append false 0 4 (section_first swapped) rest (omega (arith, is.eight)) ∙ is.type_is in
+    let begins : (nat_le 4 (length bytes) && (number_at false 0 4 bytes == section_type)) ≡ true =
+    grind (arith, nat_tests, type_is) in
     let enough : nat_lt (length bytes) 12 ≡ false = grind (arith, nat_tests) in
     let after : drop 8 bytes ≡ rest = drop_at (section_first swapped) rest 8 is.eight in
-    let magic : take 4 (drop 8 bytes) ≡ word swapped 4 0x1a2b_3c4d = ap (take 4) after ∙ take_at (word swapped 4 0x1a2b_3c4d) (section_front swapped ++ (([] ++ word swapped 4 28) ++ more)) 4 (word-length swapped 4 0x1a2b_3c4d) in
-    ap opening parts ∙ opening-on bytes swapped begins enough (ap order_of magic ∙ is.order_is) ∙ ap (step_of first_walk) (sym parts) ∙ section-skipped swapped more
+    let magic : take 4 (drop 8 bytes) ≡ word swapped 4 0x1a2b_3c4d =
+    ap (take 4) after
+    ∙ take_at (word swapped 4 0x1a2b_3c4d) (section_front swapped ++ (([] ++ word swapped 4 28) ++ more)) 4
+    (word-length swapped 4 0x1a2b_3c4d) in
+    ap opening parts
+    ∙ opening-on bytes swapped begins enough (ap order_of magic ∙ is.order_is)
+    ∙ ap (step_of first_walk) (sym parts)
+    ∙ section-skipped swapped more
 
 -- ---- whole
 

@@ -82,10 +82,15 @@ module _ {T : Type 0} where
   apart_detached h xs n ys t d =
       subst (λ l. IsApart (h ∷ l)) (sym (places_joined xs ys t)) (apart_without (h ∷ places xs) n.at (places ys ++ t ∷ []) (subst (λ l. IsApart (h ∷ l)) (places_cut xs n ys t) d))
 
-  pub apart_attached : (h : Ptr) (xs : List (Linked T)) (n : Linked T) (ys : List (Linked T)) (t : Ptr) → IsFresh n.at (ring h (xs ++ ys) t) → IsApart (ring h (xs ++ ys) t) → IsApart (ring h (xs ++ n ∷ ys) t)
+  pub apart_attached : (h : Ptr) (xs : List (Linked T)) (n : Linked T) (ys : List (Linked T)) (t : Ptr)
+      → IsFresh n.at (ring h (xs ++ ys) t)
+      → IsApart (ring h (xs ++ ys) t)
+      → IsApart (ring h (xs ++ n ∷ ys) t)
   apart_attached h xs n ys t f d =
       let joined = places_joined xs ys t in
-      subst (λ l. IsApart (h ∷ l)) (sym (places_cut xs n ys t)) (apart_with (h ∷ places xs) n.at (places ys ++ t ∷ []) (subst (λ l. IsFresh n.at (h ∷ l)) joined f) (subst (λ l. IsApart (h ∷ l)) joined d))
+      subst (λ l. IsApart (h ∷ l)) (sym (places_cut xs n ys t))
+      (apart_with (h ∷ places xs) n.at (places ys ++ t ∷ []) (subst (λ l. IsFresh n.at (h ∷ l)) joined f)
+      (subst (λ l. IsApart (h ∷ l)) joined d))
 
   pub apart_places : (h : Ptr) (ns : List (Linked T)) (t : Ptr) → IsApart (ring h ns t) → IsApart (places ns)
   apart_places h ns t d = subst IsApart (append-nil (places ns)) (apart_without (places ns) t [] (apart_without [] h (places ns ++ t ∷ []) d))
@@ -110,10 +115,19 @@ module _ {T : Type 0} where
   pub same_before : (h : Ptr) (ns : List (Linked T)) (t p : Ptr) (xs ys us vs : List (Linked T)) → IsApart (ring h ns t) → IsBefore ns t p xs ys → IsBefore ns t p us vs → (xs ≡ us) × (ys ≡ vs)
   same_before h ns t p xs ys us vs d a b =
       let place = λ (m : Linked T). m.at in
-      let cut : (ps qs : List (Linked T)) → IsBefore ns t p ps qs → (rest : List Ptr) × (places ns ++ t ∷ [] ≡ places ps ++ p ∷ rest) =
-      λ ps qs c. ((first_place_cut qs t).0, ap (λ l. places l ++ t ∷ []) c.0 ∙ places_joined ps qs t ∙ ap (λ l. places ps ++ l) ((first_place_cut qs t).1 ∙ ap (λ q. q ∷ (first_place_cut qs t).0) (sym c.1))) in
+      let cut : (ps qs : List (Linked T))
+      → IsBefore ns t p ps qs
+      → (rest : List Ptr) × (places ns ++ t ∷ [] ≡ places ps ++ p ∷ rest) =
+      λ ps qs c. (
+        (first_place_cut qs t).0,
+        ap (λ l. places l ++ t ∷ []) c.0
+            ∙ places_joined ps qs t
+            ∙ ap (λ l. places ps ++ l) ((first_place_cut qs t).1 ∙ ap (λ q. q ∷ (first_place_cut qs t).0) (sym c.1)),
+      ) in
       let one = cut xs ys a in
       let other = cut us vs b in
       let apart : IsApart (places xs ++ p ∷ one.0) = subst IsApart one.1 (apart_without [] h (places ns ++ t ∷ []) d) in
-      let front = (same_cut (λ x. x) (places xs) p one.0 (places us) p other.0 (mapped (places xs ++ p ∷ one.0) apart) (sym one.1 ∙ other.1) refl).0 in
+      let front =
+      (same_cut (λ x. x) (places xs) p one.0 (places us) p other.0 (mapped (places xs ++ p ∷ one.0) apart) (sym one.1 ∙ other.1)
+      refl).0 in
       same_split xs ys us vs (sym a.0 ∙ b.0) (sym (length-map xs place) ∙ ap length front ∙ length-map us place)

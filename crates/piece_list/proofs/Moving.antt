@@ -86,13 +86,19 @@ module _ {T : Type 0} (r : Ring T) (h t here : Ptr) (len at : ℕ) (s : Placed r
     here_is = subst (IsAt r.nodes) (sym s.at_node) (is_at_here r.nodes r.tail at inside)
 
     at_here : (P : List (Linked T) → Linked T → List (Linked T) → Type 0) → AtNode r.nodes here P → P (take at r.nodes) (node_here r.nodes at inside).0 (drop (suc at) r.nodes)
-    at_here P every = every (take at r.nodes) (node_here r.nodes at inside).0 (drop (suc at) r.nodes) (cut_here r.nodes at inside) (sym (ap (λ l. first_place l r.tail) (node_here r.nodes at inside).1) ∙ sym s.at_node)
+    at_here P every =
+        every (take at r.nodes) (node_here r.nodes at inside).0 (drop (suc at) r.nodes) (cut_here r.nodes at inside)
+        (sym (ap (λ l. first_place l r.tail) (node_here r.nodes at inside).1) ∙ sym s.at_node)
 
     pub value_is : (v : T) → AtNode r.nodes here (λ _ n _. v ≡ n.val) → slice_get (values r.nodes) at ≡ Some v
     value_is v found = value_here r.nodes at inside ∙ ap Some (sym (at_here (λ _ n _. v ≡ n.val) found))
 
-    pub removed : (new : Ring T) (p q : Ptr) (v : T) → ((after : Ptr) → HasNext Nodes here after → p ≡ after) → (new.head ≡ r.head) × (new.tail ≡ r.tail)
-        → AtNode r.nodes here (λ xs n ys. (new.nodes ≡ xs ++ ys) × (n ≡ linked q v)) → Placed new h t p (len - 1) at × (values new.nodes ≡ remove (values r.nodes) at) × (slice_get (values r.nodes) at ≡ Some v)
+    pub removed : (new : Ring T) (p q : Ptr) (v : T)
+        → ((after : Ptr) → HasNext Nodes here after → p ≡ after)
+        → (new.head ≡ r.head) × (new.tail ≡ r.tail)
+        → AtNode r.nodes here (λ xs n ys. (new.nodes ≡ xs ++ ys) × (n ≡ linked q v))
+        → Placed new h t p (len - 1) at × (values new.nodes ≡ remove (values r.nodes) at) ×
+        (slice_get (values r.nodes) at ≡ Some v)
     removed new p q v next same out =
         let found = at_here (λ xs n ys. (new.nodes ≡ xs ++ ys) × (n ≡ linked q v)) out in
         let ys = drop (suc at) r.nodes in

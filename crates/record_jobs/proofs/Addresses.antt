@@ -38,7 +38,10 @@ fragment_ends : (way : Way) (waiting : Option Frag3State) (moment : Moment) (fie
 unfolding datagram_of_fragment
 fragment_ends way waiting moment fields = go way.frag waiting
   where
-    go : (frag : Option FragConfig) (o : Option Frag3State) → IfSome (option_and_then (λ (config : FragConfig). option_and_then (λ (frag3 : Frag3State). completed_datagram (taken frag3 (fragment_of way config moment fields))) o) frag) (IsBetween fields.ip)
+    go : (frag : Option FragConfig) (o : Option Frag3State)
+        → IfSome (option_and_then (λ (config : FragConfig). option_and_then
+        (λ (frag3 : Frag3State). completed_datagram (taken frag3 (fragment_of way config moment fields))) o) frag)
+        (IsBetween fields.ip)
     go None o = tt
     go (Some config) None = tt
     go (Some config) (Some frag3) = taken_ends frag3 (fragment_of way config moment fields)

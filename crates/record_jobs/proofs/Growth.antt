@@ -51,20 +51,25 @@ end_of-push before r = let start : Moment = record { nanos = 0 } in fold_push (�
 -- ---- fragments
 
 -- what waits after one fragment more, if there is one
-state_after-option : (most : ℕ) (fragments : List Fragment) (o : Option Fragment) → state_after most (fragments ++ option_to_list o) ≡ option_map_or (after (state_after most fragments)) o (state_after most fragments)
+state_after-option : (most : ℕ) (fragments : List Fragment) (o : Option Fragment)
+    → state_after most (fragments ++ option_to_list o) ≡
+    option_map_or (after (state_after most fragments)) o (state_after most fragments)
 state_after-option most fragments None = ap (state_after most) (append-nil fragments)
 state_after-option most fragments (Some f) = state_after-push most fragments f
 
 cons_option-list : {X : Type 0} (h : LinkedRecord → Option X) (r : LinkedRecord) → filter_map h (r ∷ []) ≡ option_to_list (h r)
 cons_option-list h r = elim (h r) as (λ o. Rattle.std.specs.List.cons_option o [] ≡ option_to_list o) [ None ↦ refl | Some x ↦ refl ]
 
-fragments-push : (way : Way) (config : FragConfig) (before : List LinkedRecord) (r : LinkedRecord) → fragments way config (before ++ r ∷ []) ≡ fragments way config before ++ option_to_list (fragment_in way config r)
+fragments-push : (way : Way) (config : FragConfig) (before : List LinkedRecord) (r : LinkedRecord)
+    → fragments way config (before ++ r ∷ []) ≡ fragments way config before ++ option_to_list (fragment_in way config r)
 fragments-push way config before r =
     filter_map-append (fragment_in way config) before (r ∷ [])
     ∙ ap (λ rest. fragments way config before ++ rest) (cons_option-list (fragment_in way config) r)
 
 -- what waits after one record more, for what it says
-state_after-said : (way : Way) (config : FragConfig) (state : Frag3State) (moment : Moment) (said : Option Fields) → option_map_or (after state) (option_map (fragment_of way config moment) said) state ≡ option_map_or (λ fields. after state (fragment_of way config moment fields)) said state
+state_after-said : (way : Way) (config : FragConfig) (state : Frag3State) (moment : Moment) (said : Option Fields)
+    → option_map_or (after state) (option_map (fragment_of way config moment) said) state ≡
+    option_map_or (λ fields. after state (fragment_of way config moment fields)) said state
 state_after-said way config state moment None = refl
 state_after-said way config state moment (Some fields) = refl
 
@@ -78,11 +83,15 @@ frag3_step way before r None (Some fields) e = refl
 frag3_step way before r (Some config) None e =
     ap Some (ap (state_after config.max_frags) (fragments-push way config before r)
     ∙ state_after-option config.max_frags (fragments way config before) (fragment_in way config r)
-    ∙ ap (λ (o : Option Fields). option_map_or (after (state_after config.max_frags (fragments way config before))) (option_map (fragment_of way config r.captured.moment) o) (state_after config.max_frags (fragments way config before))) e)
+    ∙ ap (λ (o : Option Fields). option_map_or (after (state_after config.max_frags (fragments way config before)))
+    (option_map (fragment_of way config r.captured.moment) o)
+    (state_after config.max_frags (fragments way config before))) e)
 frag3_step way before r (Some config) (Some fields) e =
     ap Some (ap (state_after config.max_frags) (fragments-push way config before r)
     ∙ state_after-option config.max_frags (fragments way config before) (fragment_in way config r)
-    ∙ ap (λ (o : Option Fields). option_map_or (after (state_after config.max_frags (fragments way config before))) (option_map (fragment_of way config r.captured.moment) o) (state_after config.max_frags (fragments way config before))) e)
+    ∙ ap (λ (o : Option Fields). option_map_or (after (state_after config.max_frags (fragments way config before)))
+    (option_map (fragment_of way config r.captured.moment) o)
+    (state_after config.max_frags (fragments way config before))) e)
 
 -- the fragments that wait after one record more
 pub frag3_after-push : (way : Way) (before : List LinkedRecord) (r : LinkedRecord) → frag3_after way (before ++ r ∷ []) ≡ waiting_after way (frag3_after way before) r
@@ -100,7 +109,10 @@ pub numbered-append : (number : ℕ) (moment : Moment) (xs ys : List Work) → n
 numbered-append number moment [] ys = ap (λ n. numbered n moment ys) (omega arith)
 numbered-append number moment (x ∷ xs) ys =
     let first : Job = record { number = number; moment = moment; work = x } in
-    ap (λ rest. first ∷ rest) (numbered-append (number + 1) moment xs ys ∙ ap (λ n. numbered (number + 1) moment xs ++ numbered n moment ys) (let e : (number + 1) + length xs ≡ number + suc (length xs) = omega arith in e))
+    ap (λ rest. first ∷ rest)
+    (numbered-append (number + 1) moment xs ys ∙
+    ap (λ n. numbered (number + 1) moment xs ++ numbered n moment ys)
+    (let e : (number + 1) + length xs ≡ number + suc (length xs) = omega arith in e))
 
 pub length-numbered : (number : ℕ) (moment : Moment) (xs : List Work) → length (numbered number moment xs) ≡ length xs
 length-numbered number moment [] = refl

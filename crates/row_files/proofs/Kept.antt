@@ -37,7 +37,11 @@ find-stored : (es : List Entry) (name : List ℕ) → find (slice_cmp nat_cmp) n
 find-stored [] name = refl
 find-stored (e ∷ es) name = go (is_eq (slice_cmp nat_cmp name (string_bytes e.0))) (find-stored es name)
   where
-    go : (b : Bool) → find (slice_cmp nat_cmp) name (map stored es) ≡ bytes_in (lookup (λ k. is_eq (slice_cmp nat_cmp name (string_bytes k))) es) → cond b (Some e.1.items) (find (slice_cmp nat_cmp) name (map stored es)) ≡ bytes_in (cond b (Some e.1) (lookup (λ k. is_eq (slice_cmp nat_cmp name (string_bytes k))) es))
+    go : (b : Bool)
+        → find (slice_cmp nat_cmp) name (map stored es) ≡
+        bytes_in (lookup (λ k. is_eq (slice_cmp nat_cmp name (string_bytes k))) es)
+        → cond b (Some e.1.items) (find (slice_cmp nat_cmp) name (map stored es)) ≡
+        bytes_in (cond b (Some e.1) (lookup (λ k. is_eq (slice_cmp nat_cmp name (string_bytes k))) es))
     go true h = refl
     go false h = h
 
@@ -62,7 +66,9 @@ same_name : (a b : List ℕ) → is_eq (slice_cmp nat_cmp b a) ≡ is_eq (slice_
 same_name a b = (eq_by_cmp_equiv nat_list_cmp_total).symm b a
 
 -- the files after the code's map was changed at one name
-pub files-updated : (m n : BTreeMap (String Global) (Vec ℕ Global)) (name : List ℕ) (bytes : Vec ℕ Global) → UpdatesBy string_cmp (λ k. slice_cmp nat_cmp name (string_bytes k)) m n (Some bytes) → files_in n.entries ≡ fin.insert (files_in m.entries) name bytes.items
+pub files-updated : (m n : BTreeMap (String Global) (Vec ℕ Global)) (name : List ℕ) (bytes : Vec ℕ Global)
+    → UpdatesBy string_cmp (λ k. slice_cmp nat_cmp name (string_bytes k)) m n (Some bytes)
+    → files_in n.entries ≡ fin.insert (files_in m.entries) name bytes.items
 files-updated m n name bytes after =
     fin.same_map nat_list_cmp_total (fin.slice_cmp-IsAntisymmetric fin.nat_cmp-IsAntisymmetric) _ _ (λ q.
     get-stored n q
@@ -73,7 +79,11 @@ files-updated m n name bytes after =
     ∙ sym (fin.get-insert nat_list_cmp_total (files_in m.entries) name bytes.items q))
 
 -- what is there already, put once more, changes nothing
-same_again : (files : Files) (name bytes : List ℕ) (q : List ℕ) → fin.get files name ≡ Some bytes → (o : Ordering) → slice_cmp nat_cmp q name ≡ o → cond (is_eq o) (Some bytes) (fin.get files q) ≡ fin.get files q
+same_again : (files : Files) (name bytes : List ℕ) (q : List ℕ)
+    → fin.get files name ≡ Some bytes
+    → (o : Ordering)
+    → slice_cmp nat_cmp q name ≡ o
+    → cond (is_eq o) (Some bytes) (fin.get files q) ≡ fin.get files q
 same_again files name bytes q held Less tie = refl
 same_again files name bytes q held Equal tie = sym held ∙ fin.get_tied nat_list_cmp_total files q name tie
 same_again files name bytes q held Greater tie = refl
@@ -84,19 +94,30 @@ put_again files name bytes held =
     fin.get-insert nat_list_cmp_total files name bytes q ∙ same_again files name bytes q held (slice_cmp nat_cmp q name) refl)
 
 -- the files after a name that the code found got more bytes
-pub files-grown : (m n : BTreeMap (String Global) (Vec ℕ Global)) (name : List ℕ) (old new : Vec ℕ Global) (more : List ℕ) → UpdatesBy string_cmp (λ k. slice_cmp nat_cmp name (string_bytes k)) m n (Some new) → Some old ≡ get_by_text m name → new.items ≡ old.items ++ more → files_in n.entries ≡ files_with (files_in m.entries) name more
+pub files-grown : (m n : BTreeMap (String Global) (Vec ℕ Global)) (name : List ℕ) (old new : Vec ℕ Global) (more : List ℕ)
+    → UpdatesBy string_cmp (λ k. slice_cmp nat_cmp name (string_bytes k)) m n (Some new)
+    → Some old ≡ get_by_text m name
+    → new.items ≡ old.items ++ more
+    → files_in n.entries ≡ files_with (files_in m.entries) name more
 files-grown m n name old new more after found grown =
     files-updated m n name new after ∙ ap (fin.insert (files_in m.entries) name) (grown ∙ ap (λ bytes. bytes ++ more) (bytes-found m name old found))
 
 -- the files after a name that the code found kept its bytes
-pub files-kept : (m n : BTreeMap (String Global) (Vec ℕ Global)) (name : List ℕ) (old new : Vec ℕ Global) → UpdatesBy string_cmp (λ k. slice_cmp nat_cmp name (string_bytes k)) m n (Some new) → Some old ≡ get_by_text m name → new.items ≡ old.items → files_in n.entries ≡ files_in m.entries
+pub files-kept : (m n : BTreeMap (String Global) (Vec ℕ Global)) (name : List ℕ) (old new : Vec ℕ Global)
+    → UpdatesBy string_cmp (λ k. slice_cmp nat_cmp name (string_bytes k)) m n (Some new)
+    → Some old ≡ get_by_text m name
+    → new.items ≡ old.items
+    → files_in n.entries ≡ files_in m.entries
 files-kept m n name old new after found same =
     files-updated m n name new after
     ∙ ap (fin.insert (files_in m.entries) name) same
     ∙ put_again (files_in m.entries) name old.items (get-stored m name ∙ ap bytes_in (sym found))
 
 -- the files after a name was put that the code did not find
-pub files-made : (m n : BTreeMap (String Global) (Vec ℕ Global)) (name : List ℕ) (new : Vec ℕ Global) → UpdatesBy string_cmp (λ k. slice_cmp nat_cmp name (string_bytes k)) m n (Some new) → None ≡ get_by_text m name → files_in n.entries ≡ files_with (files_in m.entries) name new.items
+pub files-made : (m n : BTreeMap (String Global) (Vec ℕ Global)) (name : List ℕ) (new : Vec ℕ Global)
+    → UpdatesBy string_cmp (λ k. slice_cmp nat_cmp name (string_bytes k)) m n (Some new)
+    → None ≡ get_by_text m name
+    → files_in n.entries ≡ files_with (files_in m.entries) name new.items
 files-made m n name new after lacking =
     files-updated m n name new after ∙ ap (λ bytes. fin.insert (files_in m.entries) name (bytes ++ new.items)) (bytes-lacking m name lacking)
 
@@ -118,13 +139,20 @@ find-next (f ∷ front) e rest ascend =
     ∙ find-next front e rest ascend.1
 
 -- the files of entries that ascend, put one after another
-pub files-next : (front : List Entry) (e : Entry) (rest : List Entry) → IsStrictlySortedBy string_cmp (keys_of (front ++ e ∷ rest)) → files_in (front ++ e ∷ []) ≡ fin.insert (files_in front) (string_bytes e.0) e.1.items
+pub files-next : (front : List Entry) (e : Entry) (rest : List Entry)
+    → IsStrictlySortedBy string_cmp (keys_of (front ++ e ∷ rest))
+    → files_in (front ++ e ∷ []) ≡ fin.insert (files_in front) (string_bytes e.0) e.1.items
 files-next front e rest ascend =
     ap (fin.from_entries {R = slice_cmp nat_cmp}) (map-append stored front (e ∷ []))
     ∙ fin.from_entries_push nat_list_cmp_total (fin.slice_cmp-IsAntisymmetric fin.nat_cmp-IsAntisymmetric) (map stored front) (string_bytes e.0) e.1.items (find-next front e rest ascend)
 
 -- a host that has the files so far, after one more was put
-pub host-next : (front : List Entry) (e : Entry) (rest all : List Entry) (old new : HeldFiles) → IsStrictlySortedBy string_cmp (keys_of all) → all ≡ front ++ e ∷ rest → old ≡ record no_files { files = files_in front } → new ≡ record old { files = fin.insert old.files (string_bytes e.0) e.1.items } → new ≡ record no_files { files = files_in (front ++ e ∷ []) }
+pub host-next : (front : List Entry) (e : Entry) (rest all : List Entry) (old new : HeldFiles)
+    → IsStrictlySortedBy string_cmp (keys_of all)
+    → all ≡ front ++ e ∷ rest
+    → old ≡ record no_files { files = files_in front }
+    → new ≡ record old { files = fin.insert old.files (string_bytes e.0) e.1.items }
+    → new ≡ record no_files { files = files_in (front ++ e ∷ []) }
 host-next front e rest all old new ascend whole is put =
     put
     ∙ ap (λ (host : HeldFiles). record host { files = fin.insert host.files (string_bytes e.0) e.1.items }) is

@@ -1,5 +1,7 @@
 -- Facts that are decided: a truth value says whether they hold.
-use Rattle.std.proofs.Common.{◌≡◌, ℕ, suc, zero, ◌<◌, ◌≤◌, eqb, leb, ◌⊎◌, inl, inr, ⊎_elim, ℤ, ◌<ℤ◌, ◌≤ℤ◌, Bool, true, false, not, ◌&&◌, ◌||◌, List, [], ◌∷◌, length, get_or, Option, Some, None, refl, sym, subst, arith, Decides, IfSome, MatchBool}
+use Rattle.std.proofs.Common.{◌≡◌, ℕ, suc, zero, ◌<◌, ◌≤◌, eqb, leb, ◌⊎◌, inl, inr, ⊎_elim, ℤ, ◌<ℤ◌, ◌≤ℤ◌, Bool, true, false, not}
+use Rattle.std.proofs.Common.{◌&&◌, ◌||◌, List, [], ◌∷◌, length, get_or, Option, Some, None, refl, sym, subst, arith, Decides}
+use Rattle.std.proofs.Common.{IfSome, MatchBool}
 use Rattle.std.specs.Ordering.{int_eq}
 use Rattle.std.specs.Prelude.{All, Any}
 use Rattle.std.proofs.lemmas.Bool.{false≢true, leb-true, le-leb, cases_lt}

@@ -1,5 +1,7 @@
 -- It is decided whether some way leads through a rule's options: from a point an option leads to few.
-use Rattle.std.proofs.Common.{◌≡◌, ℕ, suc, ◌+◌, ◌*◌, ◌<◌, ◌≤◌, ℤ, pos, negsuc, ◌+ℤ◌, ◌<ℤ◌, ◌≤ℤ◌, Bool, true, false, cond, List, [], ◌∷◌, length, drop, Option, Some, None, refl, sym, ap, subst, ◌∙◌, arith, MatchBool, bit_and, slice_index, slice_set}
+use Rattle.std.proofs.Common.{◌≡◌, ℕ, suc, ◌+◌, ◌*◌, ◌<◌, ◌≤◌, ℤ, pos, negsuc, ◌+ℤ◌, ◌<ℤ◌, ◌≤ℤ◌, Bool, true, false, cond, List}
+use Rattle.std.proofs.Common.{[], ◌∷◌, length, drop, Option, Some, None, refl, sym, ap, subst, ◌∙◌, arith, MatchBool, bit_and}
+use Rattle.std.proofs.Common.{slice_index, slice_set}
 use Rattle.memchr.specs.Find.{OccursAt}
 use Rattle.edge_io.specs.declared.pattern.Span.{Span}
 use Rattle.edge_io.specs.Matching.{folded}
@@ -12,7 +14,9 @@ use Rattle.option_eval.specs.Numbers.{Point, Fetched, fetched, number_of, origin
 use Rattle.option_eval.specs.Places.{Means, Sought, IsFoundAt, Leads, Compares, SharesBit, Unless, IsWay, PayloadMatches, at_place, byte_jump_len, is_only, sought, start}
 use Rattle.option_eval.specs.Walks.{MatchesFrom}
 use Rattle.option_eval.proofs.Sets.Sweeping.{occurs_fits}
-use Rattle.rule_eval.proofs.Decided.{Decided, decided_yes, decided_no, decided_like, decided_both, decided_three, decided_not, decided_same, decided_le, decided_same_z, decided_lt_z, decided_le_z, decided_if, decided_if_some, decided_each_below, decided_some}
+use Rattle.rule_eval.proofs.Decided.{Decided, decided_yes, decided_no, decided_like, decided_both, decided_three, decided_not}
+use Rattle.rule_eval.proofs.Decided.{decided_same, decided_le, decided_same_z, decided_lt_z, decided_le_z, decided_if}
+use Rattle.rule_eval.proofs.Decided.{decided_if_some, decided_each_below, decided_some}
 
 decided_none : (found : Option Span) → Decided (found ≡ None)
 decided_none None = decided_yes refl
@@ -81,7 +85,10 @@ module _ (Q : Point → Type 0) (each : (s : Point) → Decided (Q s)) where
       decided_like
       (λ h. (target h.0, (h.0, h.1.0, refl), h.1.1))
       (λ h. let led = h.1 in (led.0, (led.1, subst Q led.2 h.2)))
-      (decided_some (λ i. IsFoundAt bytes payload how i × Q (target i)) (λ i. decided_both (decided_is_found bytes payload how i) (each (target i))) (suc (length payload)) (λ i h. is_found_below bytes payload how i h.0))
+      (decided_some (λ i. IsFoundAt bytes payload how i × Q (target i))
+      (λ i. decided_both (decided_is_found bytes payload how i) (each (target i)))
+      (suc (length payload))
+      (λ i h. is_found_below bytes payload how i h.0))
 
   pattern_led : (found : Option Span) (negated : Bool) (from : ℕ) (before : Point)
       → Decided ((after : Point)
@@ -171,7 +178,8 @@ module _ (Q : Point → Type 0) (each : (s : Point) → Decided (Q s)) where
       extract_led (fetched payload fetch before) (λ read. record { place = read.stop; values = slice_set before.values name (rounded_up align (read.number * times)) })
   led means payload (opt.IsDataAt at relative negated) before =
       to_one (Unless negated ((pos (origin relative before) +ℤ number_of before.values at) <ℤ pos (length payload))) before
-      (decided_unless negated ((pos (origin relative before) +ℤ number_of before.values at) <ℤ pos (length payload)) (decided_lt_z (pos (origin relative before) +ℤ number_of before.values at) (pos (length payload))))
+      (decided_unless negated ((pos (origin relative before) +ℤ number_of before.values at) <ℤ pos (length payload))
+      (decided_lt_z (pos (origin relative before) +ℤ number_of before.values at) (pos (length payload))))
   led means payload _ before = stays_led before
 
 -- some way leads through the options

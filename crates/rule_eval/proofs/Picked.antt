@@ -20,7 +20,8 @@ candidates_from-below : (test : Rule → Bool) (place : ℕ) (rules : List Rule)
 candidates_from-below test place [] = All-nil (λ p. p < place + 0)
 candidates_from-below test place (rule ∷ rules) =
     by_case (test rule)
-    (All-weaker (λ p. p < place + 1 + length rules) (λ p. p < place + suc (length rules)) (λ p below. omega arith) (candidates_from (place + 1) test rules) (candidates_from-below test (place + 1) rules))
+    (All-weaker (λ p. p < place + 1 + length rules) (λ p. p < place + suc (length rules)) (λ p below. omega arith)
+    (candidates_from (place + 1) test rules) (candidates_from-below test (place + 1) rules))
   where
     by_case : (b : Bool) → All (λ p. p < place + suc (length rules)) (candidates_from (place + 1) test rules)
         → All (λ p. p < place + suc (length rules)) (cond b (place ∷ candidates_from (place + 1) test rules) (candidates_from (place + 1) test rules))
@@ -30,7 +31,9 @@ candidates_from-below test place (rule ∷ rules) =
 pub candidates-below : (rules : List Rule) (carried : Body) (payload : List ℕ) → All (λ p. p < length rules) (candidates rules carried payload)
 unfolding candidates
 candidates-below rules carried payload =
-    All-weaker (λ p. p < 0 + length rules) (λ p. p < length rules) (λ p below. omega arith) (candidates_from 0 (is_candidate carried payload) rules) (candidates_from-below (is_candidate carried payload) 0 rules)
+    All-weaker (λ p. p < 0 + length rules) (λ p. p < length rules) (λ p below. omega arith)
+    (candidates_from 0 (is_candidate carried payload) rules)
+    (candidates_from-below (is_candidate carried payload) 0 rules)
 
 module _ (test : Test) (all : List Rule) (item : Item) where
   -- where every rule that matches is a candidate, those of the candidates are all that match
@@ -50,7 +53,10 @@ module _ (test : Test) (all : List Rule) (item : Item) where
       tried = candidates_from (place + 1) candidate rules
 
       step : Option Rule → List ℕ
-      step found = cond (option_map_or (λ (r : Rule). test r item (bits_seen bits)) found false) (place ∷ picked test all item (option_map_or (λ (r : Rule). bits_after bits r) found bits) tried) (picked test all item bits tried)
+      step found =
+          cond (option_map_or (λ (r : Rule). test r item (bits_seen bits)) found false)
+          (place ∷ picked test all item (option_map_or (λ (r : Rule). bits_after bits r) found bits) tried)
+          (picked test all item bits tried)
 
       by_case : (c t : Bool) → slice_get all place ≡ Some rule → (test rule item (bits_seen bits) ≡ true → candidate rule ≡ true)
           → candidate rule ≡ c → test rule item (bits_seen bits) ≡ t
@@ -67,7 +73,10 @@ module _ (test : Test) (all : List Rule) (item : Item) where
           ap (λ b. cond b (place ∷ places_from test item (place + 1) rules (bits_after bits rule)) (places_from test item (place + 1) rules bits)) is_t ∙ missed
 
 -- the candidates at which the rule matches are all hits
-pub picked-hits : (means : Means) (test : Test) → Tells means test → (rules : List Rule) (item : Item) (bits : Option Bits) → AreHits means rules item bits (picked test rules item bits (candidates rules item.head.body item.payload))
+pub picked-hits : (means : Means) (test : Test)
+    → Tells means test
+    → (rules : List Rule) (item : Item) (bits : Option Bits)
+    → AreHits means rules item bits (picked test rules item bits (candidates rules item.head.body item.payload))
 unfolding candidates
 picked-hits means test tells rules item bits =
     let start : (k : ℕ) → slice_get rules (0 + k) ≡ slice_get rules k = λ k. let e : 0 + k ≡ k = omega arith in ap (slice_get rules) e in
@@ -90,11 +99,17 @@ picked-more test rules item bits (x ∷ xs) place =
     after = bits_after_at rules bits x
 
     by_case : (m : Bool)
-        → picked test rules item after (xs ++ place ∷ []) ≡ picked test rules item after xs ++ cond (matches_at test rules item (bits_after_all rules after (picked test rules item after xs)) place) (place ∷ []) []
-        → picked test rules item bits (xs ++ place ∷ []) ≡ picked test rules item bits xs ++ cond (matches_at test rules item (bits_after_all rules bits (picked test rules item bits xs)) place) (place ∷ []) []
+        → picked test rules item after (xs ++ place ∷ []) ≡
+        picked test rules item after xs ++
+        cond (matches_at test rules item (bits_after_all rules after (picked test rules item after xs)) place) (place ∷ []) []
+        → picked test rules item bits (xs ++ place ∷ []) ≡
+        picked test rules item bits xs ++
+        cond (matches_at test rules item (bits_after_all rules bits (picked test rules item bits xs)) place) (place ∷ []) []
         → cond m (x ∷ picked test rules item after (xs ++ place ∷ [])) (picked test rules item bits (xs ++ place ∷ []))
         ≡ cond m (x ∷ picked test rules item after xs) (picked test rules item bits xs)
-        ++ cond (matches_at test rules item (bits_after_all rules bits (cond m (x ∷ picked test rules item after xs) (picked test rules item bits xs))) place) (place ∷ []) []
+        ++ cond (matches_at test rules item
+        (bits_after_all rules bits (cond m (x ∷ picked test rules item after xs) (picked test rules item bits xs))) place)
+        (place ∷ []) []
     by_case true matched missed = ap (λ places. x ∷ places) matched
     by_case false matched missed = missed
 

@@ -52,7 +52,8 @@ decided_ports proto.Udp ports port = decided_port ports port
 decided_ports proto.Icmp ports port = decided_yes tt
 decided_ports proto.Ip ports port = decided_yes tt
 
-decided_end : (protocol : Proto) (addrs : List (Part AddrBounds)) (ports : List (Part (Bounds ℕ))) (a : Addr) (port : Option ℕ) → Decided (IsEnd protocol addrs ports (record { addr = a; port = port }))
+decided_end : (protocol : Proto) (addrs : List (Part AddrBounds)) (ports : List (Part (Bounds ℕ))) (a : Addr) (port : Option ℕ)
+    → Decided (IsEnd protocol addrs ports (record { addr = a; port = port }))
 decided_end protocol addrs ports a port = decided_both (decided_listed (HasAddress a) (decided_address a) addrs) (decided_ports protocol ports port)
 
 decided_way : (rule : Rule) (a : Addr) (p : Option ℕ) (b : Addr) (q : Option ℕ) → Decided (IsWay rule (record { addr = a; port = p }) (record { addr = b; port = q }))
@@ -73,8 +74,13 @@ decided_rule means rule item bits =
     (λ h. record { header = h.0.0; fields = h.0.1; flowbits_hold = h.1.0; payload = h.1.1 })
     (λ h. ((h.header, h.fields), (h.flowbits_hold, h.payload)))
     (decided_both
-    (decided_both (decided_header rule item.head) (decided_all (λ option. IsTrue (field_holds option item.head (length item.payload))) (λ option. decided_true (field_holds option item.head (length item.payload))) rule.opts))
-    (decided_both (decided_all (λ option. IsTrue (flowbit_holds bits option)) (λ option. decided_true (flowbit_holds bits option)) rule.opts) (decided_payload means rule item.payload)))
+    (decided_both (decided_header rule item.head)
+    (decided_all (λ option. IsTrue (field_holds option item.head (length item.payload)))
+    (λ option. decided_true (field_holds option item.head (length item.payload)))
+    rule.opts))
+    (decided_both
+    (decided_all (λ option. IsTrue (flowbit_holds bits option)) (λ option. decided_true (flowbit_holds bits option)) rule.opts)
+    (decided_payload means rule item.payload)))
 
 -- the test of each rule
 pub test_of : Means → Test

@@ -25,5 +25,7 @@ pub told-there : (count : ℕ) (sid : Option ℕ) (class : Option ClassName) (nu
 unfolding class_of
 told-there count None class number place is given = cc
 told-there count (Some n) None number place is given = let At : Option ℕ → Type 0 = λ o. IfSome o (λ at. at < count) in let same : None ≡ place = ap class_told given in subst At same tt
-told-there count (Some n) (Some (class.Known at)) number place is given = let At : Option ℕ → Type 0 = λ o. IfSome o (λ at. at < count) in let same : Some at ≡ place = ap class_told given in subst At same is
+told-there count (Some n) (Some (class.Known at)) number place is given =
+    let At : Option ℕ → Type 0 = λ o. IfSome o (λ at. at < count) in
+    let same : Some at ≡ place = ap class_told given in subst At same is
 told-there count (Some n) (Some class.Unknown) number place is given = cc

@@ -18,7 +18,10 @@ unfolding flags_of
 flags_of-nil flags = refl
 
 -- a loop's step over the letters
-pub flags_of-step : (flags next : Flags) (letters : List ℕ) (i : ℕ) → i < length letters → with_flag flags (get_or letters i 0) ≡ Ok next → flags_of flags (drop i letters) ≡ flags_of next (drop (i + 1) letters)
+pub flags_of-step : (flags next : Flags) (letters : List ℕ) (i : ℕ)
+    → i < length letters
+    → with_flag flags (get_or letters i 0) ≡ Ok next
+    → flags_of flags (drop i letters) ≡ flags_of next (drop (i + 1) letters)
 flags_of-step flags next letters i h some = at_drop_more (flags_of flags) letters i 0 h ∙ flags_of-some flags next (get_or letters i 0) (drop (i + 1) letters) some
 
 pub flags_of-stop : (flags : Flags) (why : Fault) (letters : List ℕ) (i : ℕ) → i < length letters → with_flag flags (get_or letters i 0) ≡ Err why → flags_of flags (drop i letters) ≡ Err why

@@ -49,12 +49,20 @@ setup-given view words files rose (Err (stop.Refused message)) warnings up = rec
 }
 setup-given view words files rose (Err (stop.CannotRead name)) warnings up = record {
   warnings = warnings;
-  asks = without rose (subst (λ (r : List ℕ). IsSetup words files r (warned warnings (Err (LacksName name))) ⊎ (rose × IsReading words files r name warnings)) (none-refused words (conf_read words (told files)) up.refused up.are_refused) up.gives);
+  asks =
+      without rose
+      (subst (λ (r : List ℕ). IsSetup words files r (warned warnings (Err (LacksName name))) ⊎
+      (rose × IsReading words files r name warnings))
+      (none-refused words (conf_read words (told files)) up.refused up.are_refused)
+      up.gives);
 }
 setup-given view words files rose (Err stop.NoMemory) warnings up = tt
 
 -- texts are made of what it gave
-pub texts-given : (words : Words) (files : Files) (ready : Ready) (answer : Result Kept SetupStop) → Given (λ (r : Ready). r) words files (Ok ready) → GiveTexts ready answer → GivenTexts words files answer
+pub texts-given : (words : Words) (files : Files) (ready : Ready) (answer : Result Kept SetupStop)
+    → Given (λ (r : Ready). r) words files (Ok ready)
+    → GiveTexts ready answer
+    → GivenTexts words files answer
 texts-given words files ready (Ok texts) given are = record { ready = ready; is = given; are = are }
 texts-given words files ready (Err (stop.Refused message)) given are = absurd are
 texts-given words files ready (Err (stop.CannotRead name)) given are = absurd are

@@ -53,9 +53,19 @@ pub split-one : (firsts seconds : List U2) (rest more : List ℕ) → All IsReco
     → joined_text firsts ++ rest ≡ joined_text seconds ++ more → (firsts ≡ seconds) × (rest ≡ more)
 split-one [] [] rest more are as_well none as_none same = (refl, same)
 split-one [] (second ∷ seconds) rest more are as_well none as_none same =
-    absurd (none (length (unified2_text second)) second (record { is = as_well 0 second (omega arith); size_is = refl; rest = joined_text seconds ++ more; begins = same ∙ append_assoc (unified2_text second) (joined_text seconds) more }))
+    absurd (none (length (unified2_text second)) second (record {
+      is = as_well 0 second (omega arith);
+      size_is = refl;
+      rest = joined_text seconds ++ more;
+      begins = same ∙ append_assoc (unified2_text second) (joined_text seconds) more;
+    }))
 split-one (first ∷ firsts) [] rest more are as_well none as_none same =
-    absurd (as_none (length (unified2_text first)) first (record { is = are 0 first (omega arith); size_is = refl; rest = joined_text firsts ++ rest; begins = sym same ∙ append_assoc (unified2_text first) (joined_text firsts) rest }))
+    absurd (as_none (length (unified2_text first)) first (record {
+      is = are 0 first (omega arith);
+      size_is = refl;
+      rest = joined_text firsts ++ rest;
+      begins = sym same ∙ append_assoc (unified2_text first) (joined_text firsts) rest;
+    }))
 split-one (first ∷ firsts) (second ∷ seconds) rest more are as_well none as_none same =
     let moved = sym (append_assoc (unified2_text first) (joined_text firsts) rest) ∙ same ∙ append_assoc (unified2_text second) (joined_text seconds) more in
     let heads = text-split first second (joined_text firsts ++ rest) (joined_text seconds ++ more) (are 0 first (omega arith)) (as_well 0 second (omega arith)) moved in

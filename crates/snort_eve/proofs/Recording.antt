@@ -38,7 +38,12 @@ goes-on : (firsts seconds : List U2) (rest more : List ℕ) → All IsRecord fir
     → joined_text firsts ++ rest ≡ joined_text seconds ++ more → Goes firsts seconds
 goes-on [] seconds rest more are as_well none same = record { thirds = seconds; are = refl }
 goes-on (first ∷ firsts) [] rest more are as_well none same =
-    absurd (none (length (unified2_text first)) first (record { is = are 0 first (omega arith); size_is = refl; rest = joined_text firsts ++ rest; begins = sym same ∙ append_assoc (unified2_text first) (joined_text firsts) rest }))
+    absurd (none (length (unified2_text first)) first (record {
+      is = are 0 first (omega arith);
+      size_is = refl;
+      rest = joined_text firsts ++ rest;
+      begins = sym same ∙ append_assoc (unified2_text first) (joined_text firsts) rest;
+    }))
 goes-on (first ∷ firsts) (second ∷ seconds) rest more are as_well none same =
     let moved = sym (append_assoc (unified2_text first) (joined_text firsts) rest) ∙ same ∙ append_assoc (unified2_text second) (joined_text seconds) more in
     let heads = text-split first second (joined_text firsts ++ rest) (joined_text seconds ++ more) (are 0 first (omega arith)) (as_well 0 second (omega arith)) moved in

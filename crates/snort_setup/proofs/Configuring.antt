@@ -29,7 +29,10 @@ conf-whole configured warnings ended told_are whole =
     subst (λ (e : Ended). IsConfigured configured warnings e) (sym whole.whole) (whole.vars_are, whole.out_is, told_are)
 
 -- the warnings that are handed out
-warnings-out : (output : Output) (out : Loaded) (warnings : List (List ℕ)) → AreHandedOut output out → warnings ≡ conf_warnings out.files out.warnings → warnings ≡ conf_warnings output.files output.warnings
+warnings-out : (output : Output) (out : Loaded) (warnings : List (List ℕ))
+    → AreHandedOut output out
+    → warnings ≡ conf_warnings out.files out.warnings
+    → warnings ≡ conf_warnings output.files output.warnings
 warnings-out output out warnings handed told_are =
     told_are ∙ ap (λ (fs : List (List ℕ)). conf_warnings fs out.warnings) handed.files ∙ ap (λ (ws : List Warning). conf_warnings output.files ws) handed.warnings
 
@@ -47,8 +50,15 @@ conf-asks name asked out warnings ended same told_are (output, is, handed) =
 
 module _ {A : Type 0} (words : Words) (files : Files) (rose : Type 0) (vars : Variables) (out : Loaded) (warnings : List (List ℕ)) (told_are : warnings ≡ conf_warnings out.files out.warnings) where
   -- the reading that a host failed at
-  conf-read : (name asked : List ℕ) → asked ≡ name → IsLoading {A = A} (Some files) words.conf (first_variables words.definition) (Err (conf.HostFailed name)) vars out → IsConfReading words files asked warnings
-  conf-read name asked same loading = (length out.files, conf-asks name asked out warnings (conf_read words (first_files (length out.files) (told files))) same told_are (output, over_told, handed)) where
+  conf-read : (name asked : List ℕ)
+      → asked ≡ name
+      → IsLoading {A = A} (Some files) words.conf (first_variables words.definition) (Err (conf.HostFailed name)) vars out
+      → IsConfReading words files asked warnings
+  conf-read name asked same loading = (
+    length out.files,
+    conf-asks name asked out warnings (conf_read words (first_files (length out.files) (told files))) same told_are
+        (output, over_told, handed),
+  ) where
     output : Output
     output = loading.ends.0
 
@@ -74,10 +84,19 @@ module _ {A : Type 0} (words : Words) (files : Files) (rose : Type 0) (vars : Va
   conf-stopped conf.NoMemory stop.NoMemory stops loading ends = tt
 
 -- a configuration that is stopped, from what a loading says of a host and of the variables that were first
-pub conf-stopped-from : {A : Type 0} (words : Words) (files : Files) (host : Option Files) (before : Variables) → host ≡ Some files → before ≡ first_variables words.definition → (rose : Type 0) (vars : Variables) (out : Loaded) (warnings : List (List ℕ))
-    → warnings ≡ conf_warnings out.files out.warnings → (why : LoadStop) (answer : SetupStop) → StopsAs out.files why answer → IsLoading {A = A} host words.conf before (Err why) vars out
-    → EndsUnlessFailed {A = A} rose (read_files (told files) words.conf before) (Err why) vars out → ConfEnds words files rose (Err answer) warnings (conf_read words (told files))
+pub conf-stopped-from : {A : Type 0} (words : Words) (files : Files) (host : Option Files) (before : Variables)
+    → host ≡ Some files
+    → before ≡ first_variables words.definition
+    → (rose : Type 0) (vars : Variables) (out : Loaded) (warnings : List (List ℕ))
+    → warnings ≡ conf_warnings out.files out.warnings
+    → (why : LoadStop) (answer : SetupStop)
+    → StopsAs out.files why answer
+    → IsLoading {A = A} host words.conf before (Err why) vars out
+    → EndsUnlessFailed {A = A} rose (read_files (told files) words.conf before) (Err why) vars out
+    → ConfEnds words files rose (Err answer) warnings (conf_read words (told files))
 conf-stopped-from {A} words files host before is first rose vars out warnings told_are why answer stops loading ends =
     conf-stopped {A = A} words files rose vars out warnings told_are why answer stops
-    (subst (λ (h : Option Files). IsLoading {A = A} h words.conf (first_variables words.definition) (Err why) vars out) is (subst (λ (b : Variables). IsLoading {A = A} host words.conf b (Err why) vars out) first loading))
-    (subst (λ (b : Variables). EndsUnlessFailed {A = A} rose (read_files (told files) words.conf b) (Err why) vars out) first ends)
+    (subst (λ (h : Option Files). IsLoading {A = A} h words.conf (first_variables words.definition) (Err why) vars out) is
+    (subst (λ (b : Variables). IsLoading {A = A} host words.conf b (Err why) vars out) first loading))
+    (subst (λ (b : Variables). EndsUnlessFailed {A = A} rose (read_files (told files) words.conf b) (Err why) vars out) first
+    ends)

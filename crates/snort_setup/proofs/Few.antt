@@ -9,7 +9,9 @@ use Rattle.rule_parser.specs.declared.fault.RuleFault.{RuleFault}
 use Rattle.rule_parser.specs.declared.fault.RuleKind.TheVariants as kind
 use Rattle.rule_parser.specs.Faults.{plain}
 use Rattle.rule_types.specs.declared.rule.Rule.{Rule}
-use Rattle.snort_setup.specs.Rules.{Frame, RulesState, Verdict, RulesEnd, end_at, nothing_read, is_taken, most_rules, judged, is_among, LineGives, RulesGive, is_skippable, rule_warning, rule_error, with_warning, after_fault, after_line}
+use Rattle.snort_setup.specs.Rules.{Frame, RulesState, Verdict, RulesEnd, end_at, nothing_read, is_taken, most_rules, judged}
+use Rattle.snort_setup.specs.Rules.{is_among, LineGives, RulesGive, is_skippable, rule_warning, rule_error, with_warning}
+use Rattle.snort_setup.specs.Rules.{after_fault, after_line}
 use Rattle.snort_setup.specs.Lines.{RulesAnswer}
 
 -- ---- one line
@@ -25,7 +27,10 @@ judged-few rules is_refused rule other = go (is_taken rules rule) (nat_le most_r
   go false false refused is accepted = omega (arith, leb-false most_rules (length rules) is)
 
 -- the rule of a line, where it is accepted, finds room
-line-few : (frame : Frame) (state : RulesState) (is_refused : Bool) (text : List ℕ) (verdict : Verdict) (rule : Rule) → LineGives frame state is_refused text verdict → verdict.rule ≡ Ok rule → length state.rules + 1 ≤ most_rules
+line-few : (frame : Frame) (state : RulesState) (is_refused : Bool) (text : List ℕ) (verdict : Verdict) (rule : Rule)
+    → LineGives frame state is_refused text verdict
+    → verdict.rule ≡ Ok rule
+    → length state.rules + 1 ≤ most_rules
 unfolding LineGives
 line-few frame state is_refused text verdict rule (inl (read, later, is, same)) accepted =
     judged-few state.rules is_refused read rule (sym (ap (λ (v : Verdict). v.rule) same) ∙ accepted)
@@ -37,7 +42,10 @@ same-state : (a b : RulesState) → ◌≡◌ {A = Result RulesState (List ℕ)}
 same-state a b same = cc
 
 -- a line that is skipped leaves the rules as they are
-skipped-few : (frame : Frame) (line : Line) (state after : RulesState) (fault : RuleFault) → length state.rules ≤ most_rules → after_fault frame line state fault ≡ Ok after → length after.rules ≤ most_rules
+skipped-few : (frame : Frame) (line : Line) (state after : RulesState) (fault : RuleFault)
+    → length state.rules ≤ most_rules
+    → after_fault frame line state fault ≡ Ok after
+    → length after.rules ≤ most_rules
 unfolding after_fault
 skipped-few frame line state after fault few = go (frame.skips && is_skippable fault.kind) where
   go : (skips : Bool) → cond skips (Ok (with_warning state (rule_warning frame line fault))) (Err (rule_error frame line fault)) ≡ Ok after → length after.rules ≤ most_rules
@@ -68,7 +76,10 @@ on_either : {A B C : Type 0} (r : Result A B) (P : A → Type 0) (S : B → Type
 on_either (Ok x) P S ok err p = ok x refl p
 on_either (Err y) P S ok err p = err y p
 
-lines-few : (frame : Frame) (refused : List ℕ) (place : ℕ) (state : RulesState) (lines : List Line) (end : RulesEnd) → length state.rules ≤ most_rules → RulesGive frame refused place state lines end → length end.rules ≤ most_rules
+lines-few : (frame : Frame) (refused : List ℕ) (place : ℕ) (state : RulesState) (lines : List Line) (end : RulesEnd)
+    → length state.rules ≤ most_rules
+    → RulesGive frame refused place state lines end
+    → length end.rules ≤ most_rules
 unfolding RulesGive
 lines-few frame refused place state [] end few is = subst (λ (e : RulesEnd). length e.rules ≤ most_rules) (sym is) few
 lines-few frame refused place state (line ∷ rest) end few (verdict, gives, on) =

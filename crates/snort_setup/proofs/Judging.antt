@@ -71,7 +71,10 @@ pub judged-taken : (rules : List Rule) (is_refused : Bool) (rule : Rule) → is_
 unfolding judged
 judged-taken rules is_refused rule taken = rw taken (refl, refl)
 
-pub judged-full : (rules : List Rule) (is_refused : Bool) (rule : Rule) → is_taken rules rule ≡ false → nat_le most_rules (length rules) ≡ true → IsJudged rules (judged rules is_refused rule) rules (Some (plain kind.Limit))
+pub judged-full : (rules : List Rule) (is_refused : Bool) (rule : Rule)
+    → is_taken rules rule ≡ false
+    → nat_le most_rules (length rules) ≡ true
+    → IsJudged rules (judged rules is_refused rule) rules (Some (plain kind.Limit))
 unfolding judged
 judged-full rules is_refused rule free full = rw (free, full) (refl, refl)
 

@@ -1,6 +1,8 @@
 -- The rule lines that were read, and those that are left: what the lines before lead to, with the lines whose
 -- patterns were refused.
-use Rattle.std.proofs.Common.{◌≡◌, ℕ, zero, suc, ◌+◌, ◌<◌, ◌≤◌, Bool, true, false, ◌||◌, Option, Some, None, Result, Ok, Err, List, [], ◌∷◌, ◌++◌, length, drop, refl, sym, ap, subst, ◌∙◌, append_assoc, arith, eqb, add-one, length-append, append-nil}
+use Rattle.std.proofs.Common.{◌≡◌, ℕ, zero, suc, ◌+◌, ◌<◌, ◌≤◌, Bool, true, false, ◌||◌, Option, Some, None, Result, Ok, Err}
+use Rattle.std.proofs.Common.{List, [], ◌∷◌, ◌++◌, length, drop, refl, sym, ap, subst, ◌∙◌, append_assoc, arith, eqb, add-one}
+use Rattle.std.proofs.Common.{length-append, append-nil}
 use Rattle.std.specs.Prelude.{All, Contains, is_some}
 use Rattle.std.specs.List.{slice_get}
 use Rattle.std.specs.Bool.{OnTrue}
@@ -82,7 +84,9 @@ at-place {X} (suc n) (x ∷ xs) line rest left = let (at, after) = at-place n xs
 -- ---- what the maker refused
 
 -- lines that are refused by some refusals are refused by more
-more-refused : (frame : Frame) (lines : List Line) (refused : List ℕ) (grown more : List Refusal) → All (IsRefusedLine frame lines grown) refused → All (IsRefusedLine frame lines (grown ++ more)) refused
+more-refused : (frame : Frame) (lines : List Line) (refused : List ℕ) (grown more : List Refusal)
+    → All (IsRefusedLine frame lines grown) refused
+    → All (IsRefusedLine frame lines (grown ++ more)) refused
 more-refused frame lines refused grown more asked =
     All-weaker (IsRefusedLine frame lines grown) (IsRefusedLine frame lines (grown ++ more))
     (λ place (line, names, rule, later, at, is, (refusal, option, among, has, asks)). (line, names, rule, later, at, is, (refusal, option, Contains-append_left grown more refusal among, has, asks)))
@@ -134,8 +138,12 @@ stop-at before (Err error) after message P (rules, warnings, some) = cc
 given-on : (frame : Frame) (all : List ℕ) (place : ℕ) (b : Bool) (before after : RulesState) (line : Line) (rest : List Line) (end : RulesEnd) → is_among all place ≡ b
     → StepGives frame line before b after None → RulesGive frame all (place + 1) after rest end → RulesGive frame all place before (line ∷ rest) end
 unfolding RulesGive
-given-on frame all place b before after line rest end same (verdict, gives, step) given =
-    (verdict, subst (λ c. LineGives frame before c line.text verdict) (sym same) gives, go-on before (after_line frame line before verdict) after (λ next. RulesGive frame all (place + 1) next rest end) _ step given)
+given-on frame all place b before after line rest end same (verdict, gives, step) given = (
+  verdict,
+  subst (λ c. LineGives frame before c line.text verdict) (sym same) gives,
+  go-on before (after_line frame line before verdict) after (λ next. RulesGive frame all (place + 1) next rest end) _ step
+      given,
+)
 
 given-stop : (frame : Frame) (all : List ℕ) (place : ℕ) (b : Bool) (before after : RulesState) (line : Line) (rest : List Line) (message : List ℕ) → is_among all place ≡ b
     → StepGives frame line before b after (Some message) → RulesGive frame all place before (line ∷ rest) (end_at after (Some message))
@@ -149,8 +157,10 @@ given-none frame all place state = refl
 
 -- ---- the lines so far and one more
 
-module _ (frame : Frame) (lines : List Line) (warnings : List (List ℕ)) (first old new : List Refusal) (before after : RulesState) (line : Line) (rest : List Line) (grew_before : Grows first old) (grew : Grows old new)
-    (so : SoFar frame lines warnings before (line ∷ rest) (grown_by first old)) (asks : AsksOf frame before.names line.text old new) where
+module _ (frame : Frame) (lines : List Line) (warnings : List (List ℕ)) (first old new : List Refusal) (before after : RulesState)
+    (line : Line) (rest : List Line) (grew_before : Grows first old) (grew : Grows old new)
+    (so : SoFar frame lines warnings before (line ∷ rest) (grown_by first old))
+    (asks : AsksOf frame before.names line.text old new) where
   at : (slice_get lines so.place ≡ Some line) × (drop (so.place + 1) lines ≡ rest)
   at = at-place so.place lines line rest so.left
 
@@ -166,18 +176,43 @@ module _ (frame : Frame) (lines : List Line) (warnings : List (List ℕ)) (first
   -- where the maker refused nothing, the refused lines stay; where it did, this line is one
   kept : AreRefused frame lines so.refused (grown_by first new)
   kept = record {
-    asked = subst (λ g. All (IsRefusedLine frame lines g) so.refused) (sym (grown-grown first old new grew_before grew)) (more-refused frame lines so.refused (grown_by first old) (grown_by old new) so.are_refused.asked);
-    few = omega (arith, so.are_refused.few, ap length (grown-grown first old new grew_before grew), length-append (grown_by first old) (grown_by old new));
+    asked =
+        subst (λ g. All (IsRefusedLine frame lines g) so.refused)
+        (sym (grown-grown first old new grew_before grew))
+        (more-refused frame lines so.refused (grown_by first old) (grown_by old new) so.are_refused.asked);
+    few = omega (
+      arith,
+      so.are_refused.few,
+      ap length (grown-grown first old new grew_before grew),
+      length-append (grown_by first old) (grown_by old new),
+    );
   }
 
   one-more : refused_one old new ≡ true → AreRefused frame lines (so.refused ++ so.place ∷ []) (grown_by first new)
   one-more one =
       let (rule, later, is, (refusal, option, among, has, asked)) = asks-in frame before.names line.text old new asks one in
-      let there : IsRefusedLine frame lines (grown_by first old ++ grown_by old new) so.place =
-      (line, before.names, rule, later, at.0, is, (refusal, option, Contains-append_right (grown_by first old) (grown_by old new) refusal among, has, asked)) in
+      let there : IsRefusedLine frame lines (grown_by first old ++ grown_by old new) so.place = (
+        line,
+        before.names,
+        rule,
+        later,
+        at.0,
+        is,
+        (refusal, option, Contains-append_right (grown_by first old) (grown_by old new) refusal among, has, asked),
+      ) in
       record {
-        asked = All-push (IsRefusedLine frame lines (grown_by first new)) so.refused so.place kept.asked (subst (λ g. IsRefusedLine frame lines g so.place) (sym (grown-grown first old new grew_before grew)) there);
-        few = omega (arith, so.are_refused.few, ap length (grown-grown first old new grew_before grew), length-append (grown_by first old) (grown_by old new), length-append so.refused (so.place ∷ []), asks-length frame before.names line.text old new grew one);
+        asked =
+            All-push (IsRefusedLine frame lines (grown_by first new))
+            so.refused so.place kept.asked
+            (subst (λ g. IsRefusedLine frame lines g so.place) (sym (grown-grown first old new grew_before grew)) there);
+        few = omega (
+          arith,
+          so.are_refused.few,
+          ap length (grown-grown first old new grew_before grew),
+          length-append (grown_by first old) (grown_by old new),
+          length-append so.refused (so.place ∷ []),
+          asks-length frame before.names line.text old new grew one,
+        );
       }
 
   onward-no : refused_one old new ≡ false → StepGives frame line before false after None → SoFar frame lines warnings after rest (grown_by first new)
@@ -211,7 +246,10 @@ module _ (frame : Frame) (lines : List Line) (warnings : List (List ℕ)) (first
     go false is s = onward-no is s
     go true is s = onward-yes is s
 
-  stopped-no : (message : List ℕ) → refused_one old new ≡ false → StepGives frame line before false after (Some message) → RulesAnswer frame lines warnings (grown_by first new) (end_at after (Some message))
+  stopped-no : (message : List ℕ)
+      → refused_one old new ≡ false
+      → StepGives frame line before false after (Some message)
+      → RulesAnswer frame lines warnings (grown_by first new) (end_at after (Some message))
   stopped-no message none step = record {
     refused = so.refused;
     are_refused = kept;
@@ -222,7 +260,10 @@ module _ (frame : Frame) (lines : List Line) (warnings : List (List ℕ)) (first
         subst (λ all. RulesGive frame all 0 (nothing_read warnings) lines (end_at after (Some message))) (append-nil so.refused) from;
   }
 
-  stopped-yes : (message : List ℕ) → refused_one old new ≡ true → StepGives frame line before true after (Some message) → RulesAnswer frame lines warnings (grown_by first new) (end_at after (Some message))
+  stopped-yes : (message : List ℕ)
+      → refused_one old new ≡ true
+      → StepGives frame line before true after (Some message)
+      → RulesAnswer frame lines warnings (grown_by first new) (end_at after (Some message))
   stopped-yes message some step = record {
     refused = so.refused ++ so.place ∷ [];
     are_refused = one-more some;
@@ -242,12 +283,17 @@ module _ (frame : Frame) (lines : List Line) (warnings : List (List ℕ)) (first
   onward-at None none step = onward step
   onward-at (Some message) none step = absurd (false≢true (sym none))
 
-  pub stopped-at : (refusal : Option (List ℕ)) → is_some refusal ≡ true → StepGives frame line before (refused_one old new) after refusal → RulesAnswer frame lines warnings (grown_by first new) (end_at after refusal)
+  pub stopped-at : (refusal : Option (List ℕ))
+      → is_some refusal ≡ true
+      → StepGives frame line before (refused_one old new) after refusal
+      → RulesAnswer frame lines warnings (grown_by first new) (end_at after refusal)
   stopped-at None is step = absurd (false≢true is)
   stopped-at (Some message) is step = stopped message step
 
 -- all lines were read
-pub finished : (frame : Frame) (lines : List Line) (warnings : List (List ℕ)) (state : RulesState) (grown : List Refusal) → SoFar frame lines warnings state [] grown → RulesAnswer frame lines warnings grown (end_at state None)
+pub finished : (frame : Frame) (lines : List Line) (warnings : List (List ℕ)) (state : RulesState) (grown : List Refusal)
+    → SoFar frame lines warnings state [] grown
+    → RulesAnswer frame lines warnings grown (end_at state None)
 finished frame lines warnings state grown so = record {
   refused = so.refused;
   are_refused = so.are_refused;
@@ -255,7 +301,10 @@ finished frame lines warnings state grown so = record {
       (so.goes [] (All-nil (λ p. so.place ≤ p)) (end_at state None) (given-none frame (so.refused ++ []) so.place state));
 }
 
-pub finished-at : (frame : Frame) (lines : List Line) (warnings : List (List ℕ)) (state : RulesState) (rest : List Line) (grown : List Refusal) → length rest ≡ 0 → SoFar frame lines warnings state rest grown
+pub finished-at : (frame : Frame) (lines : List Line) (warnings : List (List ℕ)) (state : RulesState) (rest : List Line)
+    (grown : List Refusal)
+    → length rest ≡ 0
+    → SoFar frame lines warnings state rest grown
     → RulesAnswer frame lines warnings grown (end_at state None)
 finished-at frame lines warnings state [] grown none so = finished frame lines warnings state grown so
 finished-at frame lines warnings state (line ∷ rest) grown none so = absurd (omega arith)

@@ -59,13 +59,22 @@ both (Ok x) P Q S T ok err p q = ok x p q
 both (Err y) P Q S T ok err p q = err y p q
 
 -- rule lines end in one way
-end-one : (frame : Frame) (refused : List ℕ) (place : ℕ) (state : RulesState) (lines : List Line) (a b : RulesEnd) → RulesGive frame refused place state lines a → RulesGive frame refused place state lines b → a ≡ b
+end-one : (frame : Frame) (refused : List ℕ) (place : ℕ) (state : RulesState) (lines : List Line) (a b : RulesEnd)
+    → RulesGive frame refused place state lines a
+    → RulesGive frame refused place state lines b
+    → a ≡ b
 unfolding RulesGive
 end-one frame refused place state [] a b x y = x ∙ sym y
 end-one frame refused place state (line ∷ rest) a b (verdict, gives, x) (other, gives_too, y) =
     let same : other ≡ verdict = verdict-one frame state (is_among refused place) line.text other verdict gives_too gives in
-    let z = subst (λ (v : Verdict). MatchResult (after_line frame line state v) (λ after. RulesGive frame refused (place + 1) after rest b) (λ message. b ≡ end_at state (Some message))) same y in
-    both (after_line frame line state verdict) (λ after. RulesGive frame refused (place + 1) after rest a) (λ after. RulesGive frame refused (place + 1) after rest b) (λ message. a ≡ end_at state (Some message)) (λ message. b ≡ end_at state (Some message))
+    let z =
+    subst (λ (v : Verdict). MatchResult (after_line frame line state v)
+    (λ after. RulesGive frame refused (place + 1) after rest b)
+    (λ message. b ≡ end_at state (Some message))) same y in
+    both (after_line frame line state verdict) (λ after. RulesGive frame refused (place + 1) after rest a)
+    (λ after. RulesGive frame refused (place + 1) after rest b)
+    (λ message. a ≡ end_at state (Some message))
+    (λ message. b ≡ end_at state (Some message))
     (λ after p q. end-one frame refused (place + 1) after rest a b p q) (λ message p q. p ∙ sym q) x z
 
 -- a configuration gives one thing

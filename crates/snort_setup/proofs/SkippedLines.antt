@@ -9,7 +9,8 @@ use Rattle.rule_parser.specs.declared.fault.RuleFault.{RuleFault}
 use Rattle.rule_parser.specs.declared.fault.RuleKind.TheVariants as kind
 use Rattle.rule_parser.specs.Faults.{plain}
 use Rattle.rule_types.specs.declared.rule.Rule.{Rule}
-use Rattle.snort_setup.specs.Rules.{Frame, IsFaulty, LineGives, RulesEnd, RulesGive, RulesState, Verdict, after_fault, after_line, end_at, is_among, is_skippable, is_taken, judged, most_rules, rule_error, rule_warning}
+use Rattle.snort_setup.specs.Rules.{Frame, IsFaulty, LineGives, RulesEnd, RulesGive, RulesState, Verdict, after_fault, after_line}
+use Rattle.snort_setup.specs.Rules.{end_at, is_among, is_skippable, is_taken, judged, most_rules, rule_error, rule_warning}
 use Rattle.snort_setup.specs.SkippedLines.{AreMoved, HasOneMore, IsRefusedRule, IsSkipped, OnlyWarns}
 use Rattle.snort_setup.proofs.One.{verdict-one}
 

@@ -20,8 +20,12 @@ use Rattle.snort_setup.specs.Lines.{IsRead, AsksOf, IsStep, Skips, StepGives}
 
 -- ---- a line that was read
 
-pub read-judged : (frame : Frame) (before : RulesState) (text : List ℕ) (is_refused : Bool) (rule : Rule) (after : RulesState) (fault : Option RuleFault) → IsRule frame before.names text rule after.names
-    → after.warnings ≡ before.warnings → IsJudged before.rules (judged before.rules is_refused rule) after.rules fault → IsRead frame before text is_refused after fault
+pub read-judged : (frame : Frame) (before : RulesState) (text : List ℕ) (is_refused : Bool) (rule : Rule) (after : RulesState)
+    (fault : Option RuleFault)
+    → IsRule frame before.names text rule after.names
+    → after.warnings ≡ before.warnings
+    → IsJudged before.rules (judged before.rules is_refused rule) after.rules fault
+    → IsRead frame before text is_refused after fault
 unfolding LineGives
 read-judged frame before text is_refused rule after fault is warnings judged_so =
     (record { rule = judged before.rules is_refused rule; names = after.names }, inl (rule, after.names, is, refl), (refl, warnings, judged_so))
@@ -33,7 +37,11 @@ read-faulty frame before text is_refused names fault faulty same =
     (record { rule = Err fault; names = before.names }, inr (fault, faulty, refl), (same, refl, (refl, refl)))
 
 -- what the maker refused is a pattern of the rule
-pub asks-from : (frame : Frame) (names : List (List ℕ)) (text : List ℕ) (rule : Rule) (later : List (List ℕ)) (old new : List Refusal) → IsRule frame names text rule later → Refuses rule.opts old new → AsksOf frame names text old new
+pub asks-from : (frame : Frame) (names : List (List ℕ)) (text : List ℕ) (rule : Rule) (later : List (List ℕ))
+    (old new : List Refusal)
+    → IsRule frame names text rule later
+    → Refuses rule.opts old new
+    → AsksOf frame names text old new
 asks-from frame names text rule later old new is refuses = go (refused_one old new) refuses where
   go : (b : Bool) → OnTrue b (RefusesOneOf rule.opts old new) → OnTrue b ((one : Rule) × (after : List (List ℕ)) × IsRule frame names text one after × RefusesOneOf one.opts old new)
   go true one = (rule, later, is, one)
@@ -72,7 +80,9 @@ state-is : (state : RulesState) (names : List (List ℕ)) (rules : List Rule) (w
     → state ≡ record { names = names; rules = rules; warnings = warnings }
 state-is state names rules warnings a b c = λ i. record { names = a i; rules = b i; warnings = c i }
 
-pub step-accepted : (frame : Frame) (line : Line) (before : RulesState) (is_refused : Bool) (after : RulesState) → IsRead frame before line.text is_refused after None → StepGives frame line before is_refused after None
+pub step-accepted : (frame : Frame) (line : Line) (before : RulesState) (is_refused : Bool) (after : RulesState)
+    → IsRead frame before line.text is_refused after None
+    → StepGives frame line before is_refused after None
 unfolding after_line
 step-accepted frame line before is_refused after (verdict, gives, (names, warnings, judged_so)) = (verdict, gives, go verdict.rule judged_so) where
   go : (rule : Result Rule RuleFault) → IsJudged before.rules rule after.rules None → IsStep before (after_line frame line before (record { rule = rule; names = verdict.names })) after None
@@ -80,12 +90,18 @@ step-accepted frame line before is_refused after (verdict, gives, (names, warnin
   go (Err why) (rules, some) = let never : None ≡ Some why = some in cc
 
 -- the names don't matter where a line is refused
-step-names : (before : RulesState) (names : List (List ℕ)) (r : Result RulesState (List ℕ)) (after : RulesState) (refusal : Option (List ℕ)) → IsStep (record before { names = names }) r after refusal → IsStep before r after refusal
+step-names : (before : RulesState) (names : List (List ℕ)) (r : Result RulesState (List ℕ)) (after : RulesState)
+    (refusal : Option (List ℕ))
+    → IsStep (record before { names = names }) r after refusal
+    → IsStep before r after refusal
 step-names before names (Ok next) after refusal step = step
 step-names before names (Err message) after refusal step = step
 
-pub step-refused : (frame : Frame) (line : Line) (before : RulesState) (is_refused : Bool) (mid after : RulesState) (fault : RuleFault) (refusal : Option (List ℕ)) → IsRead frame before line.text is_refused mid (Some fault)
-    → Skips frame line mid fault after refusal → StepGives frame line before is_refused after refusal
+pub step-refused : (frame : Frame) (line : Line) (before : RulesState) (is_refused : Bool) (mid after : RulesState)
+    (fault : RuleFault) (refusal : Option (List ℕ))
+    → IsRead frame before line.text is_refused mid (Some fault)
+    → Skips frame line mid fault after refusal
+    → StepGives frame line before is_refused after refusal
 unfolding after_line
 step-refused frame line before is_refused mid after fault refusal (verdict, gives, (names, warnings, judged_so)) skips = (verdict, gives, go verdict.rule judged_so) where
   go : (rule : Result Rule RuleFault) → IsJudged before.rules rule mid.rules (Some fault) → IsStep before (after_line frame line before (record { rule = rule; names = verdict.names })) after refusal
@@ -98,12 +114,16 @@ step-refused frame line before is_refused mid after fault refusal (verdict, give
       step-names before verdict.names (after_fault frame line (record before { names = verdict.names }) why) after refusal two
 
 -- a line that may be skipped, and one that may not
-pub skips-warned : (frame : Frame) (line : Line) (before : RulesState) (fault : RuleFault) (warnings : List (List ℕ)) → (frame.skips && is_skippable fault.kind) ≡ true → warnings ≡ before.warnings ++ rule_warning frame line fault ∷ []
+pub skips-warned : (frame : Frame) (line : Line) (before : RulesState) (fault : RuleFault) (warnings : List (List ℕ))
+    → (frame.skips && is_skippable fault.kind) ≡ true
+    → warnings ≡ before.warnings ++ rule_warning frame line fault ∷ []
     → Skips frame line before fault (record before { warnings = warnings }) None
 unfolding after_fault
 skips-warned frame line before fault warnings may same = rw may (λ i. record before { warnings = same i }, refl)
 
-pub skips-refused : (frame : Frame) (line : Line) (before : RulesState) (fault : RuleFault) (message : List ℕ) → (frame.skips && is_skippable fault.kind) ≡ false → message ≡ rule_error frame line fault
+pub skips-refused : (frame : Frame) (line : Line) (before : RulesState) (fault : RuleFault) (message : List ℕ)
+    → (frame.skips && is_skippable fault.kind) ≡ false
+    → message ≡ rule_error frame line fault
     → Skips frame line before fault before (Some message)
 unfolding after_fault
 skips-refused frame line before fault message may same = rw may (refl, refl, ap (λ (m : List ℕ). Some m) same)

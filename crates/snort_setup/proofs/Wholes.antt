@@ -15,7 +15,8 @@ use Rattle.edge_io.specs.OnResult.{◌>>=◌}
 use Rattle.conf_parser.specs.declared.loaded.Loaded.{Loaded}
 use Rattle.host_table.specs.declared.host_line.HostLine.{HostLine}
 use Rattle.snort_setup.specs.Rules.{Frame, RulesEnd, RulesGive, nothing_read}
-use Rattle.snort_setup.specs.Setup.{Halt, Refused, Lacks as LacksName, Ruled, Ready, warned, ruled, ruled_by, ready, frame_of, conf_read, conf_warnings, IsRuledBy, IsRuled, IsSetup, AsksFor, table_of, with_table}
+use Rattle.snort_setup.specs.Setup.{Halt, Refused, Lacks as LacksName, Ruled, Ready, warned, ruled, ruled_by, ready, frame_of}
+use Rattle.snort_setup.specs.Setup.{conf_read, conf_warnings, IsRuledBy, IsRuled, IsSetup, AsksFor, table_of, with_table}
 use Rattle.snort_setup.specs.Answers.{IsRefusedLine, AreRefused, AreRefusedBy, Gives, SetsUp, HasCause}
 use Rattle.snort_setup.specs.Lines.{RulesAnswer}
 use Rattle.snort_setup.specs.Stages.{IsConfigured, IsConfError, ConfEnds, TableGives}
@@ -53,7 +54,9 @@ lines-refused words configured before refused grown (Whole read) (vars, loaded, 
 lines-refused words configured before refused grown (RefusedAt fault output) never given = absurd never
 lines-refused words configured before refused grown (Asks name output) never given = absurd never
 
-module _ {A : Type 0} (view : A → Ruled) (words : Words) (skips : Bool) (same_skips : words.skips ≡ skips) (configured : Configured) (before : List (List ℕ)) (ended : Ended) (is : IsConfigured configured before ended)
+module _ {A : Type 0} (view : A → Ruled) (words : Words) (skips : Bool)
+    (same_skips : words.skips ≡ skips)
+    (configured : Configured) (before : List (List ℕ)) (ended : Ended) (is : IsConfigured configured before ended)
     (grown : List Asked) where
   module _ (end : RulesEnd) (answer : RulesAnswer (frame_of skips configured.vars configured.loaded) configured.loaded.rules before grown end) where
     its : RulesAnswer (frame_of words.skips configured.vars configured.loaded) configured.loaded.rules before grown end
@@ -91,13 +94,18 @@ ruled-none view words ended grown warnings = record { refused = []; are_refused 
 -- ---- the whole
 
 -- what ends before the host table is read
-setup-err : (words : Words) (files : Files) (refused : List ℕ) (warnings : List (List ℕ)) (halt : Halt) → IsRuled words files refused (warned warnings (Err halt)) → IsSetup words files refused (warned warnings (Err halt))
+setup-err : (words : Words) (files : Files) (refused : List ℕ) (warnings : List (List ℕ)) (halt : Halt)
+    → IsRuled words files refused (warned warnings (Err halt))
+    → IsSetup words files refused (warned warnings (Err halt))
 unfolding with_table
 setup-err words files refused warnings halt is = (warned warnings (Err halt), is, refl)
 
 -- a setup whose configuration and rules are accepted, by what is read of the host table
-setup-table : (words : Words) (files : Files) (refused : List ℕ) (warnings : List (List ℕ)) (given : Ruled) (table : Result (List HostLine) Halt) → IsRuled words files refused (warned warnings (Ok given))
-    → table_of words.host_table files ≡ table → IsSetup words files refused (warned warnings (table >>= λ hosts. Ok (ready given hosts)))
+setup-table : (words : Words) (files : Files) (refused : List ℕ) (warnings : List (List ℕ)) (given : Ruled)
+    (table : Result (List HostLine) Halt)
+    → IsRuled words files refused (warned warnings (Ok given))
+    → table_of words.host_table files ≡ table
+    → IsSetup words files refused (warned warnings (table >>= λ hosts. Ok (ready given hosts)))
 unfolding with_table
 setup-table words files refused warnings given table is same =
     (warned warnings (Ok given), is, ap (λ (t : Result (List HostLine) Halt). warned warnings (t >>= λ hosts. Ok (ready given hosts))) (sym same))
@@ -127,7 +135,9 @@ module _ {A : Type 0} (view : A → Ready) (words : Words) (files : Files) (rose
     go stop.NoMemory tt = tt
 
   -- a rule line is refused
-  pub rules-stopped : {R : Type 0} (ruled : R → Ruled) (why : SetupStop) → RuledGives ruled words (conf_read words (told files)) grown (Err why) warnings → SetsUp view words files rose grown (Err why) warnings
+  pub rules-stopped : {R : Type 0} (ruled : R → Ruled) (why : SetupStop)
+      → RuledGives ruled words (conf_read words (told files)) grown (Err why) warnings
+      → SetsUp view words files rose grown (Err why) warnings
   rules-stopped {R} ruled why given = record { refused = given.refused; are_refused = given.are_refused; gives = go why given.gives } where
     go : (why : SetupStop) → RuledAs ruled words given.refused (conf_read words (told files)) (Err why) warnings → Gives view words files given.refused rose (Err why) warnings
     go (stop.Refused message) is = setup-err words files given.refused warnings (Refused message) is
@@ -156,7 +166,11 @@ module _ {A : Type 0} (view : A → Ready) (words : Words) (files : Files) (rose
 -- ---- what came later
 
 -- a fault that was counted later was counted since the beginning
-pub table-since : (name : Option (List ℕ)) (files : Files) (later since : Type 0) → (later → since) → (answer : Result (List HostLine) SetupStop) → TableGives name files later answer → TableGives name files since answer
+pub table-since : (name : Option (List ℕ)) (files : Files) (later since : Type 0)
+    → (later → since)
+    → (answer : Result (List HostLine) SetupStop)
+    → TableGives name files later answer
+    → TableGives name files since answer
 table-since name files later since rose (Ok hosts) gives = gives
 table-since name files later since rose (Err (stop.Refused message)) gives = gives
 table-since name files later since rose (Err (stop.CannotRead asked)) (inl lacks) = inl lacks

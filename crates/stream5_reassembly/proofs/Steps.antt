@@ -1,5 +1,6 @@
 -- What a direction keeps over its steps.
-use Rattle.std.proofs.Common.{◌≡◌, inl, inr, length, map, take, drop, get_or, ℕ, ◌+◌, ◌-◌, ◌%◌, ◌^◌, ◌<◌, ◌≤◌, true, false, List, [], ◌++◌, max, nat_eq, Result, Ok, Err, OnOk, OnErr, refl, ap, sym, subst, ◌∙◌, arith}
+use Rattle.std.proofs.Common.{◌≡◌, inl, inr, length, map, take, drop, get_or, ℕ, ◌+◌, ◌-◌, ◌%◌, ◌^◌, ◌<◌, ◌≤◌, true, false, List}
+use Rattle.std.proofs.Common.{[], ◌++◌, max, nat_eq, Result, Ok, Err, OnOk, OnErr, refl, ap, sym, subst, ◌∙◌, arith}
 use Rattle.std.proofs.lemmas.Bool.{cases_lt}
 use Rattle.std.proofs.lemmas.Bool.Decides.{nat_tests}
 use Rattle.edge_io.specs.declared.policy.Preference.{Preference}
@@ -55,7 +56,11 @@ queued-room direction end is = record {
   slot = grind (arith, nat_tests);
 }
 
-pub with_segment-kept : (direction : DirectionState) (segment : Segment) → IsKept direction → direction.started ≡ true → fate_at direction (end_of segment) ≡ Queued → IsKept (with_segment direction segment)
+pub with_segment-kept : (direction : DirectionState) (segment : Segment)
+    → IsKept direction
+    → direction.started ≡ true
+    → fate_at direction (end_of segment) ≡ Queued
+    → IsKept (with_segment direction segment)
 with_segment-kept direction segment kept started is =
     let room : IsRoomFor direction (end_of segment) = queued-room direction (end_of segment) is in
     let more : top (with_segment direction segment) ≡ max (top direction) (end_of segment) = covered_end-snoc direction.place direction.segments segment in

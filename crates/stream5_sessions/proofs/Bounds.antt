@@ -22,14 +22,20 @@ kept_by-within es cap next key None is some within = let front = length-take (ca
 module _ (flows : FlowsState) (key : Key) (bounded : IsBounded flows) where
   tcp_within : (b : Bool) → key.tcp ≡ b → length (cond b (kept_after flows key) flows.tcp) ≤ flows.max.tcp
   tcp_within true is =
-      subst (λ (b : Bool). length (kept_by (cond b flows.tcp flows.udp) (cond b flows.max.tcp flows.max.udp) flows.next key (lookup (same_key key) (cond b flows.tcp flows.udp))) ≤ flows.max.tcp) (sym is)
+      subst (λ (b : Bool). length
+      (kept_by (cond b flows.tcp flows.udp) (cond b flows.max.tcp flows.max.udp) flows.next key
+      (lookup (same_key key) (cond b flows.tcp flows.udp))) ≤
+      flows.max.tcp) (sym is)
       (kept_by-within flows.tcp flows.max.tcp flows.next key (lookup (same_key key) flows.tcp) refl bounded.some_tcp bounded.tcp)
   tcp_within false is = bounded.tcp
 
   udp_within : (b : Bool) → key.tcp ≡ b → length (cond b flows.udp (kept_after flows key)) ≤ flows.max.udp
   udp_within true is = bounded.udp
   udp_within false is =
-      subst (λ (b : Bool). length (kept_by (cond b flows.tcp flows.udp) (cond b flows.max.tcp flows.max.udp) flows.next key (lookup (same_key key) (cond b flows.tcp flows.udp))) ≤ flows.max.udp) (sym is)
+      subst (λ (b : Bool). length
+      (kept_by (cond b flows.tcp flows.udp) (cond b flows.max.tcp flows.max.udp) flows.next key
+      (lookup (same_key key) (cond b flows.tcp flows.udp))) ≤
+      flows.max.udp) (sym is)
       (kept_by-within flows.udp flows.max.udp flows.next key (lookup (same_key key) flows.udp) refl bounded.some_udp bounded.udp)
 
   bounded-touched : IsBounded (touched_state flows key)

@@ -18,7 +18,12 @@ kept_is flows touches true seen = seen.tcp
 kept_is flows touches false seen = seen.udp
 
 next_is : (max : MaxFlows) (touches : List Key) (key : Key) → next_by (begun max touches) (lookup (same_key key) (kept max key.tcp touches)) ≡ begun max (key ∷ touches)
-next_is max touches key = ap (next_by (begun max touches)) (lookup-kept max touches key) ∙ (elim (is_live max touches key) as (λ x. next_by (begun max touches) (cond x (Some (flow_number max touches key)) None) ≡ cond x (begun max touches) (begun max touches + 1)) [ true ↦ refl | false ↦ refl ])
+next_is max touches key =
+    ap (next_by (begun max touches)) (lookup-kept max touches key)
+    ∙ (elim (is_live max touches key) as
+    (λ x. next_by (begun max touches) (cond x (Some (flow_number max touches key)) None) ≡
+    cond x (begun max touches) (begun max touches + 1))
+    [ true ↦ refl | false ↦ refl ])
 
 pub found_in-is : (flows : FlowsState) (touches : List Key) (key : Key) → HasSeen flows touches → found_in flows key ≡ touch_found flows.max touches key
 found_in-is flows touches key seen =

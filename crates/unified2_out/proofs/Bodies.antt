@@ -10,7 +10,9 @@ use Rattle.unified2_out.specs.declared.record.U2Event.{U2Event}
 use Rattle.unified2_out.specs.declared.record.U2Packet.{U2Packet}
 use Rattle.unified2_out.specs.declared.record.U2.{U2}
 use Rattle.unified2_out.specs.declared.record.U2.TheVariants.{Event, Packet, Other}
-use Rattle.unified2_out.specs.Records.{numbers, address_bytes, event_words, event_ports, event_octets, packet_words, event_body, packet_body, event_kind, event_size, kind_of, body_of, most_body_bytes, AreOfOneVersion, IsInRange, AllFit, FitsEvent}
+use Rattle.unified2_out.specs.Records.{numbers, address_bytes, event_words, event_ports, event_octets, packet_words, event_body}
+use Rattle.unified2_out.specs.Records.{packet_body, event_kind, event_size, kind_of, body_of, most_body_bytes, AreOfOneVersion}
+use Rattle.unified2_out.specs.Records.{IsInRange, AllFit, FitsEvent}
 use Rattle.unified2_out.specs.Parts.{event_len}
 use Rattle.unified2_out.specs.Reading.{IsRecord}
 use Rattle.unified2_out.specs.Fronts.{IsRecordOf, IsEventOf}
@@ -179,7 +181,8 @@ parts-whole width body words tail first second are =
     let both = take (width + width) after in
     let after_bytes = bytes-drop 36 body are.bytes in
     let both_bytes = bytes-take (width + width) after after_bytes in
-    let both_size : length both ≡ width + width = omega (arith, are.size, length-take (width + width) after, length-drop 36 body) in
+    let both_size : length both ≡ width + width =
+    omega (arith, are.size, length-take (width + width) after, length-drop 36 body) in
     let src_bytes = bytes-take width both both_bytes in
     let dst_bytes = bytes-drop width both both_bytes in
     let src_is : are.src ≡ take width both = are.src_is ∙ ap (λ (b : List ℕ). take width (take (width + width) b)) are.after_is in
@@ -187,11 +190,26 @@ parts-whole width body words tail first second are =
     let tail_is : tail ≡ drop (width + width) after = are.tail_is ∙ ap (λ (b : List ℕ). drop (width + width) b) are.after_is in
     let first_is : first ≡ big_number width (take width both) = are.first_is ∙ ap (big_number width) src_is in
     let second_is : second ≡ big_number width (drop width both) = are.second_is ∙ ap (big_number width) dst_is in
-    let src = ap (big_bytes width) first_is ∙ bytes-number width (take width both) src_bytes (omega (arith, length-take width both)) in
-    let dst = ap (big_bytes width) second_is ∙ bytes-number width (drop width both) dst_bytes (omega (arith, length-drop width both)) in
+    let src =
+    ap (big_bytes width) first_is ∙ bytes-number width (take width both) src_bytes (omega (arith, length-take width both)) in
+    let dst =
+    ap (big_bytes width) second_is ∙ bytes-number width (drop width both) dst_bytes (omega (arith, length-drop width both)) in
     let whole : words ++ big_bytes width first ++ big_bytes width second ++ tail ≡ body =
-    rw (are.words_are, src, dst, tail_is, append_assoc (take 36 body) (take width both) (drop width both), take-append-drop width both, append_assoc (take 36 body) both (drop (width + width) after), take-append-drop (width + width) after, take-append-drop 36 body) refl in
-    (whole, subst (λ (n : ℕ). n < 256 ^ width) (sym first_is) (big_from-lt 0 width (take width both) src_bytes), subst (λ (n : ℕ). n < 256 ^ width) (sym second_is) (big_from-lt 0 width (drop width both) dst_bytes))
+    rw (
+      are.words_are,
+      src,
+      dst,
+      tail_is,
+      append_assoc (take 36 body) (take width both) (drop width both),
+      take-append-drop width both,
+      append_assoc (take 36 body) both (drop (width + width) after),
+      take-append-drop (width + width) after,
+      take-append-drop 36 body,
+    ) refl in (
+      whole,
+      subst (λ (n : ℕ). n < 256 ^ width) (sym first_is) (big_from-lt 0 width (take width both) src_bytes),
+      subst (λ (n : ℕ). n < 256 ^ width) (sym second_is) (big_from-lt 0 width (drop width both) dst_bytes),
+    )
 
 -- an event between addresses of version 4 whose body is that
 pub event-of : (event : U2Event) (body words tail : List ℕ) (first second : ℕ) → AreParts 4 body words tail first second

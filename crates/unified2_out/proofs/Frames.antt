@@ -9,8 +9,14 @@ use Rattle.unified2_out.proofs.Numbers.{AreBytes, bytes-drop, bytes-first, numbe
 
 -- two lists of one length, with what follows them
 append-split : (first second rest more : List ℕ) → length first ≡ length second → first ++ rest ≡ second ++ more → (first ≡ second) × (rest ≡ more)
-append-split first second rest more sizes same =
-    (sym (take_at first rest (length first) refl) ∙ ap (take (length first)) same ∙ take_at second more (length first) (sym sizes), sym (drop_at first rest (length first) refl) ∙ ap (drop (length first)) same ∙ drop_at second more (length first) (sym sizes))
+append-split first second rest more sizes same = (
+  sym (take_at first rest (length first) refl)
+      ∙ ap (take (length first)) same
+      ∙ take_at second more (length first) (sym sizes),
+  sym (drop_at first rest (length first) refl)
+      ∙ ap (drop (length first)) same
+      ∙ drop_at second more (length first) (sym sizes),
+)
 
 -- a frame is as long as its header and its body
 pub length-frame_text : (kind : ℕ) (body : List ℕ) → length (frame_text kind body) ≡ 8 + length body

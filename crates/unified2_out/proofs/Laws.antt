@@ -9,7 +9,9 @@ use Rattle.unified2_out.specs.declared.record.U2Event.{U2Event}
 use Rattle.unified2_out.specs.declared.record.U2Packet.{U2Packet}
 use Rattle.unified2_out.specs.declared.record.U2.{U2}
 use Rattle.unified2_out.specs.declared.record.U2.TheVariants.{Event, Packet, Other}
-use Rattle.unified2_out.specs.Records.{numbers, address_bytes, event_words, event_ports, event_octets, packet_words, event_body, packet_body, event_kind, kind_of, body_of, unified2_text, AreOfOneVersion, IsInRange, IsOtherKind}
+use Rattle.unified2_out.specs.Records.{numbers, address_bytes, event_words, event_ports, event_octets, packet_words, event_body}
+use Rattle.unified2_out.specs.Records.{packet_body, event_kind, kind_of, body_of, unified2_text, AreOfOneVersion, IsInRange}
+use Rattle.unified2_out.specs.Records.{IsOtherKind}
 use Rattle.unified2_out.specs.Reading.{IsRecord, joined_text, AreRecordsOf, IsBadAt}
 use Rattle.unified2_out.proofs.Numbers.{number-split, numbers-split}
 use Rattle.unified2_out.proofs.Bodies.{event-kinds, kind-fits, body-short}
@@ -68,13 +70,25 @@ event_by-own event = refl
 event-one : (first second : U2Event) → IsRecord (Event first) → IsRecord (Event second) → event_kind first.src ≡ event_kind second.src → event_body first ≡ event_body second → first ≡ second
 unfolding event_body
 event-one first second is as_well kinds same =
-    let parts : (event : U2Event) → List ℕ = λ (event : U2Event). address_bytes event.dst ++ (numbers 2 (event_ports event) ++ event_octets event) in
-    let regrouped = λ (event : U2Event). regroup (numbers 4 (event_words event)) (address_bytes event.src) (address_bytes event.dst) (numbers 2 (event_ports event)) (event_octets event) in
-    let words = numbers-split 4 (event_words first) (event_words second) (address_bytes first.src ++ parts first) (address_bytes second.src ++ parts second) is.fits.words as_well.fits.words refl (sym (regrouped first) ∙ same ∙ regrouped second) in
+    let parts : (event : U2Event) → List ℕ =
+    λ (event : U2Event). address_bytes event.dst ++ (numbers 2 (event_ports event) ++ event_octets event) in
+    let regrouped = λ (event : U2Event).
+    regroup (numbers 4 (event_words event)) (address_bytes event.src) (address_bytes event.dst) (numbers 2 (event_ports event))
+    (event_octets event) in
+    let words =
+    numbers-split 4 (event_words first) (event_words second) (address_bytes first.src ++ parts first)
+    (address_bytes second.src ++ parts second)
+    is.fits.words as_well.fits.words refl
+    (sym (regrouped first) ∙ same ∙ regrouped second) in
     let src = address-split first.src second.src (parts first) (parts second) is.fits.src as_well.fits.src kinds words.1 in
     let dst_kinds = sym (one-kind first.src first.dst is.writable) ∙ kinds ∙ one-kind second.src second.dst as_well.writable in
-    let dst = address-split first.dst second.dst (numbers 2 (event_ports first) ++ event_octets first) (numbers 2 (event_ports second) ++ event_octets second) is.fits.dst as_well.fits.dst dst_kinds src.1 in
-    let ports = numbers-split 2 (event_ports first) (event_ports second) (event_octets first) (event_octets second) is.fits.ports as_well.fits.ports refl dst.1 in
+    let dst =
+    address-split first.dst second.dst (numbers 2 (event_ports first) ++ event_octets first)
+    (numbers 2 (event_ports second) ++ event_octets second)
+    is.fits.dst as_well.fits.dst dst_kinds src.1 in
+    let ports =
+    numbers-split 2 (event_ports first) (event_ports second) (event_octets first) (event_octets second) is.fits.ports
+    as_well.fits.ports refl dst.1 in
     sym (event_by-own first)
     ∙ ap (λ (w : List ℕ). event_by w first.src first.dst (event_ports first) (event_octets first)) words.0
     ∙ ap (λ (a : Addr). event_by (event_words second) a first.dst (event_ports first) (event_octets first)) src.0
@@ -133,7 +147,9 @@ pub text-split : (first second : U2) (rest more : List ℕ) → IsRecord first �
     → unified2_text first ++ rest ≡ unified2_text second ++ more → (first ≡ second) × (rest ≡ more)
 unfolding unified2_text
 text-split first second rest more is as_well same =
-    let parts = frame-split (kind_of first) (kind_of second) (body_of first) (body_of second) rest more (kind-fits first is) (kind-fits second as_well) (body-short first is) (body-short second as_well) same in
+    let parts =
+    frame-split (kind_of first) (kind_of second) (body_of first) (body_of second) rest more (kind-fits first is)
+    (kind-fits second as_well) (body-short first is) (body-short second as_well) same in
     (record-one first second is as_well parts.0 parts.1, parts.2)
 
 -- no record's text is a proper beginning of another's

@@ -104,8 +104,14 @@ numbers-fit width bytes values small read k d h =
 -- two numbers that fit, with the bytes after them, are equal where their bytes are
 pub number-split : (width first second : ℕ) (rest more : List ℕ) → first < 256 ^ width → second < 256 ^ width
     → bytes_high_first width first ++ rest ≡ bytes_high_first width second ++ more → (first ≡ second) × (rest ≡ more)
-number-split width first second rest more fits as_well same =
-    (sym (big_number-reads_back width first rest fits) ∙ ap (big_from 0 width) same ∙ big_number-reads_back width second more as_well, sym (drop_at (bytes_high_first width first) rest width (length-bytes_high_first width first)) ∙ ap (drop width) same ∙ drop_at (bytes_high_first width second) more width (length-bytes_high_first width second))
+number-split width first second rest more fits as_well same = (
+  sym (big_number-reads_back width first rest fits)
+      ∙ ap (big_from 0 width) same
+      ∙ big_number-reads_back width second more as_well,
+  sym (drop_at (bytes_high_first width first) rest width (length-bytes_high_first width first))
+      ∙ ap (drop width) same
+      ∙ drop_at (bytes_high_first width second) more width (length-bytes_high_first width second),
+)
 
 -- two lists of numbers that fit, with the bytes after them, are equal where their bytes are
 pub numbers-split : (width : ℕ) (firsts seconds rest more : List ℕ) → AllFit width firsts → AllFit width seconds → length firsts ≡ length seconds

@@ -10,7 +10,8 @@ use Rattle.unified2_out.proofs.Bodies.{length-any_event, length-packet_body}
 
 -- an event: its head, its addresses and its tail
 event_text-parts : (event : U2Event) (old : List ℕ)
-    → old ++ numbers 4 (event_kind event.src ∷ event_len event.src event.dst ∷ event_words event) ++ address_bytes event.src ++ address_bytes event.dst ++ (numbers 2 (event_ports event) ++ event_octets event)
+    → old ++ numbers 4 (event_kind event.src ∷ event_len event.src event.dst ∷ event_words event) ++ address_bytes event.src ++
+    address_bytes event.dst ++ (numbers 2 (event_ports event) ++ event_octets event)
     ≡ old ++ unified2_text (Event event)
 unfolding unified2_text frame_text event_body
 event_text-parts event old =

@@ -41,7 +41,10 @@ pub ported_none : (word : List ℕ) → Lacks 58 word → NoWhole IsPorted porte
 ported_none word lacks other fits e = lacks-none 58 (address_text other.0) (decimal other.1) (rw e lacks)
 
 -- both ends with ports
-pub with_ends : (from to : List ℕ) (src dst : Addr) (sport dport : ℕ) → IsWhole IsPorted ported_text from (src, sport) → IsWhole IsPorted ported_text to (dst, dport) → AreOwn true from to (record { src = src; dst = dst; ports = Some (sport, dport) })
+pub with_ends : (from to : List ℕ) (src dst : Addr) (sport dport : ℕ)
+    → IsWhole IsPorted ported_text from (src, sport)
+    → IsWhole IsPorted ported_text to (dst, dport)
+    → AreOwn true from to (record { src = src; dst = dst; ports = Some (sport, dport) })
 unfolding port_text
 with_ends from to src dst sport dport h k = record {
   words = record { fits = (h.fits.0, k.fits.0, (h.fits.1, k.fits.1)); source = h.spelled; target = k.spelled };
@@ -49,10 +52,18 @@ with_ends from to src dst sport dport h k = record {
 }
 
 -- ends with ports are two words with ports
-has_pair : (from to : List ℕ) (other : LineEnds) → AreWords from to other → is_some other.ports ≡ true → (p : ℕ × ℕ) × IsPorted (other.src, p.0) × IsPorted (other.dst, p.1) × (ported_text (other.src, p.0) ≡ from) × (ported_text (other.dst, p.1) ≡ to)
+has_pair : (from to : List ℕ) (other : LineEnds)
+    → AreWords from to other
+    → is_some other.ports ≡ true
+    → (p : ℕ × ℕ) × IsPorted (other.src, p.0) × IsPorted (other.dst, p.1) × (ported_text (other.src, p.0) ≡ from) ×
+    (ported_text (other.dst, p.1) ≡ to)
 unfolding port_text
 has_pair from to other words own =
-    elim other.ports as (λ (ports : Option (ℕ × ℕ)). ArePorts ports → address_text other.src ++ port_text (first_port ports) ≡ from → address_text other.dst ++ port_text (second_port ports) ≡ to → is_some ports ≡ true → (p : ℕ × ℕ) × IsPorted (other.src, p.0) × IsPorted (other.dst, p.1) × (ported_text (other.src, p.0) ≡ from) × (ported_text (other.dst, p.1) ≡ to)) [
+    elim other.ports as
+    (λ (ports : Option (ℕ × ℕ)). ArePorts ports → address_text other.src ++ port_text (first_port ports) ≡ from →
+    address_text other.dst ++ port_text (second_port ports) ≡ to → is_some ports ≡ true →
+    (p : ℕ × ℕ) × IsPorted (other.src, p.0) × IsPorted (other.dst, p.1) × (ported_text (other.src, p.0) ≡ from) ×
+    (ported_text (other.dst, p.1) ≡ to)) [
       | None ↦ (λ fits e f own. absurd (true≢false (sym own)))
       | Some p ↦ (λ fits e f own. (p, (words.fits.0, fits.0), (words.fits.1, fits.1), e, f))
     ] words.fits.2 words.source words.target own
@@ -78,7 +89,10 @@ plain_ends from to src dst h k = record {
 are_plain : (from to : List ℕ) (other : LineEnds) → AreWords from to other → is_some other.ports ≡ false → (address_text other.src ≡ from) × (address_text other.dst ≡ to)
 unfolding port_text
 are_plain from to other words own =
-    elim other.ports as (λ (ports : Option (ℕ × ℕ)). address_text other.src ++ port_text (first_port ports) ≡ from → address_text other.dst ++ port_text (second_port ports) ≡ to → is_some ports ≡ false → (address_text other.src ≡ from) × (address_text other.dst ≡ to)) [
+    elim other.ports as
+    (λ (ports : Option (ℕ × ℕ)). address_text other.src ++ port_text (first_port ports) ≡ from →
+    address_text other.dst ++ port_text (second_port ports) ≡ to → is_some ports ≡ false →
+    (address_text other.src ≡ from) × (address_text other.dst ≡ to)) [
       | None ↦ (λ e f own. (sym (append-nil _) ∙ e, sym (append-nil _) ∙ f))
       | Some p ↦ (λ e f own. absurd (true≢false own))
     ] words.source words.target own

@@ -1,5 +1,7 @@
 -- Addresses and ports, and the only way to write them.
-use Rattle.std.proofs.Common.{◌≡◌, ◌≢◌, ℕ, zero, suc, ◌+◌, ◌*◌, ◌/◌, ◌%◌, ◌^◌, ◌<◌, ◌≤◌, Bool, true, false, not, List, [], ◌∷◌, ◌++◌, Option, Some, None, is_some, length, get_or, fold, refl, sym, ap, subst, ◌∙◌, inl, inr, arith, All, decimal, add-mul, mul_assoc, add_assoc}
+use Rattle.std.proofs.Common.{◌≡◌, ◌≢◌, ℕ, zero, suc, ◌+◌, ◌*◌, ◌/◌, ◌%◌, ◌^◌, ◌<◌, ◌≤◌, Bool, true, false, not, List, [], ◌∷◌}
+use Rattle.std.proofs.Common.{◌++◌, Option, Some, None, is_some, length, get_or, fold, refl, sym, ap, subst, ◌∙◌, inl, inr, arith}
+use Rattle.std.proofs.Common.{All, decimal, add-mul, mul_assoc, add_assoc}
 use Rattle.std.specs.Prelude.{⊤}
 use Rattle.std.proofs.Math.Arith.{mod-mul}
 use Rattle.std.specs.Int.{w32, w128, to_be_bytes, from_be_bytes, bytes_high_first, byte_at, byte_worth, sum_through}
@@ -130,16 +132,21 @@ power_pos (suc k) = omega (arith, power_pos k, power k)
 high_value : (v k n : ℕ) → fold onward v (bytes_high_first k n) ≡ v * 256 ^ k + n % 256 ^ k
 high_value v zero n = omega arith
 high_value v (suc k) n =
-    let worth : byte_at k n ≡ n / 256 ^ k % 256 = elim k as (λ (j : ℕ). byte_at j n ≡ n / 256 ^ j % 256) [ zero ↦ omega arith | suc j ↦ refl ] in
-    let split : n % 256 ^ suc k ≡ (n / 256 ^ k % 256) * 256 ^ k + n % 256 ^ k = ap (λ (p : ℕ). n % p) (power k) ∙ mod-mul n (omega arith) (power_pos k) in
-    let outer : (v * 256 + byte_at k n) * 256 ^ k ≡ v * (256 * 256 ^ k) + byte_at k n * 256 ^ k = add-mul (v * 256) (byte_at k n) (256 ^ k) ∙ ap (λ (t : ℕ). t + byte_at k n * 256 ^ k) (mul_assoc v 256 (256 ^ k)) in
+    let worth : byte_at k n ≡ n / 256 ^ k % 256 =
+    elim k as (λ (j : ℕ). byte_at j n ≡ n / 256 ^ j % 256) [ zero ↦ omega arith | suc j ↦ refl ] in
+    let split : n % 256 ^ suc k ≡ (n / 256 ^ k % 256) * 256 ^ k + n % 256 ^ k =
+    ap (λ (p : ℕ). n % p) (power k) ∙ mod-mul n (omega arith) (power_pos k) in
+    let outer : (v * 256 + byte_at k n) * 256 ^ k ≡ v * (256 * 256 ^ k) + byte_at k n * 256 ^ k =
+    add-mul (v * 256) (byte_at k n) (256 ^ k) ∙ ap (λ (t : ℕ). t + byte_at k n * 256 ^ k) (mul_assoc v 256 (256 ^ k)) in
     high_value (v * 256 + byte_at k n) k n
     ∙ ap (λ (t : ℕ). t + n % 256 ^ k) outer
     ∙ add_assoc (v * (256 * 256 ^ k)) (byte_at k n * 256 ^ k) (n % 256 ^ k)
     ∙ ap (λ (t : ℕ). v * (256 * 256 ^ k) + t) (ap (λ (b : ℕ). b * 256 ^ k + n % 256 ^ k) worth ∙ sym split)
     ∙ ap (λ (p : ℕ). v * p + n % 256 ^ suc k) (sym (power k))
 
-sixteen : (a b c d e f g h i j k l m n o p : ℕ) → from_be_bytes w128 (a ∷ b ∷ c ∷ d ∷ e ∷ f ∷ g ∷ h ∷ i ∷ j ∷ k ∷ l ∷ m ∷ n ∷ o ∷ p ∷ []) ≡ fold onward 0 (a ∷ b ∷ c ∷ d ∷ e ∷ f ∷ g ∷ h ∷ i ∷ j ∷ k ∷ l ∷ m ∷ n ∷ o ∷ p ∷ [])
+sixteen : (a b c d e f g h i j k l m n o p : ℕ)
+    → from_be_bytes w128 (a ∷ b ∷ c ∷ d ∷ e ∷ f ∷ g ∷ h ∷ i ∷ j ∷ k ∷ l ∷ m ∷ n ∷ o ∷ p ∷ []) ≡
+    fold onward 0 (a ∷ b ∷ c ∷ d ∷ e ∷ f ∷ g ∷ h ∷ i ∷ j ∷ k ∷ l ∷ m ∷ n ∷ o ∷ p ∷ [])
 sixteen a b c d e f g h i j k l m n o p = omega arith
 
 number_back : (n : ℕ) → IsV6 n → from_be_bytes w128 (octets_of (eight n)) ≡ n

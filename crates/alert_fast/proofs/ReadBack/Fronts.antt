@@ -35,7 +35,11 @@ lacks-none byte x y h = (lacks-back byte x (byte ∷ y) h).0 refl
 
 module _ {A : Type 0} (Fits : A → Type 0) (spell : A → List ℕ) where
   -- a value that a byte ends, which none of those that may be there has in it
-  pub ended_front : (end : ℕ) (text word rest : List ℕ) (value : A) → ((a : A) → Fits a → Lacks end (spell a)) → IsWord end text word rest → IsWhole Fits spell word value → IsFront Fits (ended spell end) text value rest
+  pub ended_front : (end : ℕ) (text word rest : List ℕ) (value : A)
+      → ((a : A) → Fits a → Lacks end (spell a))
+      → IsWord end text word rest
+      → IsWhole Fits spell word value
+      → IsFront Fits (ended spell end) text value rest
   ended_front end text word rest value free w h = record {
     fits = h.fits;
     spelled = w.spelled ∙ ap (λ (t : List ℕ). t ++ (end ∷ rest)) (sym h.spelled) ∙ sym (append_assoc (spell value) (end ∷ []) rest);
@@ -94,7 +98,15 @@ module _ {A B : Type 0} (P : A → Type 0) (f : A → List ℕ) (Q : B → Type 
       none other.1 more fits.1 (sym first.1)
 
   -- a value made of another one, with no other form
-  pub changed_front : (to : A → B) (from : B → A) → ((b : B) → Q b → P (from b)) → ((b : B) → to (from b) ≡ b) → ((b : B) → g b ≡ f (from b)) → ((a : A) → g (to a) ≡ f a) → (text rest : List ℕ) (a : A) → IsFront P f text a rest → Q (to a) → IsFront Q g text (to a) rest
+  pub changed_front : (to : A → B) (from : B → A)
+      → ((b : B) → Q b → P (from b))
+      → ((b : B) → to (from b) ≡ b)
+      → ((b : B) → g b ≡ f (from b))
+      → ((a : A) → g (to a) ≡ f a)
+      → (text rest : List ℕ) (a : A)
+      → IsFront P f text a rest
+      → Q (to a)
+      → IsFront Q g text (to a) rest
   changed_front to from fits back own same text rest a h fit = record {
     fits = fit;
     spelled = h.spelled ∙ ap (λ (t : List ℕ). t ++ rest) (sym (same a));
@@ -106,7 +118,14 @@ module _ {A B : Type 0} (P : A → Type 0) (f : A → List ℕ) (Q : B → Type 
   pub changed_none : (from : B → A) → ((b : B) → Q b → P (from b)) → ((b : B) → g b ≡ f (from b)) → (text : List ℕ) → NoFront P f text → NoFront Q g text
   changed_none from fits own text none other more q e = none (from other) more (fits other q) (e ∙ ap (λ (t : List ℕ). t ++ more) (own other))
 
-  pub changed_no : (to : A → B) (from : B → A) → ((b : B) → Q b → P (from b)) → ((b : B) → to (from b) ≡ b) → ((b : B) → g b ≡ f (from b)) → (text rest : List ℕ) (a : A) → IsFront P f text a rest → ¬ (Q (to a)) → NoFront Q g text
+  pub changed_no : (to : A → B) (from : B → A)
+      → ((b : B) → Q b → P (from b))
+      → ((b : B) → to (from b) ≡ b)
+      → ((b : B) → g b ≡ f (from b))
+      → (text rest : List ℕ) (a : A)
+      → IsFront P f text a rest
+      → ¬ (Q (to a))
+      → NoFront Q g text
   changed_no to from fits back own text rest a h unfit other more q e =
       let first = h.only (from other) more (fits other q) (e ∙ ap (λ (t : List ℕ). t ++ more) (own other)) in
       unfit (rw (← first.0, back other) q)

@@ -21,11 +21,16 @@ after_bracket q = codes "Priority: " ++ (ranked_text q.ranked ++ arrow_text q.fr
 bracket_free : (q : PartFacts) → FitParts q → Lacks 91 (after_bracket q)
 bracket_free q fit =
     let priority : Free 91 (decimal q.ranked.0) = record { lacks = free_number 91 refl q.ranked.0 fit.ranked.0 } in
-    let protocol : Free 91 (protocol_text q.ranked.1) = record { lacks = free_protocol 91 bracket_is_foreign q.ranked.1 fit.ranked.1 } in
+    let protocol : Free 91 (protocol_text q.ranked.1) = record {
+      lacks = free_protocol 91 bracket_is_foreign q.ranked.1 fit.ranked.1;
+    } in
     let from : Free 91 q.from = record { lacks = fit.from_bracket } in
     let to : Free 91 q.to = record { lacks = fit.to_bracket } in
-    let ranked : Free 91 (ranked_text q.ranked) = join (join (join priority (literal 91 (93 ∷ []) refl)) (literal 91 (codes " {") refl)) (join (join protocol (literal 91 (125 ∷ []) refl)) (literal 91 (codes " ") refl)) in
-    let arrow : Free 91 (arrow_text q.from q.to) = join from (join (literal 91 (codes " -> ") refl) (join to (literal 91 (10 ∷ []) refl))) in
+    let ranked : Free 91 (ranked_text q.ranked) =
+    join (join (join priority (literal 91 (93 ∷ []) refl)) (literal 91 (codes " {") refl))
+    (join (join protocol (literal 91 (125 ∷ []) refl)) (literal 91 (codes " ") refl)) in
+    let arrow : Free 91 (arrow_text q.from q.to) =
+    join from (join (literal 91 (codes " -> ") refl) (join to (literal 91 (10 ∷ []) refl))) in
     (join (literal 91 (codes "Priority: ") refl) (join ranked arrow)).lacks
 
 pub parts_no_head : (line : List ℕ) → NoFront IsHead head_text line → NoParts line
@@ -62,7 +67,11 @@ module _ (line : List ℕ) (time : LineTime) (numbers : Numbers) (rest : List �
         pub parts_no_msg : NoSplit middle → NoParts line
         parts_no_msg none q fit e = none q.msg q.class (same_middle q fit e).0
 
-        pub parts_whole : (from to msg : List ℕ) (class : Option (List ℕ)) → IsArrow back from to → IsSplit middle msg class → AreParts line (record { time = time; numbers = numbers; msg = msg; class = class; ranked = ranked; from = from; to = to })
+        pub parts_whole : (from to msg : List ℕ) (class : Option (List ℕ))
+            → IsArrow back from to
+            → IsSplit middle msg class
+            → AreParts line
+            (record { time = time; numbers = numbers; msg = msg; class = class; ranked = ranked; from = from; to = to })
         parts_whole from to msg class a s = record {
           head = h.fits;
           ranked = r.fits;

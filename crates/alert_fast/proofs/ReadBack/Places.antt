@@ -1,5 +1,6 @@
 -- Places of bytes and of texts, as cuts.
-use Rattle.std.proofs.Common.{◌≡◌, ◌≢◌, ℕ, zero, suc, ◌+◌, ◌-◌, ◌<◌, ◌≤◌, Bool, true, eqb, List, [], ◌∷◌, ◌++◌, length, get_or, take, drop, refl, sym, ap, ◌∙◌, append_assoc, arith, length-append, add-one, inl, inr}
+use Rattle.std.proofs.Common.{◌≡◌, ◌≢◌, ℕ, zero, suc, ◌+◌, ◌-◌, ◌<◌, ◌≤◌, Bool, true, eqb, List, [], ◌∷◌, ◌++◌, length, get_or}
+use Rattle.std.proofs.Common.{take, drop, refl, sym, ap, ◌∙◌, append_assoc, arith, length-append, add-one, inl, inr}
 use Rattle.std.proofs.lemmas.Bool.{eq-eqb, cases_lt}
 use Rattle.std.proofs.lemmas.List.{ext_get_or, take-append-drop, get_or-take, get_or-drop, get_or-append-add, get_or_append_left, length-take-le, length-drop, drop-drop}
 use Rattle.std.proofs.Math.Seq.{drop-cons}
@@ -62,9 +63,14 @@ cut_there needle text k h =
     let back = length-drop k text in
     let long = length-take-le (length needle) (drop k text) (omega (arith, back, h.fits)) in
     let same : take (length needle) (drop k text) ≡ needle =
-    ext_get_or 0 _ _ long (λ j lt. get_or-take (length needle) (drop k text) j 0 (omega (arith, long, lt)) ∙ get_or-drop k text j 0 ∙ h.reads j (omega (arith, long, lt))) in
+    ext_get_or 0 _ _ long
+    (λ j lt. get_or-take (length needle) (drop k text) j 0 (omega (arith, long, lt)) ∙ get_or-drop k text j 0 ∙
+    h.reads j (omega (arith, long, lt))) in
     let rest = drop-drop (length needle) k text in
-    sym (take-append-drop k text) ∙ ap (λ (t : List ℕ). take k text ++ t) (sym (take-append-drop (length needle) (drop k text)) ∙ ap (λ (t : List ℕ). t ++ drop (length needle) (drop k text)) same ∙ ap (λ (t : List ℕ). needle ++ t) rest)
+    sym (take-append-drop k text)
+    ∙ ap (λ (t : List ℕ). take k text ++ t)
+    (sym (take-append-drop (length needle) (drop k text)) ∙ ap (λ (t : List ℕ). t ++ drop (length needle) (drop k text)) same ∙
+    ap (λ (t : List ℕ). needle ++ t) rest)
 
 pub cut_nowhere : (needle text : List ℕ) → Nowhere (OccursAt text needle) 0 (length text + 1) → (x y : List ℕ) → text ≢ x ++ (needle ++ y)
 cut_nowhere needle text h x y e =

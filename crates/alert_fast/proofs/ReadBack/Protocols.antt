@@ -1,5 +1,7 @@
 -- Protocols and ends in a line, and bytes that aren't in them.
-use Rattle.std.proofs.Common.{◌≡◌, ◌≢◌, ℕ, zero, suc, ◌+◌, ◌*◌, ◌/◌, ◌%◌, ◌^◌, ◌<◌, ◌≤◌, Bool, true, false, not, ◌&&◌, eqb, List, [], ◌∷◌, ◌++◌, Option, Some, None, length, get_or, refl, sym, ap, ◌∙◌, inl, inr, arith, All, codes, decimal, true≢false, eq-eqb, ne_eqb}
+use Rattle.std.proofs.Common.{◌≡◌, ◌≢◌, ℕ, zero, suc, ◌+◌, ◌*◌, ◌/◌, ◌%◌, ◌^◌, ◌<◌, ◌≤◌, Bool, true, false, not, ◌&&◌, eqb, List}
+use Rattle.std.proofs.Common.{[], ◌∷◌, ◌++◌, Option, Some, None, length, get_or, refl, sym, ap, ◌∙◌, inl, inr, arith, All, codes}
+use Rattle.std.proofs.Common.{decimal, true≢false, eq-eqb, ne_eqb}
 use Rattle.std.specs.Prelude.{⊤}
 use Rattle.std.proofs.lemmas.Bool.{cases_eq}
 use Rattle.std.proofs.lemmas.Bool.Decides.{nat_tests}
@@ -78,7 +80,10 @@ free_protocol byte h n small =
         | inl udp ↦ rw udp (lacks_test byte (codes "UDP") h.udp)
         | inr no_udp ↦ elim (cases_eq n 1) [
           | inl icmp ↦ rw icmp (lacks_test byte (codes "ICMP") h.icmp)
-          | inr no_icmp ↦ rw (ne_eqb n 6 no_tcp, ne_eqb n 17 no_udp, ne_eqb n 1 no_icmp) (lacks-append byte (codes "PROTO:") (digits 3 n) (lacks_test byte (codes "PROTO:") h.proto) (lacks_digits byte h.no_digit 3 n))
+          | inr no_icmp ↦
+              rw (ne_eqb n 6 no_tcp, ne_eqb n 17 no_udp, ne_eqb n 1 no_icmp)
+              (lacks-append byte (codes "PROTO:") (digits 3 n) (lacks_test byte (codes "PROTO:") h.proto)
+              (lacks_digits byte h.no_digit 3 n))
         ]
       ]
     ]
@@ -134,10 +139,25 @@ free_end byte h a None fits none = lacks-append byte (address_text a) [] (free_a
 free_end byte h a (Some p) fits small = lacks-append byte (address_text a) (58 ∷ decimal p) (free_address byte h a fits) (h.no_colon, free_number byte h.no_digit p (omega (arith, small)))
 
 pub blank_is_outside : IsOutside 32
-blank_is_outside = record { no_digit = refl; no_dot = λ e. absurd (omega (arith, e)); no_colon = λ e. absurd (omega (arith, e)); no_hex = λ c h e. elim h [ inl r ↦ omega (arith, r.0, e) | inr r ↦ omega (arith, r.0, e) ] }
+blank_is_outside = record {
+  no_digit = refl;
+  no_dot = λ e. absurd (omega (arith, e));
+  no_colon = λ e. absurd (omega (arith, e));
+  no_hex = λ c h e. elim h [ inl r ↦ omega (arith, r.0, e) | inr r ↦ omega (arith, r.0, e) ];
+}
 
 pub feed_is_outside : IsOutside 10
-feed_is_outside = record { no_digit = refl; no_dot = λ e. absurd (omega (arith, e)); no_colon = λ e. absurd (omega (arith, e)); no_hex = λ c h e. elim h [ inl r ↦ omega (arith, r.0, e) | inr r ↦ omega (arith, r.0, e) ] }
+feed_is_outside = record {
+  no_digit = refl;
+  no_dot = λ e. absurd (omega (arith, e));
+  no_colon = λ e. absurd (omega (arith, e));
+  no_hex = λ c h e. elim h [ inl r ↦ omega (arith, r.0, e) | inr r ↦ omega (arith, r.0, e) ];
+}
 
 pub bracket_is_outside : IsOutside 91
-bracket_is_outside = record { no_digit = refl; no_dot = λ e. absurd (omega (arith, e)); no_colon = λ e. absurd (omega (arith, e)); no_hex = λ c h e. elim h [ inl r ↦ omega (arith, r.1, e) | inr r ↦ omega (arith, r.0, e) ] }
+bracket_is_outside = record {
+  no_digit = refl;
+  no_dot = λ e. absurd (omega (arith, e));
+  no_colon = λ e. absurd (omega (arith, e));
+  no_hex = λ c h e. elim h [ inl r ↦ omega (arith, r.1, e) | inr r ↦ omega (arith, r.0, e) ];
+}

@@ -83,7 +83,9 @@ loading-stopped A host name before (stopped.Asks file output) answer vars out st
       ends = (
         output,
         read_files-is (first_files (length out.files) stops.seen) name before
-            ∙ stops.asks (first_files (length out.files) stops.seen) (same-first (length out.files) (length output.files) stops.seen count) (none-after (length out.files) (length output.files) stops.seen file count),
+            ∙ stops.asks (first_files (length out.files) stops.seen)
+            (same-first (length out.files) (length output.files) stops.seen count)
+            (none-after (length out.files) (length output.files) stops.seen file count),
         hands.1,
       );
     })

@@ -199,7 +199,9 @@ lines-end host low high left source a (line ∷ lines) read ends x = absurd (nev
     never e = omega arith
 
 -- where no include may nest, what was read is all
-pub inner-none : (host : Option Files) (left : ℕ) (name : List ℕ) (at : At) (read : Read) → left ≡ 0 → Goes host (file_count read) (file_count read) (λ contents. inner contents left name at read) (whole_next read)
+pub inner-none : (host : Option Files) (left : ℕ) (name : List ℕ) (at : At) (read : Read)
+    → left ≡ 0
+    → Goes host (file_count read) (file_count read) (λ contents. inner contents left name at read) (whole_next read)
 inner-none host left name at read none =
     goes-from host (file_count read) (file_count read) (λ contents. inner contents left name at read) (whole_next read) (whole_next read)
     (λ contents. ap (λ n. inner contents n name at read) none) (goes-refl host (file_count read) (whole_next read))
@@ -214,6 +216,10 @@ inner-some host left name at read result some x =
     (λ contents. ap (λ n. inner contents n name at read) more) x
 
 -- a cause that came later, of an answer
-pub if_err-since : (first second : Type 0) (host now : Option Files) (result : Result Read Stopped) → (second → first) → now ≡ host → IfErr result (HasCause second now) → IfErr result (HasCause first host)
+pub if_err-since : (first second : Type 0) (host now : Option Files) (result : Result Read Stopped)
+    → (second → first)
+    → now ≡ host
+    → IfErr result (HasCause second now)
+    → IfErr result (HasCause first host)
 if_err-since first second host now (Ok read) since same cause = tt
 if_err-since first second host now (Err stop) since same cause = cause-since first second host now stop since same cause

@@ -15,7 +15,9 @@ use Rattle.conf_parser.specs.declared.reading.Read.{Read}
 use Rattle.conf_parser.specs.declared.reading.Source.{Source}
 use Rattle.conf_parser.specs.Spots.{Spot}
 use Rattle.conf_parser.specs.ConfLine.{conf_line}
-use Rattle.conf_parser.specs.Reading.{Contents, Ended, Whole, Refused, Asks, Including, onward, file_count, with_file, with_rule, with_warning, read_with, line_at, given_read, meaning_read, line_read, lines_read, too_large, most_bytes, contents_read, file_read, nothing_read, read_files}
+use Rattle.conf_parser.specs.Reading.{Contents, Ended, Whole, Refused, Asks, Including, onward, file_count, with_file, with_rule}
+use Rattle.conf_parser.specs.Reading.{with_warning, read_with, line_at, given_read, meaning_read, line_read, lines_read}
+use Rattle.conf_parser.specs.Reading.{too_large, most_bytes, contents_read, file_read, nothing_read, read_files}
 
 module _ (P : Settings → Type 0) where
   -- the property of what was read, where all of it was
@@ -37,13 +39,19 @@ module _ (P : Settings → Type 0) where
   onward-keeps (Refused fault output) next p all = tt
   onward-keeps (Asks name output) next p all = tt
 
-  given-keeps : (including : Including) (source : Source) (line : Numbered) (settings : Settings) (output : Output) (given : Given) → IncludesKeep including → P settings → Onward-all (given_read including source line settings output given)
+  given-keeps : (including : Including) (source : Source) (line : Numbered) (settings : Settings) (output : Output)
+      (given : Given)
+      → IncludesKeep including
+      → P settings
+      → Onward-all (given_read including source line settings output given)
   given-keeps including source line settings output Nothing inner p = p
   given-keeps including source line settings output Rule inner p = p
   given-keeps including source line settings output (Skipped directive name) inner p = p
   given-keeps including source line settings output (Include name) inner p = inner name (line_at source line) (read_with settings output) p
 
-  meaning-keeps : (including : Including) (source : Source) (line : Numbered) (output : Output) (meant : Result Onward ConfKind) → IncludesKeep including → ((after : Onward) → meant ≡ Ok after → P after.settings)
+  meaning-keeps : (including : Including) (source : Source) (line : Numbered) (output : Output) (meant : Result Onward ConfKind)
+      → IncludesKeep including
+      → ((after : Onward) → meant ≡ Ok after → P after.settings)
       → Onward-all (meaning_read including source line output meant)
   meaning-keeps including source line output (Ok after) inner all = given-keeps including source line after.settings output after.given inner (all after refl)
   meaning-keeps including source line output (Err kind) inner all = tt
@@ -54,7 +62,11 @@ module _ (P : Settings → Type 0) where
       meaning-keeps including source line read.output _ inner
       (λ after meant. keeps (record { file = source.name; depth = source.depth; files = file_count read }) read.settings line.text after meant p)
 
-  lines-keep : LinesKeep → (including : Including) (source : Source) (lines : List Numbered) (read : Read) → IncludesKeep including → P read.settings → Onward-all (lines_read including source lines read)
+  lines-keep : LinesKeep
+      → (including : Including) (source : Source) (lines : List Numbered) (read : Read)
+      → IncludesKeep including
+      → P read.settings
+      → Onward-all (lines_read including source lines read)
   unfolding lines_read
   lines-keep keeps including source [] read inner p = p
   lines-keep keeps including source (line ∷ rest) read inner p =
@@ -82,5 +94,9 @@ module _ (P : Settings → Type 0) where
   reading-keeps keeps contents name variables p = file-keeps keeps contents 16 name (record { file = 0; line = 0 }) (nothing_read variables) p
 
   -- what each line keeps holds after a reading that was whole
-  pub whole-keeps : LinesKeep → (contents : Contents) (name : List ℕ) (variables : Variables) (read : Read) → P (nothing_read variables).settings → read_files contents name variables ≡ Whole read → P read.settings
+  pub whole-keeps : LinesKeep
+      → (contents : Contents) (name : List ℕ) (variables : Variables) (read : Read)
+      → P (nothing_read variables).settings
+      → read_files contents name variables ≡ Whole read
+      → P read.settings
   whole-keeps keeps contents name variables read p whole = subst Onward-all whole (reading-keeps keeps contents name variables p)

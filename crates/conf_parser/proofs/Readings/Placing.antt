@@ -1,5 +1,6 @@
 -- Each line that a reading hands on is in a file that was read.
-use Rattle.std.proofs.Common.{◌≡◌, ℕ, zero, suc, ◌+◌, ◌-◌, ◌<◌, ◌≤◌, Bool, true, false, cond, List, [], ◌∷◌, ◌++◌, length, Option, Some, None, Result, Ok, Err, refl, sym, ap, subst, ◌∙◌, inl, inr, arith, length-append}
+use Rattle.std.proofs.Common.{◌≡◌, ℕ, zero, suc, ◌+◌, ◌-◌, ◌<◌, ◌≤◌, Bool, true, false, cond, List, [], ◌∷◌, ◌++◌, length, Option}
+use Rattle.std.proofs.Common.{Some, None, Result, Ok, Err, refl, sym, ap, subst, ◌∙◌, inl, inr, arith, length-append}
 use Rattle.std.specs.Prelude.{⊤, ◌⊎◌, nat_le, All}
 use Rattle.std.proofs.lemmas.List.Elements.{All-append}
 use Rattle.std.proofs.lemmas.Bool.Decides.{nat_tests}
@@ -23,7 +24,9 @@ use Rattle.conf_parser.specs.declared.reading.Read.{Read}
 use Rattle.conf_parser.specs.declared.reading.Source.{Source}
 use Rattle.conf_parser.specs.ConfLine.{conf_line}
 use Rattle.conf_parser.specs.Lines.{content_lines}
-use Rattle.conf_parser.specs.Reading.{Contents, Ended, Whole, Refused, Asks, Including, onward, file_count, with_file, with_rule, with_warning, read_with, line_at, given_read, meaning_read, line_read, lines_read, too_large, most_bytes, contents_read, file_read, nothing_read, read_files}
+use Rattle.conf_parser.specs.Reading.{Contents, Ended, Whole, Refused, Asks, Including, onward, file_count, with_file, with_rule}
+use Rattle.conf_parser.specs.Reading.{with_warning, read_with, line_at, given_read, meaning_read, line_read, lines_read}
+use Rattle.conf_parser.specs.Reading.{too_large, most_bytes, contents_read, file_read, nothing_read, read_files}
 use Rattle.conf_parser.specs.Loaded.{loaded_of}
 use Rattle.conf_parser.specs.Loading.{AreHandedOut, IsLoading, first_files}
 use Rattle.conf_parser.specs.Places.{WarningsAreIn, RulesAreIn, LieInFiles}
@@ -60,7 +63,10 @@ with_rule-in output source line place h = record {
   warnings = h.warnings;
 }
 
-with_warning-in : (output : Output) (source : Source) (line : Numbered) (directive name : List ℕ) → source.place < length output.files → AreIn output → AreIn (with_warning output source line directive name)
+with_warning-in : (output : Output) (source : Source) (line : Numbered) (directive name : List ℕ)
+    → source.place < length output.files
+    → AreIn output
+    → AreIn (with_warning output source line directive name)
 with_warning-in output source line directive name place h = record {
   rules = h.rules;
   warnings = All-append (λ (warning : Warning). warning.file < length output.files) output.warnings _ h.warnings (all_one (λ (warning : Warning). warning.file < length output.files) _ place);
@@ -92,7 +98,10 @@ ends-earlier low high (Whole read) l h = (omega (arith, h.0), h.1)
 ends-earlier low high (Refused fault output) l h = h
 ends-earlier low high (Asks name output) l h = h
 
-given-in : (including : Including) (source : Source) (line : Numbered) (settings : Settings) (output : Output) (given : Given) → IncludesIn including → source.place < length output.files → AreIn output
+given-in : (including : Including) (source : Source) (line : Numbered) (settings : Settings) (output : Output) (given : Given)
+    → IncludesIn including
+    → source.place < length output.files
+    → AreIn output
     → EndsIn (length output.files) (given_read including source line settings output given)
 unfolding EndsIn IncludesIn IsPlaced
 given-in including source line settings output Nothing inner place h = (omega arith, h)
@@ -106,11 +115,19 @@ unfolding EndsIn
 meaning-in including source line output (Ok after) inner place h = given-in including source line after.settings output after.given inner place h
 meaning-in including source line output (Err kind) inner place h = (place, h)
 
-line-in : (including : Including) (source : Source) (line : Numbered) (read : Read) → IncludesIn including → source.place < file_count read → AreIn read.output → EndsIn (file_count read) (line_read including source line read)
+line-in : (including : Including) (source : Source) (line : Numbered) (read : Read)
+    → IncludesIn including
+    → source.place < file_count read
+    → AreIn read.output
+    → EndsIn (file_count read) (line_read including source line read)
 unfolding line_read
 line-in including source line read inner place h = meaning-in including source line read.output _ inner place h
 
-lines-in : (including : Including) (source : Source) (lines : List Numbered) (read : Read) → IncludesIn including → source.place < file_count read → AreIn read.output → EndsIn (file_count read) (lines_read including source lines read)
+lines-in : (including : Including) (source : Source) (lines : List Numbered) (read : Read)
+    → IncludesIn including
+    → source.place < file_count read
+    → AreIn read.output
+    → EndsIn (file_count read) (lines_read including source lines read)
 unfolding lines_read EndsIn
 lines-in including source [] read inner place h = (omega arith, h)
 lines-in including source (line ∷ rest) read inner place h =
@@ -137,7 +154,10 @@ contents-in including depth name at read (Some bytes) inner placed h =
     let more : file_count read < length (read.output.files ++ name ∷ []) = more_files read.output.files name in
     go (nat_le (length bytes) most_bytes) _
     (ends-earlier (file_count read) (length (read.output.files ++ name ∷ [])) _ (omega (arith, more))
-    (lines-in including (record { name = name; place = file_count read; depth = depth }) (content_lines bytes) (read_with read.settings (with_file read.output name)) inner more (with_file-in read.output name h)))
+    (lines-in including (record { name = name; place = file_count read; depth = depth })
+    (content_lines bytes)
+    (read_with read.settings (with_file read.output name)) inner more
+    (with_file-in read.output name h)))
   where
     go : (b : Bool) (ended : Ended) → EndsIn (file_count read) ended → EndsIn (file_count read) (cond b ended (too_large at name read.output))
     go true ended e = e
@@ -145,7 +165,9 @@ contents-in including depth name at read (Some bytes) inner placed h =
 
 file-in : (contents : Contents) (left : ℕ) → IncludesIn (file_read contents left)
 unfolding file_read IncludesIn EndsIn
-file-in contents zero = λ name at read placed h. contents-in (λ inner place before. Whole before) 16 name at read (contents (file_count read) name) (λ inner place before p g. (omega arith, g)) placed h
+file-in contents zero = λ name at read placed h.
+    contents-in (λ inner place before. Whole before) 16 name at read (contents (file_count read) name)
+    (λ inner place before p g. (omega arith, g)) placed h
 file-in contents (suc left) = λ name at read placed h. contents-in (file_read contents left) (15 - left) name at read (contents (file_count read) name) (file-in contents left) placed h
 
 nothing-in : (variables : Variables) → AreIn (nothing_read variables).output
@@ -167,7 +189,10 @@ warnings-out output out h hands =
     subst (λ (files : List (List ℕ)). WarningsAreIn (length files) out.warnings) (sym hands.files)
     (subst (λ (warnings : List Warning). WarningsAreIn (length output.files) warnings) (sym hands.warnings) h.warnings)
 
-pub hold-in : {A : Type 0} (host : Option Files) (name : List ℕ) (before : Variables) (result : Result A LoadStop) (vars : Variables) (out : Loaded) → IsLoading host name before result vars out → LieInFiles result out
+pub hold-in : {A : Type 0} (host : Option Files) (name : List ℕ) (before : Variables) (result : Result A LoadStop)
+    (vars : Variables) (out : Loaded)
+    → IsLoading host name before result vars out
+    → LieInFiles result out
 unfolding EndsIn
 hold-in host name before (Ok x) vars out loading =
     let h = subst (EndsIn 0) loading.ends.whole (reading-in loading.seen name before) in

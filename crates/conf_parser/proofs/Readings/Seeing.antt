@@ -27,8 +27,11 @@ seen_cause rose old new left agrees left_of (stopped.Refused fault output) seen 
 seen_cause rose old new left agrees left_of stopped.NoMemory seen law same may cause = tt
 
 -- the cause of a stop at a file
-pub fault_cause : (rose : Type 0) (host : Option Files) (name : List ℕ) (at : At) (output : Output) (fault : LoadFault) (stop : Stopped) → (unloaded fault ≡ unloaded load.Failed → rose ⊎ Lacks host name)
-    → StopsAtFile name at output fault stop → HasCause rose host stop
+pub fault_cause : (rose : Type 0) (host : Option Files) (name : List ℕ) (at : At) (output : Output) (fault : LoadFault)
+    (stop : Stopped)
+    → (unloaded fault ≡ unloaded load.Failed → rose ⊎ Lacks host name)
+    → StopsAtFile name at output fault stop
+    → HasCause rose host stop
 fault_cause rose host name at output load.Failed stop failed is = subst (HasCause rose host) (sym is) (failed refl)
 fault_cause rose host name at output load.NoMemory stop failed is = subst (HasCause rose host) (sym is) tt
 fault_cause rose host name at output load.TooLarge stopped.NoMemory failed is = tt

@@ -18,7 +18,9 @@ use Rattle.conf_types.specs.declared.filter.Suppress.{Suppress}
 use Rattle.conf_parser.specs.declared.line.ConfKind.TheVariants.{BadValue, Limit}
 use Rattle.conf_types.specs.Classes.{class_place}
 use Rattle.conf_parser.specs.Config.{class_of, with_class, classification, queue_setting, event_queue}
-use Rattle.conf_parser.specs.Events.{filter_name, once, filter_value, filter_part, no_parts, filter_of, has_filter, with_filter, read_filter, event_filter, with_suppress, read_suppress, suppress, is_source, names_rule_alone}
+use Rattle.conf_parser.specs.Events.{filter_name, once, filter_value, filter_part, no_parts, filter_of, has_filter, with_filter}
+use Rattle.conf_parser.specs.Events.{read_filter, event_filter, with_suppress, read_suppress, suppress, is_source}
+use Rattle.conf_parser.specs.Events.{names_rule_alone}
 use Rattle.conf_types.specs.Sound.{IsWithin, IsClass, IsFilter, AreQueueLimits}
 use Rattle.conf_parser.specs.Values.{or_kind, is_empty}
 use Rattle.conf_parser.proofs.Sound.Steps.{Holds, Any, anything, given, refused, choice, unless, free, kinded, chained, changed, folded, ranged, numbered, set, pushed-few}
@@ -82,15 +84,23 @@ record IsFilterDraft (draft : FilterDraft) : Type 0 where
   seconds : IfSome draft.seconds (IsWithin 1 4294967295)
 
 once-within : (old : Option ℕ) (least most : ℕ) (value : List ℕ) → Holds (IsWithin least most) (once old (number_in least most value))
-once-within old least most value = choice (IsWithin least most) (is_some old) (Err BadValue) (or_kind BadValue (number_in least most value)) (refused (IsWithin least most) BadValue) (ranged BadValue least most value)
+once-within old least most value =
+    choice (IsWithin least most) (is_some old) (Err BadValue) (or_kind BadValue (number_in least most value))
+    (refused (IsWithin least most) BadValue) (ranged BadValue least most value)
 
 filter_value-sound : (draft : FilterDraft) (name : FilterName) (value : List ℕ) → IsFilterDraft draft → Holds IsFilterDraft (filter_value draft name value)
 filter_value-sound draft name.GenId value sound = search (free, sound)
 filter_value-sound draft name.SigId value sound = search (free, sound)
 filter_value-sound draft name.Type value sound = search (free, sound)
 filter_value-sound draft name.Track value sound = search (free, sound)
-filter_value-sound draft name.Count value sound = changed (IsWithin 1 4294967295) IsFilterDraft _ (once draft.count (number_in 1 4294967295 value)) (once-within draft.count 1 4294967295 value) (λ n within. record { count = within; seconds = sound.seconds })
-filter_value-sound draft name.Seconds value sound = changed (IsWithin 1 4294967295) IsFilterDraft _ (once draft.seconds (number_in 1 4294967295 value)) (once-within draft.seconds 1 4294967295 value) (λ n within. record { count = sound.count; seconds = within })
+filter_value-sound draft name.Count value sound =
+    changed (IsWithin 1 4294967295) IsFilterDraft _ (once draft.count (number_in 1 4294967295 value))
+    (once-within draft.count 1 4294967295 value)
+    (λ n within. record { count = within; seconds = sound.seconds })
+filter_value-sound draft name.Seconds value sound =
+    changed (IsWithin 1 4294967295) IsFilterDraft _ (once draft.seconds (number_in 1 4294967295 value))
+    (once-within draft.seconds 1 4294967295 value)
+    (λ n within. record { count = sound.count; seconds = within })
 
 filter_part-sound : (draft : FilterDraft) (part : List ℕ) → IsFilterDraft draft → Holds IsFilterDraft (filter_part draft part)
 unfolding filter_part
@@ -103,14 +113,25 @@ filter_of-sound draft sound =
     chained Any IsFilter (or_kind BadValue draft.sid) _ (anything _) (λ sid any.
     chained Any IsFilter (or_kind BadValue draft.kind) _ (anything _) (λ kind any.
     chained Any IsFilter (or_kind BadValue draft.track) _ (anything _) (λ track any.
-    chained (IsWithin 1 4294967295) IsFilter (or_kind BadValue draft.count) _ (kinded (IsWithin 1 4294967295) BadValue draft.count sound.count) (λ count counted.
-    chained (IsWithin 1 4294967295) IsFilter (or_kind BadValue draft.seconds) _ (kinded (IsWithin 1 4294967295) BadValue draft.seconds sound.seconds) (λ seconds timed.
-    choice IsFilter (not (names_rule_alone gid sid)) (Ok (record { gid = gid; sid = sid; kind = kind; by_src = is_source track; count = count; seconds = seconds })) (Err BadValue)
-    (given IsFilter (record { gid = gid; sid = sid; kind = kind; by_src = is_source track; count = count; seconds = seconds }) (record { count = counted; seconds = timed })) (refused IsFilter BadValue)))))))
+    chained (IsWithin 1 4294967295) IsFilter (or_kind BadValue draft.count) _
+    (kinded (IsWithin 1 4294967295) BadValue draft.count sound.count)
+    (λ count counted.
+    chained (IsWithin 1 4294967295) IsFilter (or_kind BadValue draft.seconds) _
+    (kinded (IsWithin 1 4294967295) BadValue draft.seconds sound.seconds)
+    (λ seconds timed.
+    choice IsFilter (not (names_rule_alone gid sid))
+    (Ok (record { gid = gid; sid = sid; kind = kind; by_src = is_source track; count = count; seconds = seconds }))
+    (Err BadValue)
+    (given IsFilter (record { gid = gid; sid = sid; kind = kind; by_src = is_source track; count = count; seconds = seconds })
+    (record { count = counted; seconds = timed }))
+    (refused IsFilter BadValue)))))))
 
 read_filter-sound : (rest : List ℕ) → Holds IsFilter (read_filter rest)
 unfolding read_filter
-read_filter-sound rest = chained IsFilterDraft IsFilter (draft_after filter_part no_parts (comma_parts rest)) filter_of (folded IsFilterDraft filter_part filter_part-sound no_parts (comma_parts rest) (record { count = tt; seconds = tt })) filter_of-sound
+read_filter-sound rest =
+    chained IsFilterDraft IsFilter (draft_after filter_part no_parts (comma_parts rest)) filter_of
+    (folded IsFilterDraft filter_part filter_part-sound no_parts (comma_parts rest) (record { count = tt; seconds = tt }))
+    filter_of-sound
 
 -- the event filters read so far
 pub record AreFilters (list : List EventFilter) : Type 0 where

@@ -45,7 +45,9 @@ module _ (variables : Variables) where
   with_engine-sound : (draft : FragDraft) (engine : FragEngine) → IsFragDraft draft → IsFragEngine engine → Holds IsFragDraft (with_engine draft engine)
   unfolding with_engine
   with_engine-sound draft engine sound one =
-      let kept : nat_le 1024 (length draft.engines) ≡ false → Holds IsFragDraft (Ok (record draft { engines = draft.engines ++ engine ∷ [] })) = λ few. given IsFragDraft (record draft { engines = draft.engines ++ engine ∷ [] }) (record {
+      let kept : nat_le 1024 (length draft.engines) ≡ false
+      → Holds IsFragDraft (Ok (record draft { engines = draft.engines ++ engine ∷ [] })) =
+      λ few. given IsFragDraft (record draft { engines = draft.engines ++ engine ∷ [] }) (record {
         max_frags = sound.max_frags;
         count = pushed-few draft.engines engine few;
         engines = All-push IsFragEngine draft.engines engine sound.engines one;
@@ -69,7 +71,11 @@ max_frags-within None within = (omega arith, omega arith)
 max_frags-within (Some frags) within = within
 
 -- after the last line
-frag_with : (frags : Option ℕ) (engines : List FragEngine) → IfSome frags (IsWithin 1 1048576) → length engines ≤ 1024 → All IsFragEngine engines → IfSome (frag_of (record { max_frags = frags; engines = engines })) IsFragConfig
+frag_with : (frags : Option ℕ) (engines : List FragEngine)
+    → IfSome frags (IsWithin 1 1048576)
+    → length engines ≤ 1024
+    → All IsFragEngine engines
+    → IfSome (frag_of (record { max_frags = frags; engines = engines })) IsFragConfig
 unfolding frag_of
 frag_with frags [] within count sound = tt
 frag_with frags (engine ∷ rest) within count sound = record { max_frags = max_frags-within frags within; count = (omega arith, count); engines = sound }

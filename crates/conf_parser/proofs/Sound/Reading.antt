@@ -35,6 +35,9 @@ whole-sound contents name before vars out whole =
     subst IsSound (sym (ap (λ (o : Loaded). o.config) whole.out_is)) (read_files-sound contents name before whole.read whole.whole)
 
 -- what a loading hands out
-pub loading-sound : {A : Type 0} (host : Option Files) (name : List ℕ) (before : Variables) (result : Result A LoadStop) (vars : Variables) (out : Loaded) → IsLoading host name before result vars out → OnOk result (IsSound out.config)
+pub loading-sound : {A : Type 0} (host : Option Files) (name : List ℕ) (before : Variables) (result : Result A LoadStop)
+    (vars : Variables) (out : Loaded)
+    → IsLoading host name before result vars out
+    → OnOk result (IsSound out.config)
 loading-sound host name before (Ok x) vars out loading = whole-sound loading.seen name before vars out loading.ends
 loading-sound host name before (Err stop) vars out loading = tt

@@ -43,7 +43,11 @@ chained P Q (Ok x) next p q = q x p.holds
 chained P Q (Err kind) next p q = record { holds = tt }
 
 -- a fold over parts keeps what each part keeps
-pub folded : {A X : Type 0} (P : A → Type 0) (step : A → X → Result A ConfKind) → ((d : A) (part : X) → P d → Holds P (step d part)) → (d : A) (parts : List X) → P d → Holds P (draft_after step d parts)
+pub folded : {A X : Type 0} (P : A → Type 0) (step : A → X → Result A ConfKind)
+    → ((d : A) (part : X) → P d → Holds P (step d part))
+    → (d : A) (parts : List X)
+    → P d
+    → Holds P (draft_after step d parts)
 unfolding draft_after
 folded P step keeps d [] p = record { holds = p }
 folded P step keeps d (part ∷ parts) p = chained P P (step d part) (λ next. draft_after step next parts) (keeps d part p) (λ next q. folded P step keeps next parts q)
@@ -91,11 +95,17 @@ pub ranged : (kind : ConfKind) (least most : ℕ) (text : List ℕ) → Holds (I
 ranged kind least most text = kinded (IsWithin least most) kind (number_in least most text) (number-within least most text)
 
 -- a number within a range, changed
-pub numbered : {B : Type 0} (Q : B → Type 0) (f : ℕ → B) (kind : ConfKind) (least most : ℕ) (text : List ℕ) → ((n : ℕ) → IsWithin least most n → Q (f n)) → Holds Q (mapped f (or_kind kind (number_in least most text)))
+pub numbered : {B : Type 0} (Q : B → Type 0) (f : ℕ → B) (kind : ConfKind) (least most : ℕ) (text : List ℕ)
+    → ((n : ℕ) → IsWithin least most n → Q (f n))
+    → Holds Q (mapped f (or_kind kind (number_in least most text)))
 numbered Q f kind least most text q = changed (IsWithin least most) Q f (or_kind kind (number_in least most text)) (ranged kind least most text) q
 
 -- the settings of a text keep what each setting keeps
-pub set : {A : Type 0} (P : A → Type 0) (alone : List ℕ → Bool) (step : A → List ℕ → Option (List ℕ) → Result A ConfKind) → ((d : A) (name : List ℕ) (value : Option (List ℕ)) → P d → Holds P (step d name value)) → (d : A) (text : List ℕ) → P d → Holds P (settings_after alone step d text)
+pub set : {A : Type 0} (P : A → Type 0) (alone : List ℕ → Bool) (step : A → List ℕ → Option (List ℕ) → Result A ConfKind)
+    → ((d : A) (name : List ℕ) (value : Option (List ℕ)) → P d → Holds P (step d name value))
+    → (d : A) (text : List ℕ)
+    → P d
+    → Holds P (settings_after alone step d text)
 set P alone step keeps d text p = folded P (λ e s. step e s.name s.value) (λ e s q. keeps e s.name s.value q) d (paired alone (settings text)) p
 
 -- ---- counts

@@ -26,7 +26,11 @@ use Rattle.conf_parser.specs.declared.stream5.TcpName.TheVariants as tcp
 use Rattle.conf_parser.specs.Settings.{stream_of, default_global}
 use Rattle.conf_types.specs.Sound.{IsWithin, IsStreamEngine, IsStreamConfig}
 use Rattle.conf_types.specs.Defaults.{default_stream_engine}
-use Rattle.conf_parser.specs.Stream5.{complete, lacking, onward, whole, stream_parts, global_name, global_value, wants_value, named_global, global_part, global_values, with_global, stream5_global, udp_part, udp_timeout, with_udp, stream5_udp, tcp_name, limit_from, queue_limit, handshake_seconds, side, port_words, with_ports, ports_value, engine_value, tcp_value, lacks_value, named_tcp, tcp_part, first_tcp, engine_of, tcp_settings, with_engine, stream5_tcp}
+use Rattle.conf_parser.specs.Stream5.{complete, lacking, onward, whole, stream_parts, global_name, global_value, wants_value}
+use Rattle.conf_parser.specs.Stream5.{named_global, global_part, global_values, with_global, stream5_global, udp_part}
+use Rattle.conf_parser.specs.Stream5.{udp_timeout, with_udp, stream5_udp, tcp_name, limit_from, queue_limit, handshake_seconds}
+use Rattle.conf_parser.specs.Stream5.{side, port_words, with_ports, ports_value, engine_value, tcp_value, lacks_value, named_tcp}
+use Rattle.conf_parser.specs.Stream5.{tcp_part, first_tcp, engine_of, tcp_settings, with_engine, stream5_tcp}
 use Rattle.conf_parser.specs.Values.{◌>>=◌, or_kind, mapped, is_empty, is_word, setting_text}
 use Rattle.conf_parser.proofs.Sound.Steps.{Holds, Any, anything, given, refused, choice, unless, same, free, kinded, chained, changed, folded, ranged, numbered, number-within, pushed-few}
 
@@ -58,7 +62,12 @@ module _ {D : Type 0} (P : D → Type 0) where
   whole-sound partial p = choice P partial.lacks (Err BadValue) (Ok partial.draft) (refused P BadValue) (given P partial.draft p)
 
   -- all settings of a text
-  pub parts-sound : (step : Partial D → List ℕ → Result (Partial D) ConfKind) → ((partial : Partial D) (part : List ℕ) → P partial.draft → Holds Part (step partial part)) → (first : D) → P first → (parts : List (List ℕ)) → Holds P (draft_after step (complete first) parts >>= whole)
+  pub parts-sound : (step : Partial D → List ℕ → Result (Partial D) ConfKind)
+      → ((partial : Partial D) (part : List ℕ) → P partial.draft → Holds Part (step partial part))
+      → (first : D)
+      → P first
+      → (parts : List (List ℕ))
+      → Holds P (draft_after step (complete first) parts >>= whole)
   parts-sound step keeps first p parts = chained Part P (draft_after step (complete first) parts) whole (folded Part step keeps (complete first) parts p) whole-sound
 
 -- ---- stream5_global
@@ -79,7 +88,10 @@ named_global-sound partial name value sound =
 
 global_part-sound : (partial : Partial StreamGlobal) (part : List ℕ) → IsStreamGlobal partial.draft → Holds (Part IsStreamGlobal) (global_part partial part)
 unfolding global_part
-global_part-sound partial part sound = chained Any (Part IsStreamGlobal) (or_kind BadValue (global_name (first_word part))) _ (anything _) (λ name any. named_global-sound partial name (after_word part) sound)
+global_part-sound partial part sound =
+    chained Any (Part IsStreamGlobal) (or_kind BadValue (global_name (first_word part))) _
+    (anything _)
+    (λ name any. named_global-sound partial name (after_word part) sound)
 
 default-sound : IsStreamGlobal default_global
 default-sound = record { max_tcp = (omega arith, omega arith); max_udp = (omega arith, omega arith) }
@@ -132,7 +144,9 @@ then-within P Q (Some n) next p q = q n p
 
 queue_limit-within : (least : ℕ) → least ≤ 1073741824 → (value : List ℕ) → IfSome (queue_limit least value) (IsWithin least 1073741824)
 unfolding queue_limit
-queue_limit-within least fits value = then-within (IsWithin 0 1073741824) (IsWithin least 1073741824) (number_in 0 1073741824 value) (limit_from least) (number-within 0 1073741824 value) (limit-within least fits)
+queue_limit-within least fits value =
+    then-within (IsWithin 0 1073741824) (IsWithin least 1073741824) (number_in 0 1073741824 value) (limit_from least)
+    (number-within 0 1073741824 value) (limit-within least fits)
 
 handshake-within : (value : List ℕ) → IfSome (handshake_seconds value) (IsWithin 0 86400)
 unfolding handshake_seconds
@@ -146,9 +160,21 @@ module _ (variables : Variables) where
   engine_value-sound engine tcp.Policy value sound = search (free, sound)
   engine_value-sound engine tcp.Timeout value sound = search (numbered, sound)
   engine_value-sound engine tcp.BindTo value sound = search (free, sound)
-  engine_value-sound engine tcp.Handshake value sound = changed (IsWithin 0 86400) IsStreamEngine _ (or_kind BadValue (handshake_seconds value)) (kinded (IsWithin 0 86400) BadValue (handshake_seconds value) (handshake-within value)) (λ n within. record { timeout = sound.timeout; handshake = within; bytes_limit = sound.bytes_limit; segs_limit = sound.segs_limit })
-  engine_value-sound engine tcp.QueuedBytes value sound = changed (IsWithin 1024 1073741824) IsStreamEngine _ (or_kind BadValue (queue_limit 1024 value)) (kinded (IsWithin 1024 1073741824) BadValue (queue_limit 1024 value) (queue_limit-within 1024 (omega arith) value)) (λ n within. record { timeout = sound.timeout; handshake = sound.handshake; bytes_limit = within; segs_limit = sound.segs_limit })
-  engine_value-sound engine tcp.QueuedSegs value sound = changed (IsWithin 2 1073741824) IsStreamEngine _ (or_kind BadValue (queue_limit 2 value)) (kinded (IsWithin 2 1073741824) BadValue (queue_limit 2 value) (queue_limit-within 2 (omega arith) value)) (λ n within. record { timeout = sound.timeout; handshake = sound.handshake; bytes_limit = sound.bytes_limit; segs_limit = within })
+  engine_value-sound engine tcp.Handshake value sound =
+      changed (IsWithin 0 86400) IsStreamEngine _ (or_kind BadValue (handshake_seconds value))
+      (kinded (IsWithin 0 86400) BadValue (handshake_seconds value) (handshake-within value))
+      (λ n within.
+      record { timeout = sound.timeout; handshake = within; bytes_limit = sound.bytes_limit; segs_limit = sound.segs_limit })
+  engine_value-sound engine tcp.QueuedBytes value sound =
+      changed (IsWithin 1024 1073741824) IsStreamEngine _ (or_kind BadValue (queue_limit 1024 value))
+      (kinded (IsWithin 1024 1073741824) BadValue (queue_limit 1024 value) (queue_limit-within 1024 (omega arith) value))
+      (λ n within.
+      record { timeout = sound.timeout; handshake = sound.handshake; bytes_limit = within; segs_limit = sound.segs_limit })
+  engine_value-sound engine tcp.QueuedSegs value sound =
+      changed (IsWithin 2 1073741824) IsStreamEngine _ (or_kind BadValue (queue_limit 2 value))
+      (kinded (IsWithin 2 1073741824) BadValue (queue_limit 2 value) (queue_limit-within 2 (omega arith) value))
+      (λ n within.
+      record { timeout = sound.timeout; handshake = sound.handshake; bytes_limit = sound.bytes_limit; segs_limit = within })
   engine_value-sound engine tcp.Ports value sound = search (given, sound)
   engine_value-sound engine tcp.Unread value sound = search (given, sound)
 
@@ -168,7 +194,11 @@ module _ (variables : Variables) where
       kept Both ports = sound
 
   valued : (draft : TcpDraft) (name : TcpName) (value : List ℕ) → Tcp draft → Holds Tcp (mapped (λ engine. record draft { engine = engine }) (engine_value variables draft.engine name value))
-  valued draft name value sound = changed IsStreamEngine Tcp (λ engine. record draft { engine = engine }) (engine_value variables draft.engine name value) (engine_value-sound draft.engine name value sound) (λ engine one. one)
+  valued draft name value sound =
+      changed IsStreamEngine Tcp (λ engine. record draft { engine = engine })
+      (engine_value variables draft.engine name value)
+      (engine_value-sound draft.engine name value sound)
+      (λ engine one. one)
 
   tcp_value-sound : (draft : TcpDraft) (name : TcpName) (value : List ℕ) → Tcp draft → Holds Tcp (tcp_value variables draft name value)
   tcp_value-sound draft tcp.Ports value sound = ports_value-sound draft value sound
@@ -205,7 +235,9 @@ module _ (variables : Variables) where
   with_engine-sound : (draft : StreamDraft) (engine : StreamEngine) → IsStreamDraft draft → IsStreamEngine engine → Holds IsStreamDraft (with_engine draft engine)
   unfolding with_engine
   with_engine-sound draft engine sound one =
-      let kept : nat_le 1024 (length draft.engines) ≡ false → Holds IsStreamDraft (Ok (record draft { engines = draft.engines ++ engine ∷ [] })) = λ few. given IsStreamDraft (record draft { engines = draft.engines ++ engine ∷ [] }) (record {
+      let kept : nat_le 1024 (length draft.engines) ≡ false
+      → Holds IsStreamDraft (Ok (record draft { engines = draft.engines ++ engine ∷ [] })) =
+      λ few. given IsStreamDraft (record draft { engines = draft.engines ++ engine ∷ [] }) (record {
         global = sound.global;
         udp_timeout = sound.udp_timeout;
         count = pushed-few draft.engines engine few;

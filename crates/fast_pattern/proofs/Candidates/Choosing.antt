@@ -37,16 +37,31 @@ module _ (best : Option Sought) (options : List Opt) (place : ℕ) (option : Opt
   unfolding chosen_after
   chosen-mark sought some marked =
       at
-      ∙ ap (λ s. let all = with s (sought_from (place + 1) (drop (place + 1) options)) in or_else (find (λ sought. sought.marked) all) (longer best (longest all))) some
-      ∙ ap (λ b. or_else (cond b (Some sought) (find (λ sought. sought.marked) (sought_from (place + 1) (drop (place + 1) options)))) (longer best (longest (sought ∷ sought_from (place + 1) (drop (place + 1) options))))) marked
+      ∙ ap (λ s.
+      let all = with s (sought_from (place + 1) (drop (place + 1) options)) in
+      or_else (find (λ sought. sought.marked) all) (longer best (longest all)))
+      some
+      ∙ ap (λ b. or_else
+      (cond b (Some sought) (find (λ sought. sought.marked) (sought_from (place + 1) (drop (place + 1) options))))
+      (longer best (longest (sought ∷ sought_from (place + 1) (drop (place + 1) options))))) marked
 
-  pub chosen-on : (sought : Sought) → sought_of place option ≡ Some sought → sought.marked ≡ false → chosen_after best place (drop place options) ≡ chosen_after (longer best (Some sought)) (place + 1) (drop (place + 1) options)
+  pub chosen-on : (sought : Sought)
+      → sought_of place option ≡ Some sought
+      → sought.marked ≡ false
+      → chosen_after best place (drop place options) ≡
+      chosen_after (longer best (Some sought)) (place + 1) (drop (place + 1) options)
   unfolding chosen_after
   chosen-on sought some marked =
       at
-      ∙ ap (λ s. let all = with s (sought_from (place + 1) (drop (place + 1) options)) in or_else (find (λ sought. sought.marked) all) (longer best (longest all))) some
-      ∙ ap (λ b. or_else (cond b (Some sought) (find (λ sought. sought.marked) (sought_from (place + 1) (drop (place + 1) options)))) (longer best (longest (sought ∷ sought_from (place + 1) (drop (place + 1) options))))) marked
-      ∙ ap (or_else (find (λ sought. sought.marked) (sought_from (place + 1) (drop (place + 1) options)))) (longer-assoc best sought (longest (sought_from (place + 1) (drop (place + 1) options))))
+      ∙ ap (λ s.
+      let all = with s (sought_from (place + 1) (drop (place + 1) options)) in
+      or_else (find (λ sought. sought.marked) all) (longer best (longest all)))
+      some
+      ∙ ap (λ b. or_else
+      (cond b (Some sought) (find (λ sought. sought.marked) (sought_from (place + 1) (drop (place + 1) options))))
+      (longer best (longest (sought ∷ sought_from (place + 1) (drop (place + 1) options))))) marked
+      ∙ ap (or_else (find (λ sought. sought.marked) (sought_from (place + 1) (drop (place + 1) options))))
+      (longer-assoc best sought (longest (sought_from (place + 1) (drop (place + 1) options))))
 
 pub chosen-end : (best : Option Sought) (options : List Opt) (place : ℕ) → length options ≤ place → chosen_after best place (drop place options) ≡ best
 unfolding chosen_after

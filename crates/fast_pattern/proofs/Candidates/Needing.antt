@@ -1,5 +1,7 @@
 -- A rule that matches is a candidate, as far as its contents go.
-use Rattle.std.proofs.Common.{◌≡◌, ℕ, suc, ◌+◌, ◌<◌, ◌≤◌, Bool, true, false, cond, Option, Some, None, List, [], ◌∷◌, ◌++◌, length, take, drop, map, slice_get, slice_index, IfSome, sym, refl, ap, ◌∙◌, arith, append_assoc, take-append-drop}
+use Rattle.std.proofs.Common.{◌≡◌, ℕ, suc, ◌+◌, ◌<◌, ◌≤◌, Bool, true, false, cond, Option, Some, None, List, [], ◌∷◌, ◌++◌}
+use Rattle.std.proofs.Common.{length, take, drop, map, slice_get, slice_index, IfSome, sym, refl, ap, ◌∙◌, arith, append_assoc}
+use Rattle.std.proofs.Common.{take-append-drop}
 use Rattle.std.specs.List.{find}
 use Rattle.std.specs.Option.{option_map}
 use Rattle.std.specs.Char.{to_ascii_lowercase}
@@ -25,11 +27,18 @@ record IsSought (options : List Opt) (sought : Sought) : Type 0 where
   kept : content.negated ≡ false
 
 module _ (options : List Opt) where
-  with-content : (place : ℕ) (content : Content) (later : List Sought) (b : Bool) → content.negated ≡ b → slice_get options place ≡ Some (opt.Content content) → AllOf (IsSought options) later → AllOf (IsSought options) (with (cond b None (Some (sought_at place content))) later)
+  with-content : (place : ℕ) (content : Content) (later : List Sought) (b : Bool)
+      → content.negated ≡ b
+      → slice_get options place ≡ Some (opt.Content content)
+      → AllOf (IsSought options) later
+      → AllOf (IsSought options) (with (cond b None (Some (sought_at place content))) later)
   with-content place content later true e here rest = rest
   with-content place content later false e here rest = (record { content = content; here = here; kept = e }, rest)
 
-  with-option : (place : ℕ) (option : Opt) (later : List Sought) → slice_get options place ≡ Some option → AllOf (IsSought options) later → AllOf (IsSought options) (with (sought_of place option) later)
+  with-option : (place : ℕ) (option : Opt) (later : List Sought)
+      → slice_get options place ≡ Some option
+      → AllOf (IsSought options) later
+      → AllOf (IsSought options) (with (sought_of place option) later)
   with-option place (opt.Content content) later here rest = with-content place content later content.negated refl here rest
   with-option place _ later here rest = rest
 
@@ -44,10 +53,16 @@ module _ (options : List Opt) where
   unfolding chosen
   chosen-sought =
       let all = all-sought 0 options (λ k. let e : 0 + k ≡ k = omega arith in ap (slice_get options) e) in
-      either (IsSought options) (find (λ sought. sought.marked) (sought_from 0 options)) (longest (sought_from 0 options)) (found (IsSought options) (λ sought. sought.marked) (sought_from 0 options) all) (longest-of (IsSought options) (sought_from 0 options) all)
+      either (IsSought options) (find (λ sought. sought.marked) (sought_from 0 options))
+      (longest (sought_from 0 options))
+      (found (IsSought options) (λ sought. sought.marked) (sought_from 0 options) all)
+      (longest-of (IsSought options) (sought_from 0 options) all)
 
 -- a content that occurs in the payload, in lower case
-lower-reads : (nocase : Bool) (payload bytes : List ℕ) (start : ℕ) → OccursAt (folded nocase payload) (folded nocase bytes) start → (start + length bytes ≤ length payload) × ((j : ℕ) → j < length bytes → lower (slice_index payload (start + j)) ≡ lower (slice_index bytes j))
+lower-reads : (nocase : Bool) (payload bytes : List ℕ) (start : ℕ)
+    → OccursAt (folded nocase payload) (folded nocase bytes) start
+    → (start + length bytes ≤ length payload) ×
+    ((j : ℕ) → j < length bytes → lower (slice_index payload (start + j)) ≡ lower (slice_index bytes j))
 unfolding lower
 lower-reads true payload bytes start is =
     let long_payload = length-map payload to_ascii_lowercase in
@@ -67,21 +82,31 @@ part-occurs nocase payload bytes start from len is =
     let word = map lower bytes in
     let long_payload = length-map payload lower in
     let long_bytes = length-map bytes lower in
-    let holds : drop start lowered ≡ word ++ drop (start + length word) lowered = at_from_reads 0 lowered word start (omega (arith, reads.0, long_payload, long_bytes)) (λ j h.
-    get_or-map lower payload (start + j) 0 0 (omega (arith, reads.0, long_bytes)) ∙ reads.1 j (omega (arith, long_bytes)) ∙ sym (get_or-map lower bytes j 0 0 (omega (arith, long_bytes)))) in
+    let holds : drop start lowered ≡ word ++ drop (start + length word) lowered =
+    at_from_reads 0 lowered word start (omega (arith, reads.0, long_payload, long_bytes)) (λ j h.
+    get_or-map lower payload (start + j) 0 0 (omega (arith, reads.0, long_bytes)) ∙ reads.1 j (omega (arith, long_bytes)) ∙
+    sym (get_or-map lower bytes j 0 0 (omega (arith, long_bytes)))) in
     let back = drop (start + length word) lowered in
     let part = take len (drop from bytes) in
     let rest = drop len (drop from bytes) in
     let split : word ≡ map lower (take from bytes) ++ (map lower part ++ map lower rest) =
-    ap (map lower) (sym (take-append-drop from bytes) ∙ ap (λ (xs : List ℕ). take from bytes ++ xs) (sym (take-append-drop len (drop from bytes))))
+    ap (map lower)
+    (sym (take-append-drop from bytes) ∙
+    ap (λ (xs : List ℕ). take from bytes ++ xs) (sym (take-append-drop len (drop from bytes))))
     ∙ map-append lower (take from bytes) (part ++ rest)
     ∙ ap (λ (xs : List ℕ). map lower (take from bytes) ++ xs) (map-append lower part rest) in
     infix-occurs part payload (take start lowered ++ map lower (take from bytes)) (map lower rest ++ back)
     (sym (take-append-drop start lowered)
-    ∙ ap (λ (xs : List ℕ). take start lowered ++ xs) (holds ∙ ap (λ (xs : List ℕ). xs ++ back) split ∙ append_assoc (map lower (take from bytes)) (map lower part ++ map lower rest) back ∙ ap (λ (xs : List ℕ). map lower (take from bytes) ++ xs) (append_assoc (map lower part) (map lower rest) back))
+    ∙ ap (λ (xs : List ℕ). take start lowered ++ xs)
+    (holds ∙ ap (λ (xs : List ℕ). xs ++ back) split ∙
+    append_assoc (map lower (take from bytes)) (map lower part ++ map lower rest) back ∙
+    ap (λ (xs : List ℕ). map lower (take from bytes) ++ xs) (append_assoc (map lower part) (map lower rest) back))
     ∙ sym (append_assoc (take start lowered) (map lower (take from bytes)) (map lower part ++ (map lower rest ++ back))))
 
-needs-by : (options : List Opt) (payload : List ℕ) (choice : Option Sought) → IfSome choice (IsSought options) → ContentsOccur options payload → occurs_if_any (option_map (part_bytes options) choice) payload ≡ true
+needs-by : (options : List Opt) (payload : List ℕ) (choice : Option Sought)
+    → IfSome choice (IsSought options)
+    → ContentsOccur options payload
+    → occurs_if_any (option_map (part_bytes options) choice) payload ≡ true
 needs-by options payload None is occur = refl
 needs-by options payload (Some sought) is occur =
     let holds = occur.each sought.place is.content is.here is.kept in

@@ -25,8 +25,13 @@ rising-from low high (x ∷ xs) h up = (omega (arith, up.0), up.1)
 rising-increasing : (low : ℕ) (xs : List ℕ) → (0 < length xs → low ≤ get_or xs 0 0) → IsStrictlyIncreasing xs → IsRising low xs
 rising-increasing low [] least up = tt
 rising-increasing low (x ∷ []) least up = (least (omega arith), tt)
-rising-increasing low (x ∷ (y ∷ ys)) least up =
-    (least (omega arith), rising-increasing (x + 1) (y ∷ ys) (λ h. omega (arith, up 0 (omega arith))) (λ k h. let e : suc k + 1 ≡ suc (k + 1) = omega arith in let P : ℕ → Type 0 = λ i. get_or (y ∷ ys) k 0 < get_or (x ∷ (y ∷ ys)) i 0 in subst P e (up (suc k) (omega arith))))
+rising-increasing low (x ∷ (y ∷ ys)) least up = (
+  least (omega arith),
+  rising-increasing (x + 1) (y ∷ ys) (λ h. omega (arith, up 0 (omega arith)))
+      (λ k h.
+      let e : suc k + 1 ≡ suc (k + 1) = omega arith in
+      let P : ℕ → Type 0 = λ i. get_or (y ∷ ys) k 0 < get_or (x ∷ (y ∷ ys)) i 0 in subst P e (up (suc k) (omega arith))),
+)
 
 has-below : (low place : ℕ) (xs : List ℕ) → IsRising low xs → place < low → has xs place ≡ false
 has-below low place [] up h = refl
@@ -41,13 +46,25 @@ rising-numbers low (suc count) [] up within =
     rising-numbers (low + 1) count [] tt (λ place e. absurd (false≢true e))
 rising-numbers low (suc count) (x ∷ xs) up within = ⊎_elim
     (λ same.
-    let rest = rising-numbers (low + 1) count xs (rising-from (low + 1) (x + 1) xs (omega (arith, same)) up.1) (λ place e. let w = within place (or_right (x == place) (has xs place) e) in omega (arith, w)) in
-    let tail = numbers-alike (has xs) (has (x ∷ xs)) (low + 1) count (λ place from to. sym (ap (λ b. b || has xs place) (ne_eqb x place (λ e. omega (arith, e, same, from))))) in
-    ap (λ z. z ∷ xs) (sym same) ∙ ap (λ zs. low ∷ zs) (rest ∙ tail) ∙ sym (cond-true (has (x ∷ xs) low) (low ∷ numbers (has (x ∷ xs)) (low + 1) count) (numbers (has (x ∷ xs)) (low + 1) count) (or_left (x == low) (has xs low) (eq-eqb x low (sym same)))))
+    let rest =
+    rising-numbers (low + 1) count xs (rising-from (low + 1) (x + 1) xs (omega (arith, same)) up.1)
+    (λ place e. let w = within place (or_right (x == place) (has xs place) e) in omega (arith, w)) in
+    let tail =
+    numbers-alike (has xs) (has (x ∷ xs)) (low + 1) count
+    (λ place from to. sym (ap (λ b. b || has xs place) (ne_eqb x place (λ e. omega (arith, e, same, from))))) in
+    ap (λ z. z ∷ xs) (sym same) ∙ ap (λ zs. low ∷ zs) (rest ∙ tail) ∙
+    sym (cond-true (has (x ∷ xs) low) (low ∷ numbers (has (x ∷ xs)) (low + 1) count)
+    (numbers (has (x ∷ xs)) (low + 1) count)
+    (or_left (x == low) (has xs low) (eq-eqb x low (sym same)))))
     (λ ne.
     let above : low < x = ⊎_elim (λ lt. lt) (λ ge. absurd (ne (omega (arith, ge, up.0)))) (cases_lt low x) in
-    let rest = rising-numbers (low + 1) count (x ∷ xs) (omega (arith, above), up.1) (λ place e. let w = within place e in omega (arith, w)) in
-    rest ∙ sym (cond-false (has (x ∷ xs) low) (low ∷ numbers (has (x ∷ xs)) (low + 1) count) (numbers (has (x ∷ xs)) (low + 1) count) (has-below x low (x ∷ xs) (omega arith, up.1) above)))
+    let rest =
+    rising-numbers (low + 1) count (x ∷ xs) (omega (arith, above), up.1)
+    (λ place e. let w = within place e in omega (arith, w)) in
+    rest ∙
+    sym (cond-false (has (x ∷ xs) low) (low ∷ numbers (has (x ∷ xs)) (low + 1) count)
+    (numbers (has (x ∷ xs)) (low + 1) count)
+    (has-below x low (x ∷ xs) (omega arith, up.1) above)))
     (cases_eq low x)
   where
     numbers-alike : (one other : ℕ → Bool) (from n : ℕ) → ((place : ℕ) → from ≤ place → place < from + n → one place ≡ other place) → numbers one from n ≡ numbers other from n
@@ -63,15 +80,24 @@ unfolding numbers
 numbers-tell test from zero place e = absurd (false≢true e)
 numbers-tell test from (suc count) place e = go (test from) refl (λ f. let t = numbers-tell test (from + 1) count place f in (omega (arith, t.0), omega (arith, t.1), t.2)) e
   where
-    go : (b : Bool) → test from ≡ b → (has (numbers test (from + 1) count) place ≡ true → (from ≤ place) × (place < from + suc count) × (test place ≡ true)) → has (cond b (from ∷ numbers test (from + 1) count) (numbers test (from + 1) count)) place ≡ true → (from ≤ place) × (place < from + suc count) × (test place ≡ true)
-    go true is later f = ⊎_elim (λ here. let same = eqb-true from place here in (omega (arith, same), omega (arith, same), sym (ap test same) ∙ is)) later (or_cases (from == place) (has (numbers test (from + 1) count) place) f)
+    go : (b : Bool)
+        → test from ≡ b
+        → (has (numbers test (from + 1) count) place ≡ true → (from ≤ place) × (place < from + suc count) × (test place ≡ true))
+        → has (cond b (from ∷ numbers test (from + 1) count) (numbers test (from + 1) count)) place ≡ true
+        → (from ≤ place) × (place < from + suc count) × (test place ≡ true)
+    go true is later f =
+        ⊎_elim
+        (λ here. let same = eqb-true from place here in (omega (arith, same), omega (arith, same), sym (ap test same) ∙ is)) later
+        (or_cases (from == place) (has (numbers test (from + 1) count) place) f)
     go false is later f = later f
 
 pub numbers-have : (test : ℕ → Bool) (from count place : ℕ) → from ≤ place → place < from + count → test place ≡ true → has (numbers test from count) place ≡ true
 unfolding numbers
 numbers-have test from zero place low high is = absurd (omega arith)
 numbers-have test from (suc count) place low high is = ⊎_elim
-    (λ same. ap (λ ns. has ns place) (cond-true (test from) (from ∷ numbers test (from + 1) count) (numbers test (from + 1) count) (ap test same ∙ is)) ∙ or_left (from == place) (has (numbers test (from + 1) count) place) (eq-eqb from place same))
+    (λ same. ap (λ ns. has ns place)
+    (cond-true (test from) (from ∷ numbers test (from + 1) count) (numbers test (from + 1) count) (ap test same ∙ is)) ∙
+    or_left (from == place) (has (numbers test (from + 1) count) place) (eq-eqb from place same))
     (λ ne.
     let above : from < place = ⊎_elim (λ lt. lt) (λ ge. absurd (ne (omega (arith, ge, low)))) (cases_lt from place) in
     let rest = numbers-have test (from + 1) count place (omega (arith, above)) (omega arith) is in
@@ -88,7 +114,12 @@ unfolding numbers
 filter-numbers more test from zero = refl
 filter-numbers more test from (suc count) = go (test from) (more from) refl (filter-numbers more test (from + 1) count)
   where
-    go : (x y : Bool) → more from ≡ y → filter more (numbers test (from + 1) count) ≡ numbers (λ place. test place && more place) (from + 1) count → filter more (cond x (from ∷ numbers test (from + 1) count) (numbers test (from + 1) count)) ≡ cond (x && y) (from ∷ numbers (λ place. test place && more place) (from + 1) count) (numbers (λ place. test place && more place) (from + 1) count)
+    go : (x y : Bool)
+        → more from ≡ y
+        → filter more (numbers test (from + 1) count) ≡ numbers (λ place. test place && more place) (from + 1) count
+        → filter more (cond x (from ∷ numbers test (from + 1) count) (numbers test (from + 1) count)) ≡
+        cond (x && y) (from ∷ numbers (λ place. test place && more place) (from + 1) count)
+        (numbers (λ place. test place && more place) (from + 1) count)
     go true true e rest = cond-true (more from) (from ∷ filter more (numbers test (from + 1) count)) (filter more (numbers test (from + 1) count)) e ∙ ap (λ ns. from ∷ ns) rest
     go true false e rest = cond-false (more from) (from ∷ filter more (numbers test (from + 1) count)) (filter more (numbers test (from + 1) count)) e ∙ rest
     go false y e rest = rest
@@ -104,7 +135,9 @@ numbers-push test from (suc count) =
     ∙ ap (λ ns. cond (test from) (from ∷ ns) ns) (numbers-push test (from + 1) count ∙ ap (λ (a : ℕ). numbers test (from + 1) count ++ cond (test a) (a ∷ []) []) at)
     ∙ go (test from) (cond (test (from + suc count)) ((from + suc count) ∷ []) [])
   where
-    go : (b : Bool) (tail : List ℕ) → cond b (from ∷ (numbers test (from + 1) count ++ tail)) (numbers test (from + 1) count ++ tail) ≡ cond b (from ∷ numbers test (from + 1) count) (numbers test (from + 1) count) ++ tail
+    go : (b : Bool) (tail : List ℕ)
+        → cond b (from ∷ (numbers test (from + 1) count ++ tail)) (numbers test (from + 1) count ++ tail) ≡
+        cond b (from ∷ numbers test (from + 1) count) (numbers test (from + 1) count) ++ tail
     go true tail = refl
     go false tail = refl
 
@@ -116,9 +149,15 @@ numbers-start test from = refl
 pub numbers-more : (test : ℕ → Bool) (count : ℕ) (before now : List ℕ) → before ≡ numbers test 0 count → test count ≡ true → now ≡ before ++ count ∷ [] → now ≡ numbers test 0 (count + 1)
 numbers-more test count before now is on pushed =
     let at : count ≡ 0 + count = omega arith in
-    pushed ∙ ap (λ ns. ns ++ count ∷ []) is ∙ sym (numbers-push test 0 count ∙ ap (λ (a : ℕ). numbers test 0 count ++ cond (test a) (a ∷ []) []) (sym at) ∙ ap (λ b. numbers test 0 count ++ cond b (count ∷ []) []) on)
+    pushed
+    ∙ ap (λ ns. ns ++ count ∷ []) is
+    ∙ sym (numbers-push test 0 count ∙ ap (λ (a : ℕ). numbers test 0 count ++ cond (test a) (a ∷ []) []) (sym at) ∙
+    ap (λ b. numbers test 0 count ++ cond b (count ∷ []) []) on)
 
 pub numbers-skip : (test : ℕ → Bool) (count : ℕ) (before : List ℕ) → before ≡ numbers test 0 count → test count ≡ false → before ≡ numbers test 0 (count + 1)
 numbers-skip test count before is off =
     let at : count ≡ 0 + count = omega arith in
-    is ∙ sym (append-nil (numbers test 0 count)) ∙ sym (numbers-push test 0 count ∙ ap (λ (a : ℕ). numbers test 0 count ++ cond (test a) (a ∷ []) []) (sym at) ∙ ap (λ b. numbers test 0 count ++ cond b (count ∷ []) []) off)
+    is
+    ∙ sym (append-nil (numbers test 0 count))
+    ∙ sym (numbers-push test 0 count ∙ ap (λ (a : ℕ). numbers test 0 count ++ cond (test a) (a ∷ []) []) (sym at) ∙
+    ap (λ b. numbers test 0 count ++ cond b (count ∷ []) []) off)

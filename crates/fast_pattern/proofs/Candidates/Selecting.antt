@@ -1,5 +1,6 @@
 -- The hits and the rules without a pattern, in order, as far as their headers fit: the candidates.
-use Rattle.std.proofs.Common.{◌≡◌, ℕ, suc, ◌+◌, ◌<◌, Bool, true, false, ◌&&◌, ◌||◌, cond, ltb, eqb, ◌==◌, Option, Some, None, List, [], ◌∷◌, ◌++◌, length, map, get_or, slice_get, sym, refl, ap, subst, ◌∙◌, arith, ⊎_elim}
+use Rattle.std.proofs.Common.{◌≡◌, ℕ, suc, ◌+◌, ◌<◌, Bool, true, false, ◌&&◌, ◌||◌, cond, ltb, eqb, ◌==◌, Option, Some, None}
+use Rattle.std.proofs.Common.{List, [], ◌∷◌, ◌++◌, length, map, get_or, slice_get, sym, refl, ap, subst, ◌∙◌, arith, ⊎_elim}
 use Rattle.std.specs.List.{filter, dedup, Contains}
 use Rattle.std.specs.List.Sorted.{IsPermutation, IsSorted, IsStrictlyIncreasing}
 use Rattle.std.specs.Ordering.{nat_cmp}
@@ -35,7 +36,9 @@ use Rattle.fast_pattern.proofs.Ports.Siding.{fits-due, plain-past}
 use Rattle.pattern_search.proofs.States.Words.{same_bools}
 
 -- places and numbers
-places-numbers : {X : Type 0} (test : X → Bool) (number : ℕ → Bool) (from : ℕ) (xs : List X) → ((k : ℕ) (d : X) → k < length xs → test (get_or xs k d) ≡ number (from + k)) → places_from from test xs ≡ numbers number from (length xs)
+places-numbers : {X : Type 0} (test : X → Bool) (number : ℕ → Bool) (from : ℕ) (xs : List X)
+    → ((k : ℕ) (d : X) → k < length xs → test (get_or xs k d) ≡ number (from + k))
+    → places_from from test xs ≡ numbers number from (length xs)
 unfolding numbers
 places-numbers test number from [] same = refl
 places-numbers test number from (x ∷ xs) same =
@@ -71,7 +74,9 @@ unfolding fits
 fits-for rule carried so = fits-kind rule.proto rule carried so
 
 -- what a rule's pattern and header say, of bytes
-chosen-by : (pattern : Option (List ℕ)) (payload : List ℕ) → occurs_if_any pattern payload ≡ ((ltb 0 (length (text_of pattern)) && occurs (text_of pattern) payload) || ltb (length (text_of pattern)) 1)
+chosen-by : (pattern : Option (List ℕ)) (payload : List ℕ)
+    → occurs_if_any pattern payload ≡
+    ((ltb 0 (length (text_of pattern)) && occurs (text_of pattern) payload) || ltb (length (text_of pattern)) 1)
 chosen-by None payload = refl
 chosen-by (Some []) payload = empty-occurs payload
 chosen-by (Some (x ∷ xs)) payload =
@@ -119,7 +124,10 @@ module _ (groups : Groups) (rules : List Rule) (carried : Body) (payload : List 
     text-is = get_or-map (λ (r : Rule). text_of (pattern_of r.opts)) rules place d [] h
 
     asked-is : slice_get groups.rules.items place ≡ Some (asked_of rule)
-    asked-is = ap (λ (xs : List Asked). slice_get xs place) hold.asked ∙ slice_get-get_or (map asked_of rules) place (asked_of d) (omega (arith, length-map rules asked_of)) ∙ ap Some (get_or-map asked_of rules place d (asked_of d) h)
+    asked-is =
+        ap (λ (xs : List Asked). slice_get xs place) hold.asked
+        ∙ slice_get-get_or (map asked_of rules) place (asked_of d) (omega (arith, length-map rules asked_of))
+        ∙ ap Some (get_or-map asked_of rules place d (asked_of d) h)
 
     fits-is : fits_at groups.rules.items carried place ≡ fits rule carried
     unfolding fits_at fits
@@ -131,7 +139,9 @@ module _ (groups : Groups) (rules : List Rule) (carried : Body) (payload : List 
 
     plain-is : plain place ≡ (ltb (length (text_of (pattern_of rule.opts))) 1 && is_for (kind_of carried) rule.proto)
     unfolding is_plain
-    plain-is = ap (λ (t : List ℕ). ltb (length t) 1 && is_for_some (kind_of carried) (slice_get groups.rules.items place)) text-is ∙ ap (λ o. ltb (length (text_of (pattern_of rule.opts))) 1 && is_for_some (kind_of carried) o) asked-is
+    plain-is =
+        ap (λ (t : List ℕ). ltb (length t) 1 && is_for_some (kind_of carried) (slice_get groups.rules.items place)) text-is
+        ∙ ap (λ o. ltb (length (text_of (pattern_of rule.opts))) 1 && is_for_some (kind_of carried) o) asked-is
 
     due-is : is_due carried (Some (asked_of rule)) ≡ true → due place ≡ plain place
     unfolding is_due_at
@@ -153,8 +163,12 @@ module _ (groups : Groups) (rules : List Rule) (carried : Body) (payload : List 
         (λ so.
         let kind = fits-for rule carried so in
         ap (λ b. b && occurs_if_any p payload) so ∙ chosen-by p payload
-        ∙ sym (ap (λ b. (occurs_at place || due place) && b) (fits-is ∙ so) ∙ and-true (occurs_at place || due place) ∙ ap (λ b. occurs_at place || b) (due-is (fits-is-due so)) ∙ ap (λ b. b || plain place) found-is ∙ ap (λ b. (ltb 0 (length (text_of p)) && occurs (text_of p) payload) || b) (plain-is ∙ ap (λ b. ltb (length (text_of p)) 1 && b) kind ∙ and-true (ltb (length (text_of p)) 1))))
-        (λ never. ap (λ b. b && occurs_if_any p payload) never ∙ sym (ap (λ b. (occurs_at place || due place) && b) (fits-is ∙ never) ∙ and-false (occurs_at place || due place)))
+        ∙ sym (ap (λ b. (occurs_at place || due place) && b) (fits-is ∙ so) ∙ and-true (occurs_at place || due place) ∙
+        ap (λ b. occurs_at place || b) (due-is (fits-is-due so)) ∙ ap (λ b. b || plain place) found-is ∙
+        ap (λ b. (ltb 0 (length (text_of p)) && occurs (text_of p) payload) || b)
+        (plain-is ∙ ap (λ b. ltb (length (text_of p)) 1 && b) kind ∙ and-true (ltb (length (text_of p)) 1))))
+        (λ never. ap (λ b. b && occurs_if_any p payload) never ∙
+        sym (ap (λ b. (occurs_at place || due place) && b) (fits-is ∙ never) ∙ and-false (occurs_at place || due place)))
         (cases_Bool (fits rule carried))
       where
         and-true : (b : Bool) → (b && true) ≡ b
@@ -172,7 +186,9 @@ module _ (groups : Groups) (rules : List Rule) (carried : Body) (payload : List 
   unfolding is_due_at
   due-within place e = ⊎_elim
       (λ low. low)
-      (λ high. absurd (false≢true (sym (plain-past groups.rules.items texts (kind_of carried) place (omega (arith, high, asked-count))) ∙ (and_parts (plain place) (is_due carried (slice_get groups.rules.items place)) e).0)))
+      (λ high. absurd
+      (false≢true (sym (plain-past groups.rules.items texts (kind_of carried) place (omega (arith, high, asked-count))) ∙
+      (and_parts (plain place) (is_due carried (slice_get groups.rules.items place)) e).0)))
       (cases_lt place (length rules))
 
   hits-are : (hits : List ℕ) → AreHits groups.automaton payload hits → IsPermutation (numbers occurs_at 0 (length texts)) hits
@@ -180,14 +196,23 @@ module _ (groups : Groups) (rules : List Rule) (carried : Body) (payload : List 
   hits-are hits are = are.found texts hold.finds
 
   -- the places that were found, each once and in order, and of these those whose headers fit
-  pub candidates-are : (hits found sorted places : List ℕ) → AreHits groups.automaton payload hits → ((place : ℕ) → has found place ≡ (has hits place || due place)) → IsPermutation found sorted → IsSorted nat_cmp sorted → places ≡ dedup eqb sorted → filter (fits_at groups.rules.items carried) places ≡ candidates rules carried payload
+  pub candidates-are : (hits found sorted places : List ℕ)
+      → AreHits groups.automaton payload hits
+      → ((place : ℕ) → has found place ≡ (has hits place || due place))
+      → IsPermutation found sorted
+      → IsSorted nat_cmp sorted
+      → places ≡ dedup eqb sorted
+      → filter (fits_at groups.rules.items carried) places ≡ candidates rules carried payload
   unfolding candidates
   candidates-are hits found sorted places are joined permutation order once =
       let n = length rules in
       let test : ℕ → Bool = fits_at groups.rules.items carried in
       ap (filter test) (increasing-is n places increasing within)
       ∙ filter-numbers test (has places) 0 n
-      ∙ sym (places-numbers (is_candidate carried payload) (λ place. has places place && test place) 0 rules (λ k d h. let e : k ≡ 0 + k = omega arith in one k d h ∙ ap (λ b. b && test k) (sym (same k h)) ∙ ap (λ (a : ℕ). has places a && test a) e))
+      ∙ sym (places-numbers (is_candidate carried payload) (λ place. has places place && test place) 0 rules
+      (λ k d h.
+      let e : k ≡ 0 + k = omega arith in
+      one k d h ∙ ap (λ b. b && test k) (sym (same k h)) ∙ ap (λ (a : ℕ). has places a && test a) e))
     where
       found-are : IsPermutation (numbers occurs_at 0 (length rules)) hits
       found-are = let P : ℕ → Type 0 = λ m. IsPermutation (numbers occurs_at 0 m) hits in subst P count (hits-are hits are)
@@ -217,7 +242,13 @@ module _ (groups : Groups) (rules : List Rule) (carried : Body) (payload : List 
           (λ e. numbers-have occurs_at 0 (length rules) place (omega arith) (omega arith) e))
 
 -- the rules of a kind without ports
-pub list-due : (groups : Groups) (rules : List Rule) (carried : Body) (listed old new : List ℕ) → AreFor groups rules → listed ≡ numbers (is_plain groups.rules.items (texts_of rules) (kind_of carried)) 0 (length rules) → ((asked : Option Asked) → is_due carried asked ≡ true) → new ≡ old ++ listed → (place : ℕ) → has new place ≡ (has old place || is_due_at groups.rules.items (texts_of rules) carried place)
+pub list-due : (groups : Groups) (rules : List Rule) (carried : Body) (listed old new : List ℕ)
+    → AreFor groups rules
+    → listed ≡ numbers (is_plain groups.rules.items (texts_of rules) (kind_of carried)) 0 (length rules)
+    → ((asked : Option Asked) → is_due carried asked ≡ true)
+    → new ≡ old ++ listed
+    → (place : ℕ)
+    → has new place ≡ (has old place || is_due_at groups.rules.items (texts_of rules) carried place)
 unfolding is_due_at
 list-due groups rules carried listed old new hold is due pushed place =
     let plain = is_plain groups.rules.items (texts_of rules) (kind_of carried) in
@@ -238,11 +269,20 @@ list-due groups rules carried listed old new hold is due pushed place =
     and-one false = refl
 
 -- the rules of a kind with ports
-pub sides-due : (asked : List Asked) (texts : List (List ℕ)) (carried : Body) (sport dport : ℕ) (old new : List ℕ) (sides : Sides) → AreSides asked texts (kind_of carried) sides → AddSought sides sport dport old new → ((one : Option Asked) → is_due carried one ≡ (is_asked side.Source sport one || is_asked side.Destination dport one)) → (place : ℕ) → has new place ≡ (has old place || is_due_at asked texts carried place)
+pub sides-due : (asked : List Asked) (texts : List (List ℕ)) (carried : Body) (sport dport : ℕ) (old new : List ℕ) (sides : Sides)
+    → AreSides asked texts (kind_of carried) sides
+    → AddSought sides sport dport old new
+    → ((one : Option Asked) → is_due carried one ≡ (is_asked side.Source sport one || is_asked side.Destination dport one))
+    → (place : ℕ)
+    → has new place ≡ (has old place || is_due_at asked texts carried place)
 unfolding is_due_at
 sides-due asked texts carried sport dport old new sides are adds due place =
     adds.added asked texts (kind_of carried) are place
-    ∙ ap (λ b. has old place || b) (and-or (is_plain asked texts (kind_of carried) place) (is_asked side.Source sport (slice_get asked place)) (is_asked side.Destination dport (slice_get asked place)) ∙ ap (λ b. is_plain asked texts (kind_of carried) place && b) (sym (due (slice_get asked place))))
+    ∙ ap (λ b. has old place || b)
+    (and-or (is_plain asked texts (kind_of carried) place)
+    (is_asked side.Source sport (slice_get asked place))
+    (is_asked side.Destination dport (slice_get asked place)) ∙
+    ap (λ b. is_plain asked texts (kind_of carried) place && b) (sym (due (slice_get asked place))))
   where
     and-or : (a b c : Bool) → ((a && b) || (a && c)) ≡ (a && (b || c))
     and-or true b c = refl

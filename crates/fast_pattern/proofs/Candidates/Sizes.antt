@@ -21,20 +21,32 @@ abbrev pub AllOf : (Sought → Type 0) → List Sought → Type 0
 AllOf P [] = ⊤
 AllOf P (x ∷ xs) = P x × AllOf P xs
 
-content-small : (names : List ℕ) (place most : ℕ) (content : Content) (fast : FastMode) → place < most → length content.bytes ≤ 2048 → IsFast content fast → (first_of fast ≤ 2048) × (size_of fast (length content.bytes) ≤ 2048)
+content-small : (names : List ℕ) (place most : ℕ) (content : Content) (fast : FastMode)
+    → place < most
+    → length content.bytes ≤ 2048
+    → IsFast content fast
+    → (first_of fast ≤ 2048) × (size_of fast (length content.bytes) ≤ 2048)
 content-small names place most content mode.No here short is = (omega arith, short)
 content-small names place most content mode.Yes here short is = (omega arith, short)
 content-small names place most content mode.Only here short is = (omega arith, short)
 content-small names place most content (mode.Part from len) here short is = (omega (arith, is.1), omega (arith, is.1))
 
 module _ (most : ℕ) where
-  with-content : (names : List ℕ) (place : ℕ) (content : Content) (later : List Sought) (b : Bool) → place < most → IsContent names content → AllOf (IsSmall most) later → AllOf (IsSmall most) (with (cond b None (Some (sought_at place content))) later)
+  with-content : (names : List ℕ) (place : ℕ) (content : Content) (later : List Sought) (b : Bool)
+      → place < most
+      → IsContent names content
+      → AllOf (IsSmall most) later
+      → AllOf (IsSmall most) (with (cond b None (Some (sought_at place content))) later)
   with-content names place content later true here is rest = rest
   with-content names place content later false here is rest =
       let small = content-small names place most content content.fast here is.0.1 is.3 in
       (record { place = here; from = small.0; len = small.1 }, rest)
 
-  with-option : (names : List ℕ) (place : ℕ) (option : Opt) (later : List Sought) → place < most → IsOption names option → AllOf (IsSmall most) later → AllOf (IsSmall most) (with (sought_of place option) later)
+  with-option : (names : List ℕ) (place : ℕ) (option : Opt) (later : List Sought)
+      → place < most
+      → IsOption names option
+      → AllOf (IsSmall most) later
+      → AllOf (IsSmall most) (with (sought_of place option) later)
   with-option names place (opt.Content content) later here is rest = with-content names place content later content.negated here is rest
   with-option names place _ later here is rest = rest
 
@@ -68,7 +80,10 @@ pub chosen-small : (rule : Rule) → IsTriable rule → IfSome (chosen rule.opts
 unfolding chosen
 chosen-small rule sound =
     let all = all-small 64 [] 0 rule.opts (omega (arith, sound.count)) sound.options in
-    either (IsSmall 64) (find (λ sought. sought.marked) (sought_from 0 rule.opts)) (longest (sought_from 0 rule.opts)) (found (IsSmall 64) (λ sought. sought.marked) (sought_from 0 rule.opts) all) (longest-of (IsSmall 64) (sought_from 0 rule.opts) all)
+    either (IsSmall 64) (find (λ sought. sought.marked) (sought_from 0 rule.opts))
+    (longest (sought_from 0 rule.opts))
+    (found (IsSmall 64) (λ sought. sought.marked) (sought_from 0 rule.opts) all)
+    (longest-of (IsSmall 64) (sought_from 0 rule.opts) all)
 
 pub small-at : (rule : Rule) (sought : Sought) (options : List Opt) → IsTriable rule → options ≡ rule.opts → chosen options ≡ Some sought → IsSmall 64 sought
 small-at rule sought options sound same is =

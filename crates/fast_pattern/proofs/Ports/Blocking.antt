@@ -1,7 +1,10 @@
 -- The blocks that a list of ports has whole, and where ports lie.
-use Rattle.std.proofs.Common.{◌≡◌, ℕ, zero, suc, ◌+◌, ◌-◌, ◌*◌, ◌^◌, ◌<◌, ◌≤◌, ◌==◌, Bool, true, false, not, ◌&&◌, ◌||◌, ltb, leb, eqb, List, [], ◌∷◌, ◌++◌, get_or, All, sym, refl, ap, subst, ◌∙◌, arith, ⊎_elim}
+use Rattle.std.proofs.Common.{◌≡◌, ℕ, zero, suc, ◌+◌, ◌-◌, ◌*◌, ◌^◌, ◌<◌, ◌≤◌, ◌==◌, Bool, true, false, not, ◌&&◌, ◌||◌, ltb, leb}
+use Rattle.std.proofs.Common.{eqb, List, [], ◌∷◌, ◌++◌, get_or, All, sym, refl, ap, subst, ◌∙◌, arith, ⊎_elim}
 use Rattle.std.specs.List.{list_any, list_all}
-use Rattle.std.proofs.lemmas.Bool.{false≢true, leb-true, le-leb, lt-ltb, le-ltb, eqb-true, eq-eqb, ne_eqb, cond-true, cond-false, and_parts, and_from, or_cases, or_left, or_right, not-true, not_from_false, cases_lt, false_from_ne_true}
+use Rattle.std.proofs.lemmas.Bool.{false≢true, leb-true, le-leb, lt-ltb, le-ltb, eqb-true, eq-eqb, ne_eqb, cond-true, cond-false}
+use Rattle.std.proofs.lemmas.Bool.{and_parts, and_from, or_cases, or_left, or_right, not-true, not_from_false, cases_lt}
+use Rattle.std.proofs.lemmas.Bool.{false_from_ne_true}
 use Rattle.std.proofs.lemmas.List.{append-nil, append_assoc}
 use Rattle.std.proofs.lemmas.List.Elements.{All-nil, All-append}
 use Rattle.std.proofs.lemmas.List.Folds.{list_any-append, list_any_none}
@@ -28,7 +31,9 @@ any-same p q [] same = refl
 any-same p q (x ∷ xs) same =
     ap (λ b. b || list_any p xs) (same 0 x (omega arith)) ∙ ap (λ b. q x || b) (any-same p q xs (λ k d h. same (suc k) d (omega arith)))
 
-module _ (wanted barred wider fewer : Part (Bounds ℕ) → Bool) (more : (part : Part (Bounds ℕ)) → wanted part ≡ true → wider part ≡ true) (less : (part : Part (Bounds ℕ)) → fewer part ≡ true → barred part ≡ true) where
+module _ (wanted barred wider fewer : Part (Bounds ℕ) → Bool)
+    (more : (part : Part (Bounds ℕ)) → wanted part ≡ true → wider part ≡ true)
+    (less : (part : Part (Bounds ℕ)) → fewer part ≡ true → barred part ≡ true) where
   wanted-more : (part : Part (Bounds ℕ)) → (not part.negated && wanted part) ≡ true → (not part.negated && wider part) ≡ true
   wanted-more part e = let parts = and_parts (not part.negated) (wanted part) e in and_from (not part.negated) (wider part) parts.0 (more part parts.1)
 
@@ -46,10 +51,15 @@ module _ (wanted barred wider fewer : Part (Bounds ℕ) → Bool) (more : (part 
       let both = and_parts (some || all) (not none) e in
       and_from (some_more || all) (not none_less)
       (⊎_elim
-      (λ a. or_left some_more all (any-wider (λ part. not part.negated && wanted part) (λ part. not part.negated && wider part) wanted-more parts a))
+      (λ a. or_left some_more all
+      (any-wider (λ part. not part.negated && wanted part) (λ part. not part.negated && wider part) wanted-more parts a))
       (λ b. or_right some_more all b)
       (or_cases some all both.0))
-      (not_from_false none_less (false_from_ne_true none_less (λ f. false≢true (sym (not-true none both.1) ∙ any-wider (λ part. part.negated && fewer part) (λ part. part.negated && barred part) barred-less parts f))))
+      (not_from_false none_less
+      (false_from_ne_true none_less
+      (λ f. false≢true
+      (sym (not-true none both.1) ∙
+      any-wider (λ part. part.negated && fewer part) (λ part. part.negated && barred part) barred-less parts f))))
 
 port-verdict : (port : ℕ) (parts : List (Part (Bounds ℕ))) → has_port parts port ≡ verdict (is_in port) (is_in port) parts
 unfolding has_port verdict
@@ -59,18 +69,27 @@ module _ (low high port : ℕ) (from : low ≤ port) (to : port ≤ high) where
   whole-in : (part : Part (Bounds ℕ)) → has_whole low high part ≡ true → is_in port part ≡ true
   whole-in part e =
       let parts = and_parts (leb part.bounds.low low) (leb high part.bounds.high) e in
-      and_from (leb part.bounds.low port) (leb port part.bounds.high) (le-leb part.bounds.low port (omega (arith, leb-true part.bounds.low low parts.0))) (le-leb port part.bounds.high (omega (arith, leb-true high part.bounds.high parts.1)))
+      and_from (leb part.bounds.low port) (leb port part.bounds.high)
+      (le-leb part.bounds.low port (omega (arith, leb-true part.bounds.low low parts.0)))
+      (le-leb port part.bounds.high (omega (arith, leb-true high part.bounds.high parts.1)))
 
   in-meets : (part : Part (Bounds ℕ)) → is_in port part ≡ true → meets low high part ≡ true
   in-meets part e =
       let parts = and_parts (leb part.bounds.low port) (leb port part.bounds.high) e in
-      and_from (leb part.bounds.low high) (leb low part.bounds.high) (le-leb part.bounds.low high (omega (arith, leb-true part.bounds.low port parts.0))) (le-leb low part.bounds.high (omega (arith, leb-true port part.bounds.high parts.1)))
+      and_from (leb part.bounds.low high) (leb low part.bounds.high)
+      (le-leb part.bounds.low high (omega (arith, leb-true part.bounds.low port parts.0)))
+      (le-leb low part.bounds.high (omega (arith, leb-true port part.bounds.high parts.1)))
 
   pub all-listed : (parts : List (Part (Bounds ℕ))) → verdict (has_whole low high) (meets low high) parts ≡ true → has_port parts port ≡ true
   all-listed parts e = port-verdict port parts ∙ verdict-wider (has_whole low high) (meets low high) (is_in port) (is_in port) whole-in in-meets parts e
 
   pub none-listed : (parts : List (Part (Bounds ℕ))) → verdict (meets low high) (has_whole low high) parts ≡ false → has_port parts port ≡ false
-  none-listed parts e = false_from_ne_true (has_port parts port) (λ f. false≢true (sym e ∙ verdict-wider (is_in port) (is_in port) (meets low high) (has_whole low high) in-meets whole-in parts (sym (port-verdict port parts) ∙ f)))
+  none-listed parts e =
+      false_from_ne_true (has_port parts port)
+      (λ f. false≢true
+      (sym e ∙
+      verdict-wider (is_in port) (is_in port) (meets low high) (has_whole low high) in-meets whole-in parts
+      (sym (port-verdict port parts) ∙ f)))
 
 -- a single port is had whole, or not at all
 pub one-listed : (low : ℕ) (parts : List (Part (Bounds ℕ))) → verdict (has_whole low low) (meets low low) parts ≡ has_port parts low
@@ -158,10 +177,14 @@ module _ (parts : List (Part (Bounds ℕ))) (bits low : ℕ) (old : List ℕ) wh
         ∙ ⊎_elim
         (λ below.
         ap (λ b. b || list_any (lies_in (suc bits) low port) right.added) (lower port below ∙ left.exact port from below)
-        ∙ ap (λ b. has_port parts port || b) (list_any_none (lies_in (suc bits) low port) right.added (λ k d h. apart port below (get_or right.added k d) (right.within k d h).0))
+        ∙ ap (λ b. has_port parts port || b)
+        (list_any_none (lies_in (suc bits) low port) right.added
+        (λ k d h. apart port below (get_or right.added k d) (right.within k d h).0))
         ∙ or-none (has_port parts port))
         (λ above.
-        ap (λ b. b || list_any (lies_in (suc bits) low port) right.added) (list_any_none (lies_in (suc bits) low port) left.added (λ k d h. before port above (get_or left.added k d) (left.within k d h).1))
+        ap (λ b. b || list_any (lies_in (suc bits) low port) right.added)
+        (list_any_none (lies_in (suc bits) low port) left.added
+        (λ k d h. before port above (get_or left.added k d) (left.within k d h).1))
         ∙ upper port above ∙ right.exact port above (omega (arith, doubled bits)))
         (cases_lt port (low + 2 ^ bits));
   }
@@ -179,10 +202,16 @@ module _ (parts : List (Part (Bounds ℕ))) (bits low : ℕ) (old : List ℕ) wh
           ∙ ap (λ (l : ℕ). lies_in bits l port block) is
 
       lower : (port : ℕ) → port < low + 2 ^ bits → list_any (lies_in (suc bits) low port) left.added ≡ list_any (lies_in bits low port) left.added
-      lower port below = any-same (lies_in (suc bits) low port) (lies_in bits low port) left.added (λ k d h. deeper port low (get_or left.added k d) (half-low bits low port below) (λ same. omega (arith, same, (left.within k d h).1, e, p)))
+      lower port below =
+          any-same (lies_in (suc bits) low port) (lies_in bits low port) left.added
+          (λ k d h. deeper port low (get_or left.added k d) (half-low bits low port below)
+          (λ same. omega (arith, same, (left.within k d h).1, e, p)))
 
       upper : (port : ℕ) → low + 2 ^ bits ≤ port → list_any (lies_in (suc bits) low port) right.added ≡ list_any (lies_in bits (low + 2 ^ bits) port) right.added
-      upper port above = any-same (lies_in (suc bits) low port) (lies_in bits (low + 2 ^ bits) port) right.added (λ k d h. deeper port (low + 2 ^ bits) (get_or right.added k d) (half-high bits low port above) (λ same. omega (arith, same, (right.within k d h).0, e, p)))
+      upper port above =
+          any-same (lies_in (suc bits) low port) (lies_in bits (low + 2 ^ bits) port) right.added
+          (λ k d h. deeper port (low + 2 ^ bits) (get_or right.added k d) (half-high bits low port above)
+          (λ same. omega (arith, same, (right.within k d h).0, e, p)))
 
       apart : (port : ℕ) → port < low + 2 ^ bits → (block : ℕ) → 2 * (low + 2 ^ bits) < block → lies_in (suc bits) low port block ≡ false
       apart port below block h =
@@ -195,17 +224,28 @@ module _ (parts : List (Part (Bounds ℕ))) (bits low : ℕ) (old : List ℕ) wh
           ∙ false_from_ne_true (lies_in bits (low + 2 ^ bits) port block) (λ so. let w = lies-within bits (low + 2 ^ bits) port block so in omega (arith, w.0))
 
 -- the parts of a block with more than one port
-pub add-parts : (parts : List (Part (Bounds ℕ))) (bits low : ℕ) (old mid new : List ℕ) → 0 < bits → AddBlocks parts (bits - 1) low old mid → AddBlocks parts (bits - 1) (low + 2 ^ (bits - 1)) mid new → AddBlocks parts bits low old new
+pub add-parts : (parts : List (Part (Bounds ℕ))) (bits low : ℕ) (old mid new : List ℕ)
+    → 0 < bits
+    → AddBlocks parts (bits - 1) low old mid
+    → AddBlocks parts (bits - 1) (low + 2 ^ (bits - 1)) mid new
+    → AddBlocks parts bits low old new
 add-parts parts bits low old mid new some left right =
     let e : suc (bits - 1) ≡ bits = omega arith in
     let P : ℕ → Type 0 = λ b. AddBlocks parts b low old new in
     subst P e (add-halves parts (bits - 1) low old mid new left right)
 
 -- a block of which the list has nothing: none of its ports, or not the only one
-pub add-nothing : (parts : List (Part (Bounds ℕ))) (bits low high : ℕ) (old : List ℕ) → high + 1 ≡ low + 2 ^ bits → verdict (meets low high) (has_whole low high) parts ≡ false → AddBlocks parts bits low old old
+pub add-nothing : (parts : List (Part (Bounds ℕ))) (bits low high : ℕ) (old : List ℕ)
+    → high + 1 ≡ low + 2 ^ bits
+    → verdict (meets low high) (has_whole low high) parts ≡ false
+    → AddBlocks parts bits low old old
 add-nothing parts bits low high old is none = add-none parts bits low old (λ port from to. none-listed low high port from (omega (arith, is)) parts none)
 
-pub add-not-one : (parts : List (Part (Bounds ℕ))) (bits low high : ℕ) (old : List ℕ) → bits ≡ 0 → high + 1 ≡ low + 2 ^ bits → verdict (has_whole low high) (meets low high) parts ≡ false → AddBlocks parts bits low old old
+pub add-not-one : (parts : List (Part (Bounds ℕ))) (bits low high : ℕ) (old : List ℕ)
+    → bits ≡ 0
+    → high + 1 ≡ low + 2 ^ bits
+    → verdict (has_whole low high) (meets low high) parts ≡ false
+    → AddBlocks parts bits low old old
 add-not-one parts bits low high old zero_bits is lacks =
     let one : 2 ^ bits ≡ 1 = ap (λ (b : ℕ). 2 ^ b) zero_bits in
     let same : high ≡ low = omega (arith, is, one) in
@@ -213,5 +253,8 @@ add-not-one parts bits low high old zero_bits is lacks =
     let off : has_port parts low ≡ false = sym (one-listed low parts) ∙ subst P same lacks in
     add-none parts bits low old (λ port from to. let e : port ≡ low = omega (arith, one) in ap (has_port parts) e ∙ off)
 
-pub add-whole : (parts : List (Part (Bounds ℕ))) (bits low high : ℕ) (old : List ℕ) → high + 1 ≡ low + 2 ^ bits → verdict (has_whole low high) (meets low high) parts ≡ true → AddBlocks parts bits low old (old ++ number bits low ∷ [])
+pub add-whole : (parts : List (Part (Bounds ℕ))) (bits low high : ℕ) (old : List ℕ)
+    → high + 1 ≡ low + 2 ^ bits
+    → verdict (has_whole low high) (meets low high) parts ≡ true
+    → AddBlocks parts bits low old (old ++ number bits low ∷ [])
 add-whole parts bits low high old is all = add-all parts bits low old (λ port from to. all-listed low high port from (omega (arith, is)) parts all)

@@ -45,12 +45,17 @@ between false true c d false same = refl
 between false false c d e same = refl
 
 -- a test that is one of two
-pub filed-either : (test one other : ℕ → Bool) → ((block : ℕ) → test block ≡ (one block || other block)) → (entries : List Entry) (place : ℕ) → is_filed test entries place ≡ (is_filed one entries place || is_filed other entries place)
+pub filed-either : (test one other : ℕ → Bool)
+    → ((block : ℕ) → test block ≡ (one block || other block))
+    → (entries : List Entry) (place : ℕ)
+    → is_filed test entries place ≡ (is_filed one entries place || is_filed other entries place)
 filed-either test one other is [] place = refl
 filed-either test one other is (entry ∷ entries) place =
     ap (λ b. (b && (entry.place == place)) || is_filed test entries place) (is entry.block)
-    ∙ ap (λ b. ((one entry.block || other entry.block) && (entry.place == place)) || b) (filed-either test one other is entries place)
-    ∙ between (one entry.block) (other entry.block) (is_filed one entries place) (is_filed other entries place) (entry.place == place) (or-and (one entry.block) (other entry.block) (entry.place == place))
+    ∙ ap (λ b. ((one entry.block || other entry.block) && (entry.place == place)) || b)
+    (filed-either test one other is entries place)
+    ∙ between (one entry.block) (other entry.block) (is_filed one entries place) (is_filed other entries place)
+    (entry.place == place) (or-and (one entry.block) (other entry.block) (entry.place == place))
 
 -- the entries of one place
 pub filed-new : (test : ℕ → Bool) (number : ℕ) (blocks : List ℕ) (place : ℕ) → is_filed test (entries_of number blocks) place ≡ (list_any test blocks && (number == place))
@@ -67,13 +72,17 @@ module _ (entries : List Entry) (block place : ℕ) where
   abbrev test : Entry → Bool
   test = is_of (λ other. other == block) place
 
-  none-between : (at more : ℕ) → at + more ≤ length entries → ((k : ℕ) → at ≤ k → k < at + more → (entry_at entries k).block ≡ block → ⊥) → list_any test (take (at + more) entries) ≡ list_any test (take at entries)
+  none-between : (at more : ℕ)
+      → at + more ≤ length entries
+      → ((k : ℕ) → at ≤ k → k < at + more → (entry_at entries k).block ≡ block → ⊥)
+      → list_any test (take (at + more) entries) ≡ list_any test (take at entries)
   none-between at zero h ne = let e : at + 0 ≡ at = omega arith in ap (λ (n : ℕ). list_any test (take n entries)) e
   none-between at (suc more) h ne =
       let e : at + suc more ≡ at + more + 1 = omega arith in
       ap (λ (n : ℕ). list_any test (take n entries)) e
       ∙ list_any_more test entries (at + more) (record { block = 0; place = 0 }) (omega arith)
-      ∙ ap (λ b. list_any test (take (at + more) entries) || (b && ((entry_at entries (at + more)).place == place))) (ne_eqb (entry_at entries (at + more)).block block (ne (at + more) (omega arith) (omega arith)))
+      ∙ ap (λ b. list_any test (take (at + more) entries) || (b && ((entry_at entries (at + more)).place == place)))
+      (ne_eqb (entry_at entries (at + more)).block block (ne (at + more) (omega arith) (omega arith)))
       ∙ or-none (list_any test (take (at + more) entries))
       ∙ none-between at more (omega arith) (λ k from to. ne k from (omega arith))
 
@@ -111,7 +120,12 @@ module _ (index : PortIndex) (block : ℕ) (some : 0 < block) (short : block < 1
         ∙ ap (λ (es : List Entry). has old place || is_filed same es place) (take_all (length entries) entries (omega arith));
   }
 
-  pub followed-more : (at next : ℕ) (new more : List ℕ) → 0 < at → IsFollowed index block old at new → more ≡ new ++ (entry_at entries (at - 1)).place ∷ [] → next ≡ min (slice_index index.nexts.items (at - 1)) (at - 1) → IsFollowed index block old next more
+  pub followed-more : (at next : ℕ) (new more : List ℕ)
+      → 0 < at
+      → IsFollowed index block old at new
+      → more ≡ new ++ (entry_at entries (at - 1)).place ∷ []
+      → next ≡ min (slice_index index.nexts.items (at - 1)) (at - 1)
+      → IsFollowed index block old next more
   followed-more at next new more go was pushed is = record {
     within = λ chained. let h = was.within chained in omega (arith, is);
     here = λ chained again.
@@ -153,7 +167,10 @@ module _ (index : PortIndex) (block : ℕ) (some : 0 < block) (short : block < 1
   followed-all new was = record { added = λ chained place. sym (or-none (has new place)) ∙ was.added chained place }
 
 -- one block, and then the part of it
-pub within-more : (index : PortIndex) (bits low port : ℕ) (old mid new : List ℕ) → AddFiled index (λ other. other == number (suc bits) low) old mid → AddFiled index (lies_in bits (half_with bits low port) port) mid new → AddFiled index (lies_in (suc bits) low port) old new
+pub within-more : (index : PortIndex) (bits low port : ℕ) (old mid new : List ℕ)
+    → AddFiled index (λ other. other == number (suc bits) low) old mid
+    → AddFiled index (lies_in bits (half_with bits low port) port) mid new
+    → AddFiled index (lies_in (suc bits) low port) old new
 within-more index bits low port old mid new one rest = record {
   added = λ chained place.
       let entries = index.entries.items in
@@ -165,7 +182,12 @@ within-more index bits low port old mid new one rest = record {
       ∙ ap (λ b. has old place || b) (sym (filed-either (lies_in (suc bits) low port) here later (λ block. lies-more bits low port block) entries place));
 }
 
-pub within-part : (index : PortIndex) (bits low port half : ℕ) (old mid new : List ℕ) → 0 < bits → half ≡ half_with (bits - 1) low port → AddFiled index (λ other. other == number bits low) old mid → AddFiled index (lies_in (bits - 1) half port) mid new → AddFiled index (lies_in bits low port) old new
+pub within-part : (index : PortIndex) (bits low port half : ℕ) (old mid new : List ℕ)
+    → 0 < bits
+    → half ≡ half_with (bits - 1) low port
+    → AddFiled index (λ other. other == number bits low) old mid
+    → AddFiled index (lies_in (bits - 1) half port) mid new
+    → AddFiled index (lies_in bits low port) old new
 within-part index bits low port half old mid new some is one rest =
     let e : suc (bits - 1) ≡ bits = omega arith in
     let P : ℕ → Type 0 = λ b. AddFiled index (lies_in b low port) old new in
@@ -175,9 +197,15 @@ within-part index bits low port half old mid new some is one rest =
 
 pub within-one : (index : PortIndex) (low port : ℕ) (old new : List ℕ) → AddFiled index (λ other. other == number 0 low) old new → AddFiled index (lies_in 0 low port) old new
 within-one index low port old new one = record {
-  added = λ chained place. one.added chained place ∙ ap (λ b. has old place || b) (same-tests (λ other. other == number 0 low) (lies_in 0 low port) (λ block. sym (lies-one low port block)) index.entries.items place);
+  added = λ chained place.
+      one.added chained place
+      ∙ ap (λ b. has old place || b)
+      (same-tests (λ other. other == number 0 low) (lies_in 0 low port) (λ block. sym (lies-one low port block))
+      index.entries.items place);
 }
   where
     same-tests : (test other : ℕ → Bool) → ((block : ℕ) → test block ≡ other block) → (entries : List Entry) (place : ℕ) → is_filed test entries place ≡ is_filed other entries place
     same-tests test other is [] place = refl
-    same-tests test other is (entry ∷ entries) place = ap (λ b. (b && (entry.place == place)) || is_filed test entries place) (is entry.block) ∙ ap (λ b. (other entry.block && (entry.place == place)) || b) (same-tests test other is entries place)
+    same-tests test other is (entry ∷ entries) place =
+        ap (λ b. (b && (entry.place == place)) || is_filed test entries place) (is entry.block)
+        ∙ ap (λ b. (other entry.block && (entry.place == place)) || b) (same-tests test other is entries place)

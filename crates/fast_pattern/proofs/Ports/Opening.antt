@@ -115,7 +115,9 @@ icmp-lets table sports dports both all body.Fragment e = absurd (false≢true e)
 
 pub ip-lets : (table : List ℕ) → ((part : ℕ) → part < 6 → is_all table part ≡ true) → (carried : Body) → lets_in table carried ≡ true
 unfolding lets_in
-ip-lets table all (body.Tcp head) = and_from (is_open table 0 head.sport) (is_open table 1 head.dport) (open-all table 0 head.sport (all 0 (omega arith))) (open-all table 1 head.dport (all 1 (omega arith)))
+ip-lets table all (body.Tcp head) =
+    and_from (is_open table 0 head.sport) (is_open table 1 head.dport) (open-all table 0 head.sport (all 0 (omega arith)))
+    (open-all table 1 head.dport (all 1 (omega arith)))
 ip-lets table all (body.Stream sport dport) = and_from (is_open table 0 sport) (is_open table 1 dport) (open-all table 0 sport (all 0 (omega arith))) (open-all table 1 dport (all 1 (omega arith)))
 ip-lets table all (body.Udp sport dport) = and_from (is_open table 2 sport) (is_open table 3 dport) (open-all table 2 sport (all 2 (omega arith))) (open-all table 3 dport (all 3 (omega arith)))
 ip-lets table all (body.Icmp kind code id seq) = all 4 (omega arith)
@@ -139,11 +141,15 @@ guards-all (x ∷ xs) table each carried zero e = each 0 x (omega arith) carried
 guards-all (x ∷ xs) table each carried (suc place) e = guards-all xs table (λ k d h. each (suc k) d (omega arith)) carried place e
 
 -- where no header fits there is no candidate
-none-fits : (carried : Body) (payload : List ℕ) (rules : List Rule) (n : ℕ) → ((place : ℕ) → fits_at (map asked_of rules) carried place ≡ false) → places_from n (is_candidate carried payload) rules ≡ []
+none-fits : (carried : Body) (payload : List ℕ) (rules : List Rule) (n : ℕ)
+    → ((place : ℕ) → fits_at (map asked_of rules) carried place ≡ false)
+    → places_from n (is_candidate carried payload) rules ≡ []
 unfolding fits_at is_candidate fits
 none-fits carried payload [] n none = refl
 none-fits carried payload (x ∷ xs) n none =
-    ap (λ (b : Bool). cond (b && occurs_if_any (pattern_of x.opts) payload) (n ∷ places_from (n + 1) (is_candidate carried payload) xs) (places_from (n + 1) (is_candidate carried payload) xs)) (none 0)
+    ap (λ (b : Bool). cond (b && occurs_if_any (pattern_of x.opts) payload)
+    (n ∷ places_from (n + 1) (is_candidate carried payload) xs)
+    (places_from (n + 1) (is_candidate carried payload) xs)) (none 0)
     ∙ none-fits carried payload xs (n + 1) (λ place. none (suc place))
 
 pub none-let-in : (groups : Groups) (rules : List Rule) (carried : Body) (payload : List ℕ) → AreFor groups rules → lets_in groups.doors.items carried ≡ false → candidates rules carried payload ≡ []

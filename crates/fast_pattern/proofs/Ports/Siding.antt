@@ -1,5 +1,6 @@
 -- At which ports rules are asked for, and that a rule that fits is.
-use Rattle.std.proofs.Common.{◌≡◌, ℕ, ◌+◌, ◌<◌, ◌≤◌, ◌==◌, Bool, true, false, not, ◌&&◌, ◌||◌, cond, ltb, Option, Some, None, slice_get, List, [], ◌∷◌, ◌++◌, length, All, sym, refl, ap, subst, ◌∙◌, arith, ⊎_elim}
+use Rattle.std.proofs.Common.{◌≡◌, ℕ, ◌+◌, ◌<◌, ◌≤◌, ◌==◌, Bool, true, false, not, ◌&&◌, ◌||◌, cond, ltb, Option, Some, None}
+use Rattle.std.proofs.Common.{slice_get, List, [], ◌∷◌, ◌++◌, length, All, sym, refl, ap, subst, ◌∙◌, arith, ⊎_elim}
 use Rattle.std.specs.List.{list_any}
 use Rattle.std.proofs.lemmas.Bool.{false≢true, eqb-true, eq-eqb, ne_eqb, lt-ltb, le-ltb, cases_eq, cases_lt, and_parts, and_right, or_cases, or_left, or_right}
 use Rattle.std.proofs.lemmas.Option.{slice_get_past}
@@ -55,25 +56,46 @@ module _ (sports dports : List (Part (Bounds ℕ))) (both : Bool) (sport dport :
   lifted false port = refl
 
   -- rules of tcp and udp
-  pub asked-tcp : ports_fit sports dports both sport dport ≡ true → (is_asked side.Source sport (Some (record { proto = proto.Tcp; sports = sports; dports = dports; both = both })) || is_asked side.Destination dport (Some (record { proto = proto.Tcp; sports = sports; dports = dports; both = both }))) ≡ true
+  pub asked-tcp : ports_fit sports dports both sport dport ≡ true
+      → (is_asked side.Source sport (Some (record { proto = proto.Tcp; sports = sports; dports = dports; both = both })) ||
+      is_asked side.Destination dport (Some (record { proto = proto.Tcp; sports = sports; dports = dports; both = both }))) ≡
+      true
   unfolding key_of belongs_in
   asked-tcp fits =
-      ap (λ b. (cond (is_any dports) (not (is_any sports)) both && b) || ((both || (not (is_any dports) || is_any sports)) && has_port (cond (is_any dports) sports dports) dport)) (lifted (is_any dports) sport)
-      ∙ ap (λ b. (cond (is_any dports) (not (is_any sports)) both && cond (is_any dports) (has_port sports sport) (has_port dports sport)) || ((both || (not (is_any dports) || is_any sports)) && b)) (lifted (is_any dports) dport)
-      ∙ told (is_any dports) (is_any sports) both (has_port sports sport) (has_port sports dport) (has_port dports dport) (has_port dports sport) (λ e. none-has sports dport e) fits
+      ap (λ b. (cond (is_any dports) (not (is_any sports)) both && b) ||
+      ((both || (not (is_any dports) || is_any sports)) && has_port (cond (is_any dports) sports dports) dport))
+      (lifted (is_any dports) sport)
+      ∙ ap (λ b.
+      (cond (is_any dports) (not (is_any sports)) both && cond (is_any dports) (has_port sports sport) (has_port dports sport)) ||
+      ((both || (not (is_any dports) || is_any sports)) && b)) (lifted (is_any dports) dport)
+      ∙ told (is_any dports) (is_any sports) both (has_port sports sport) (has_port sports dport) (has_port dports dport)
+      (has_port dports sport) (λ e. none-has sports dport e) fits
 
-  pub asked-udp : ports_fit sports dports both sport dport ≡ true → (is_asked side.Source sport (Some (record { proto = proto.Udp; sports = sports; dports = dports; both = both })) || is_asked side.Destination dport (Some (record { proto = proto.Udp; sports = sports; dports = dports; both = both }))) ≡ true
+  pub asked-udp : ports_fit sports dports both sport dport ≡ true
+      → (is_asked side.Source sport (Some (record { proto = proto.Udp; sports = sports; dports = dports; both = both })) ||
+      is_asked side.Destination dport (Some (record { proto = proto.Udp; sports = sports; dports = dports; both = both }))) ≡
+      true
   unfolding key_of belongs_in
   asked-udp fits =
-      ap (λ b. (cond (is_any dports) (not (is_any sports)) both && b) || ((both || (not (is_any dports) || is_any sports)) && has_port (cond (is_any dports) sports dports) dport)) (lifted (is_any dports) sport)
-      ∙ ap (λ b. (cond (is_any dports) (not (is_any sports)) both && cond (is_any dports) (has_port sports sport) (has_port dports sport)) || ((both || (not (is_any dports) || is_any sports)) && b)) (lifted (is_any dports) dport)
-      ∙ told (is_any dports) (is_any sports) both (has_port sports sport) (has_port sports dport) (has_port dports dport) (has_port dports sport) (λ e. none-has sports dport e) fits
+      ap (λ b. (cond (is_any dports) (not (is_any sports)) both && b) ||
+      ((both || (not (is_any dports) || is_any sports)) && has_port (cond (is_any dports) sports dports) dport))
+      (lifted (is_any dports) sport)
+      ∙ ap (λ b.
+      (cond (is_any dports) (not (is_any sports)) both && cond (is_any dports) (has_port sports sport) (has_port dports sport)) ||
+      ((both || (not (is_any dports) || is_any sports)) && b)) (lifted (is_any dports) dport)
+      ∙ told (is_any dports) (is_any sports) both (has_port sports sport) (has_port sports dport) (has_port dports dport)
+      (has_port dports sport) (λ e. none-has sports dport e) fits
 
-  pub asked-ip : (is_asked side.Source sport (Some (record { proto = proto.Ip; sports = sports; dports = dports; both = both })) || is_asked side.Destination dport (Some (record { proto = proto.Ip; sports = sports; dports = dports; both = both }))) ≡ true
+  pub asked-ip : (is_asked side.Source sport
+      (Some (record { proto = proto.Ip; sports = sports; dports = dports; both = both })) ||
+      is_asked side.Destination dport (Some (record { proto = proto.Ip; sports = sports; dports = dports; both = both })))
+      ≡ true
   unfolding key_of belongs_in
   asked-ip = none-has [] dport refl
 
-pub fits-due : (sports dports : List (Part (Bounds ℕ))) (both : Bool) (protocol : Proto) (carried : Body) → header_fits protocol sports dports both carried ≡ true → is_due carried (Some (record { proto = protocol; sports = sports; dports = dports; both = both })) ≡ true
+pub fits-due : (sports dports : List (Part (Bounds ℕ))) (both : Bool) (protocol : Proto) (carried : Body)
+    → header_fits protocol sports dports both carried ≡ true
+    → is_due carried (Some (record { proto = protocol; sports = sports; dports = dports; both = both })) ≡ true
 fits-due sports dports both protocol body.Other e = refl
 fits-due sports dports both protocol body.Fragment e = refl
 fits-due sports dports both protocol (body.Icmp kind code id seq) e = refl
@@ -100,7 +122,10 @@ module _ (rules : List Asked) (patterns : List (List ℕ)) (kind : Kind) (of : S
   pub sought-none : ((port : ℕ) → is_sought rules patterns kind of port place ≡ false) → AreSoughtAt rules patterns kind of place []
   sought-none none = record { within = All-nil (λ block. (0 < block) × (block < 131072)); exact = λ port h. sym (none port) }
 
-  pub sought-some : (parts : List (Part (Bounds ℕ))) (blocks : List ℕ) → ((port : ℕ) → is_sought rules patterns kind of port place ≡ has_port parts port) → AddBlocks parts 16 0 [] blocks → AreSoughtAt rules patterns kind of place blocks
+  pub sought-some : (parts : List (Part (Bounds ℕ))) (blocks : List ℕ)
+      → ((port : ℕ) → is_sought rules patterns kind of port place ≡ has_port parts port)
+      → AddBlocks parts 16 0 [] blocks
+      → AreSoughtAt rules patterns kind of place blocks
   sought-some parts blocks is adds = record {
     within = subst P (sym adds.is) (λ k d h. let w = adds.within k d h in (omega (arith, w.0), omega (arith, w.1)));
     exact = λ port h. ap (list_any (lies_in 16 0 port)) adds.is ∙ adds.exact port (omega arith) (omega arith) ∙ sym (is port);
@@ -115,14 +140,21 @@ module _ (rules : List Asked) (patterns : List (List ℕ)) (kind : Kind) (of : S
   asks-some (Some asked) port = refl
 
   pub holds-not : belongs_at rules patterns kind of place ≡ false → AreSoughtAt rules patterns kind of place []
-  holds-not off = sought-none (λ port. ap (λ b. is_plain rules patterns kind place && b) (asks-some (slice_get rules place) port) ∙ no (is_plain rules patterns kind place) (belongs_some of (slice_get rules place)) (has_key (slice_get rules place) port) off)
+  holds-not off =
+      sought-none (λ port. ap (λ b. is_plain rules patterns kind place && b) (asks-some (slice_get rules place) port) ∙
+      no (is_plain rules patterns kind place) (belongs_some of (slice_get rules place))
+      (has_key (slice_get rules place) port) off)
     where
       no : (a b c : Bool) → (a && b) ≡ false → (a && (b && c)) ≡ false
       no true true c e = absurd (false≢true (sym e))
       no true false c e = refl
       no false b c e = refl
 
-  pub holds-so : (asked : Asked) (blocks : List ℕ) → slice_get rules place ≡ Some asked → belongs_at rules patterns kind of place ≡ true → AddBlocks (key_of asked) 16 0 [] blocks → AreSoughtAt rules patterns kind of place blocks
+  pub holds-so : (asked : Asked) (blocks : List ℕ)
+      → slice_get rules place ≡ Some asked
+      → belongs_at rules patterns kind of place ≡ true
+      → AddBlocks (key_of asked) 16 0 [] blocks
+      → AreSoughtAt rules patterns kind of place blocks
   holds-so asked blocks is on adds = sought-some (key_of asked) blocks
       (λ port.
       ap (λ b. is_plain rules patterns kind place && b) (asks-some (slice_get rules place) port)
@@ -148,26 +180,47 @@ module _ (rules : List Asked) (patterns : List (List ℕ)) (kind : Kind) (of : S
   or-none true = refl
   or-none false = refl
 
-  pub filed-more : (entries more : List Entry) (blocks : List ℕ) → AreFiled rules patterns kind of entries place → AreSoughtAt rules patterns kind of place blocks → more ≡ entries ++ entries_of place blocks → AreFiled rules patterns kind of more (place + 1)
+  pub filed-more : (entries more : List Entry) (blocks : List ℕ)
+      → AreFiled rules patterns kind of entries place
+      → AreSoughtAt rules patterns kind of place blocks
+      → more ≡ entries ++ entries_of place blocks
+      → AreFiled rules patterns kind of more (place + 1)
   filed-more entries more blocks was sought is = record {
-    blocks = subst P (sym is) (All-append (λ entry. (0 < entry.block) × (entry.block < 131072)) entries (entries_of place blocks) was.blocks (All-map (λ entry. (0 < entry.block) × (entry.block < 131072)) (λ block. record { block = block; place = place }) blocks sought.within));
+    blocks =
+        subst P (sym is)
+        (All-append (λ entry. (0 < entry.block) × (entry.block < 131072)) entries
+        (entries_of place blocks) was.blocks
+        (All-map (λ entry. (0 < entry.block) × (entry.block < 131072))
+        (λ block. record { block = block; place = place }) blocks
+        sought.within));
     filed = λ port h other.
         ap (λ (es : List Entry). is_filed (lies_in 16 0 port) es other) is
         ∙ list_any-append _ entries (entries_of place blocks)
         ∙ ap (λ b. b || is_filed (lies_in 16 0 port) (entries_of place blocks) other) (was.filed port h other)
-        ∙ ap (λ b. (ltb other place && is_sought rules patterns kind of port other) || b) (filed-new (lies_in 16 0 port) place blocks other ∙ ap (λ b. b && (place == other)) (sought.exact port h))
+        ∙ ap (λ b. (ltb other place && is_sought rules patterns kind of port other) || b)
+        (filed-new (lies_in 16 0 port) place blocks other ∙ ap (λ b. b && (place == other)) (sought.exact port h))
         ∙ ⊎_elim
         (λ e.
-        ap (λ b. (b && is_sought rules patterns kind of port other) || (is_sought rules patterns kind of port place && (place == other))) (le-ltb other place (omega (arith, e)))
+        ap
+        (λ b. (b && is_sought rules patterns kind of port other) ||
+        (is_sought rules patterns kind of port place && (place == other)))
+        (le-ltb other place (omega (arith, e)))
         ∙ ap (λ b. is_sought rules patterns kind of port place && b) (eq-eqb place other e)
         ∙ and-true (is_sought rules patterns kind of port place)
         ∙ ap (λ (p : ℕ). is_sought rules patterns kind of port p) e
         ∙ sym (ap (λ b. b && is_sought rules patterns kind of port other) (lt-ltb other (place + 1) (omega (arith, e)))))
         (λ ne.
-        ap (λ b. (ltb other place && is_sought rules patterns kind of port other) || (is_sought rules patterns kind of port place && b)) (ne_eqb place other ne)
-        ∙ ap (λ b. (ltb other place && is_sought rules patterns kind of port other) || b) (and-false (is_sought rules patterns kind of port place))
+        ap
+        (λ b. (ltb other place && is_sought rules patterns kind of port other) ||
+        (is_sought rules patterns kind of port place && b))
+        (ne_eqb place other ne)
+        ∙ ap (λ b. (ltb other place && is_sought rules patterns kind of port other) || b)
+        (and-false (is_sought rules patterns kind of port place))
         ∙ or-none (ltb other place && is_sought rules patterns kind of port other)
-        ∙ ap (λ b. b && is_sought rules patterns kind of port other) (⊎_elim (λ low. lt-ltb other place low ∙ sym (lt-ltb other (place + 1) (omega (arith, low)))) (λ high. le-ltb other place high ∙ sym (le-ltb other (place + 1) (high_more high (λ e. ne e)))) (cases_lt other place)))
+        ∙ ap (λ b. b && is_sought rules patterns kind of port other)
+        (⊎_elim (λ low. lt-ltb other place low ∙ sym (lt-ltb other (place + 1) (omega (arith, low))))
+        (λ high. le-ltb other place high ∙ sym (le-ltb other (place + 1) (high_more high (λ e. ne e))))
+        (cases_lt other place)))
         (cases_eq place other);
   }
     where
@@ -193,7 +246,12 @@ unfolding is_plain
 plain-past rules patterns kind place h =
     and_right (ltb (length (word_at patterns place)) 1) (is_for_some kind (slice_get rules place)) (ap (is_for_some kind) (slice_get_past rules place h))
 
-pub side-made : (rules : List Asked) (patterns : List (List ℕ)) (kind : Kind) (of : Side) (index : PortIndex) (entries : List Entry) → IsChained index → index.entries.items ≡ entries → AreFiled rules patterns kind of entries (length rules) → IsSide rules patterns kind of index
+pub side-made : (rules : List Asked) (patterns : List (List ℕ)) (kind : Kind) (of : Side) (index : PortIndex)
+    (entries : List Entry)
+    → IsChained index
+    → index.entries.items ≡ entries
+    → AreFiled rules patterns kind of entries (length rules)
+    → IsSide rules patterns kind of index
 side-made rules patterns kind of index entries chained is are = record {
   chained = chained;
   filed = λ port h place.
@@ -208,7 +266,12 @@ side-made rules patterns kind of index entries chained is are = record {
 }
 
 -- two sides
-pub sought-both : (sides : Sides) (sport dport : ℕ) (old mid new : List ℕ) → sport < 65536 → dport < 65536 → AddFiled sides.source (lies_in 16 0 sport) old mid → AddFiled sides.destination (lies_in 16 0 dport) mid new → AddSought sides sport dport old new
+pub sought-both : (sides : Sides) (sport dport : ℕ) (old mid new : List ℕ)
+    → sport < 65536
+    → dport < 65536
+    → AddFiled sides.source (lies_in 16 0 sport) old mid
+    → AddFiled sides.destination (lies_in 16 0 dport) mid new
+    → AddSought sides sport dport old new
 sought-both sides sport dport old mid new small short one other = record {
   added = λ rules patterns kind are place.
       other.added are.destination.chained place

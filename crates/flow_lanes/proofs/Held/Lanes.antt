@@ -48,8 +48,12 @@ seen-filter : (flow : ℕ) (jobs : List Job) (was : Bool) → fold (λ seen (job
 seen-filter flow [] was = refl
 seen-filter flow (job ∷ jobs) was = by (is_of_flow flow job) (λ now. seen-filter flow jobs now)
   where
-    by : (b : Bool) → ((now : Bool) → fold (λ seen (j : Job). seen_after seen j.work) now (filter (is_of_flow flow) jobs) ≡ fold (seen_of flow) now jobs)
-        → fold (λ seen (j : Job). seen_after seen j.work) was (cond b (job ∷ filter (is_of_flow flow) jobs) (filter (is_of_flow flow) jobs)) ≡ fold (seen_of flow) (cond b (seen_after was job.work) was) jobs
+    by : (b : Bool)
+        → ((now : Bool) →
+        fold (λ seen (j : Job). seen_after seen j.work) now (filter (is_of_flow flow) jobs) ≡ fold (seen_of flow) now jobs)
+        → fold (λ seen (j : Job). seen_after seen j.work) was
+        (cond b (job ∷ filter (is_of_flow flow) jobs) (filter (is_of_flow flow) jobs)) ≡
+        fold (seen_of flow) (cond b (seen_after was job.work) was) jobs
     by true later = later (seen_after was job.work)
     by false later = later was
 
@@ -140,7 +144,10 @@ module _ (counted : DirectionState → ℕ) (bytes segs most : ℕ) (counts : Co
 
     flow-most : in_lanes counted lanes flow ≤ cond (is_seen flow before) (2 * most) 0
     flow-most =
-        only-one (λ (lane : LaneState). option_map_or (of_sides counted) (kept_of lane flow) 0) lanes.lanes (lane_of (length lanes.lanes) (Some flow)) (cond (is_seen flow before) (2 * most) 0) lane-most
+        only-one (λ (lane : LaneState). option_map_or (of_sides counted) (kept_of lane flow) 0)
+        lanes.lanes
+        (lane_of (length lanes.lanes) (Some flow))
+        (cond (is_seen flow before) (2 * most) 0) lane-most
 
 pub bytes-few : (d : Detection) (lanes : LanesState) (before : List Job) (flow bytes segs : ℕ) → AreAfter d lanes before → All (IsLimitedJob d.making bytes segs) before
     → held_bytes lanes flow ≤ cond (is_seen flow before) (2 * bytes) 0

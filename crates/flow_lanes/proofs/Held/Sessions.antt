@@ -25,7 +25,9 @@ use Rattle.flow_lanes.specs.Flows.{Detection, FlowState, bits_found, session_at_
 use Rattle.flow_lanes.specs.Holding.{IsLimited, IsLimitedJob, IsLimitedWork, seen_after}
 use Rattle.flow_lanes.specs.ItemHits.{bits_after_items, hits_of}
 use Rattle.flow_lanes.specs.Items.{JobItems, finish_items, packet_items, session_after}
-use Rattle.flow_lanes.specs.Sessions.{Packet, Session, ack_of, after_ack, after_data, begun_session, client_at_begin, client_end, is_from_client, is_tcp, receiver, seq_of, server_at_begin, server_end, session_of, session_rules, settled, state_found, state_of, step_of, toward, with_bases}
+use Rattle.flow_lanes.specs.Sessions.{Packet, Session, ack_of, after_ack, after_data, begun_session, client_at_begin, client_end}
+use Rattle.flow_lanes.specs.Sessions.{is_from_client, is_tcp, receiver, seq_of, server_at_begin, server_end, session_of}
+use Rattle.flow_lanes.specs.Sessions.{session_rules, settled, state_found, state_of, step_of, toward, with_bases}
 use Rattle.flow_lanes.specs.Sides.{side_after_ack, side_after_data, without_left}
 use Rattle.flow_lanes.specs.Sound.{FlowFacts, facts_after_one}
 use Rattle.flow_lanes.specs.LanesAfter.{KeptFlow, facts_kept, kept_after_one, state_kept}
@@ -143,8 +145,14 @@ module _ (making : Making) (bytes segs : ℕ) where
     unfolding after_data
     data-few step s seen few quiet = by step.takes_data refl (is_from_client step)
       where
-        by : (b : Bool) → step.takes_data ≡ b → (c : Bool)
-            → HoldsFew bytes segs (cond (not b) s (cond c (record s { client = side_after_data s.client (seq_of p) p.payload }) (record s { server = side_after_data s.server (seq_of p) p.payload }))) seen
+        by : (b : Bool)
+            → step.takes_data ≡ b
+            → (c : Bool)
+            → HoldsFew bytes segs
+            (cond (not b) s
+            (cond c (record s { client = side_after_data s.client (seq_of p) p.payload })
+            (record s { server = side_after_data s.server (seq_of p) p.payload })))
+            seen
         by false is c = few
         by true is true = record {
           client = side-data bytes segs s.client (seq_of p) p.payload few.client;
@@ -263,7 +271,11 @@ module _ (d : Detection) (bytes segs : ℕ) where
       → HoldsState d.making bytes segs (state_kept (kept_after_one d kept job)) (seen_after was job.work)
   kept-few kept was job limited holds = by_facts (facts_after_one (facts_kept kept) job)
     where
-      by_facts : (o : Option FlowFacts) → HoldsState d.making bytes segs (state_kept (option_map (λ (facts : FlowFacts). record { facts = facts; found = state_after_one d (state_kept kept) job }) o)) (seen_after was job.work)
+      by_facts : (o : Option FlowFacts)
+          → HoldsState d.making bytes segs
+          (state_kept (option_map
+          (λ (facts : FlowFacts). record { facts = facts; found = state_after_one d (state_kept kept) job }) o))
+          (seen_after was job.work)
       by_facts None = tt
       by_facts (Some facts) = state-few (state_kept kept) was job limited holds
 

@@ -13,7 +13,9 @@ use Rattle.overlap_core.proofs.Segments.Ends.{covered_end-is_greatest, covered_e
 use Rattle.stream5_reassembly.specs.declared.limits.Added.{Added}
 use Rattle.stream5_reassembly.specs.declared.limits.Added.TheVariants.{Queued, Old, PastWindow, TooManySegs}
 use Rattle.stream5_reassembly.specs.declared.limits.Limits.{Limits}
-use Rattle.stream5_reassembly.specs.Segments.{DirectionState, IsWithinLimits, ack_flushes, ack_place, after_fate, fate_at, first_place, flushed_bytes, flushed_to, idle, place_in, segment_at, segment_fate, started_at, top, with_segment}
+use Rattle.stream5_reassembly.specs.Segments.{DirectionState, IsWithinLimits, ack_flushes, ack_place, after_fate, fate_at}
+use Rattle.stream5_reassembly.specs.Segments.{first_place, flushed_bytes, flushed_to, idle, place_in, segment_at, segment_fate}
+use Rattle.stream5_reassembly.specs.Segments.{started_at, top, with_segment}
 use Rattle.stream5_reassembly.proofs.Steps.{idle-top, queued-room}
 use Rattle.flow_lanes.specs.Sides.{Side, side_after_ack, side_after_data, started_by, with_base, with_data, without_left}
 use Rattle.flow_lanes.specs.Streams.{places_below}

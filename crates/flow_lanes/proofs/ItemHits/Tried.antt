@@ -20,7 +20,10 @@ use Rattle.flow_lanes.specs.Work.{visits_on, visits_over}
 use Rattle.flow_lanes.proofs.ItemHits.Told.{told-append, told-none}
 
 -- the list of all rules that match is the one that the test finds
-matching-is : (means : Means) (trying : Trying) (rules : List Rule) (item : Item) (bits : Option Bits) (places : List ℕ) → trying.rules ≡ rules → Tells means trying.matches → AreHits means rules item bits places
+matching-is : (means : Means) (trying : Trying) (rules : List Rule) (item : Item) (bits : Option Bits) (places : List ℕ)
+    → trying.rules ≡ rules
+    → Tells means trying.matches
+    → AreHits means rules item bits places
     → places ≡ matching trying item bits
 unfolding matching
 matching-is means trying rules item bits places same told are =

@@ -1,6 +1,7 @@
 -- A batch in turn: each job is searched by its own lane, and what is found of it is put after what was found of the
 -- jobs before it. So it is what is found of the jobs taken one by one, and the lanes stand for these jobs.
-use Rattle.std.proofs.Common.{◌≡◌, ℕ, zero, suc, ◌<◌, Bool, true, false, cond, List, [], ◌∷◌, ◌++◌, length, get_or, set, Option, Some, None, refl, sym, ap, subst, ◌∙◌, ◌⊎◌, inl, inr, append_assoc, eq-eqb, arith}
+use Rattle.std.proofs.Common.{◌≡◌, ℕ, zero, suc, ◌<◌, Bool, true, false, cond, List, [], ◌∷◌, ◌++◌, length, get_or, set, Option}
+use Rattle.std.proofs.Common.{Some, None, refl, sym, ap, subst, ◌∙◌, ◌⊎◌, inl, inr, append_assoc, eq-eqb, arith}
 use Rattle.std.specs.Prelude.{option_and_then, option_map, slice_get}
 use Rattle.std.specs.List.{filter}
 use Rattle.std.proofs.lemmas.Bool.{cases_eq, eqb-true, false_from_ne_true, ne_eqb}
@@ -56,7 +57,9 @@ AreAfter-same d old new before is hold = record {
 }
 
 -- what is found of a job goes by the earlier jobs of its lane alone
-numbered_out-own : (all : Bool) (d : Detection) (count place : ℕ) (job : Job) (before : List Job) → is_in_lane count place job ≡ true → numbered_out all d (own_jobs count place before) job ≡ numbered_out all d before job
+numbered_out-own : (all : Bool) (d : Detection) (count place : ℕ) (job : Job) (before : List Job)
+    → is_in_lane count place job ≡ true
+    → numbered_out all d (own_jobs count place before) job ≡ numbered_out all d before job
 numbered_out-own all d count place job before here =
     numbered_out-local all d (own_jobs count place before) job
     ∙ ap (λ (jobs : List Job). numbered_out all d jobs job) (own_jobs-of_flow count place job here before)
@@ -119,8 +122,12 @@ module _ {P : Type 0} (by : Inspection P) where
       }
 
   -- one job more
-  pub turn_searched : (olds mids : List Worker) (place : ℕ) (other worker : Worker) (front : List Job) (job : Job) (found more : List (Numbered JobFound)) → place < length mids → place ≡ lane_of (length mids) (flow_of job)
-      → HaveSearched by (lanes_of olds) front found (lanes_of mids) → AddsFound by job (get_or mids place other).lane found worker.lane more
+  pub turn_searched : (olds mids : List Worker) (place : ℕ) (other worker : Worker) (front : List Job) (job : Job)
+      (found more : List (Numbered JobFound))
+      → place < length mids
+      → place ≡ lane_of (length mids) (flow_of job)
+      → HaveSearched by (lanes_of olds) front found (lanes_of mids)
+      → AddsFound by job (get_or mids place other).lane found worker.lane more
       → HaveSearched by (lanes_of olds) (front ++ job ∷ []) more (lanes_of (set mids place worker))
   turn_searched olds mids place other worker front job found more within is_place so_far adds =
       let is_mid : slice_get (lanes_of mids) place ≡ Some (get_or mids place other).lane =
@@ -137,7 +144,11 @@ pub learnt-none : (lanes : List LaneState) → HaveLearnt lanes [] lanes
 learnt-none lanes = record { count = refl; known = λ old new is_old is_new other. ap (λ (ls : List LaneState). knows ls other) (is_new ∙ sym is_old) }
 
 -- what lanes know after one job
-learnt-one : (lanes : List LaneState) (place : ℕ) (mid next : LaneState) (job : Job) → place ≡ lane_of (length lanes) (flow_of job) → slice_get lanes place ≡ Some mid → LearnsJob mid job next → HaveLearnt lanes (job ∷ []) (set lanes place next)
+learnt-one : (lanes : List LaneState) (place : ℕ) (mid next : LaneState) (job : Job)
+    → place ≡ lane_of (length lanes) (flow_of job)
+    → slice_get lanes place ≡ Some mid
+    → LearnsJob mid job next
+    → HaveLearnt lanes (job ∷ []) (set lanes place next)
 learnt-one lanes place mid next job is_place is_mid learns = record {
   count = length-set lanes place next;
   known = λ old new is_old is_new other.
@@ -147,12 +158,18 @@ learnt-one lanes place mid next job is_place is_mid learns = record {
       ∙ ap (λ (ls : List LaneState). facts_after (knows ls other) (filter (same_flow other) (job ∷ []))) (sym is_old);
 }
   where
-    at_lane : (other : Job) → (lane_of (length lanes) (flow_of other) ≡ place) ⊎ (lane_of (length lanes) (flow_of other) ≡ place → ⊥)
-        → option_and_then (λ (lane : LaneState). known_of lane other) (slice_get (set lanes place next) (lane_of (length lanes) (flow_of other))) ≡ facts_after (knows lanes other) (filter (same_flow other) (job ∷ []))
+    at_lane : (other : Job)
+        → (lane_of (length lanes) (flow_of other) ≡ place) ⊎ (lane_of (length lanes) (flow_of other) ≡ place → ⊥)
+        → option_and_then (λ (lane : LaneState). known_of lane other)
+        (slice_get (set lanes place next) (lane_of (length lanes) (flow_of other))) ≡
+        facts_after (knows lanes other) (filter (same_flow other) (job ∷ []))
     at_lane other (inl same) =
-        ap (option_and_then (λ (lane : LaneState). known_of lane other)) (ap (slice_get (set lanes place next)) same ∙ slice_get-set_same lanes place next (slice_get_within lanes place mid is_mid))
+        ap (option_and_then (λ (lane : LaneState). known_of lane other))
+        (ap (slice_get (set lanes place next)) same ∙
+        slice_get-set_same lanes place next (slice_get_within lanes place mid is_mid))
         ∙ learns other
-        ∙ ap (λ (facts : Option FlowFacts). facts_after facts (filter (same_flow other) (job ∷ []))) (sym (ap (option_and_then (λ (lane : LaneState). known_of lane other)) (ap (slice_get lanes) same ∙ is_mid)))
+        ∙ ap (λ (facts : Option FlowFacts). facts_after facts (filter (same_flow other) (job ∷ [])))
+        (sym (ap (option_and_then (λ (lane : LaneState). known_of lane other)) (ap (slice_get lanes) same ∙ is_mid)))
     at_lane other (inr apart) =
         let here : is_in_lane (length lanes) place job ≡ true = eq-eqb (lane_of (length lanes) (flow_of job)) place (sym is_place) in
         let stranger : same_flow other job ≡ false =
@@ -183,18 +200,36 @@ turn_learnt olds mids place other worker front job within is_place so_far learns
     (learnt-one (lanes_of mids) place (get_or mids place other).lane worker.lane job at is_mid learns))
 
 -- the next job is sound, by what the lanes know after those before it
-pub turn_sound : (engines : ℕ) (olds mids : List Worker) (place : ℕ) (other : Worker) (jobs front : List Job) (job : Job) (rest : List Job) → place < length olds → length mids ≡ length olds
-    → place ≡ lane_of (length olds) (flow_of job) → AreSoundAmong engines olds jobs → jobs ≡ front ++ job ∷ rest → HaveLearnt (lanes_of olds) front (lanes_of mids) → IsSoundFor engines (known_of (get_or mids place other).lane job) job
+pub turn_sound : (engines : ℕ) (olds mids : List Worker) (place : ℕ) (other : Worker) (jobs front : List Job) (job : Job)
+    (rest : List Job)
+    → place < length olds
+    → length mids ≡ length olds
+    → place ≡ lane_of (length olds) (flow_of job)
+    → AreSoundAmong engines olds jobs
+    → jobs ≡ front ++ job ∷ rest
+    → HaveLearnt (lanes_of olds) front (lanes_of mids)
+    → IsSoundFor engines (known_of (get_or mids place other).lane job) job
 turn_sound engines olds mids place other jobs front job rest within size is_place sound whole learnt =
     let here : is_in_lane (length olds) place job ≡ true = eq-eqb (lane_of (length olds) (flow_of job)) place (sym is_place) in
     let is_old : slice_get (lanes_of olds) place ≡ Some (get_or olds place other).lane =
-    slice_get-map (λ (w : Worker). w.lane) olds place ∙ ap (option_map (λ (w : Worker). w.lane)) (slice_get-get_or olds place other within) in
+    slice_get-map (λ (w : Worker). w.lane) olds place
+    ∙ ap (option_map (λ (w : Worker). w.lane)) (slice_get-get_or olds place other within) in
     let is_mid : slice_get (lanes_of mids) place ≡ Some (get_or mids place other).lane =
-    slice_get-map (λ (w : Worker). w.lane) mids place ∙ ap (option_map (λ (w : Worker). w.lane)) (slice_get-get_or mids place other (omega arith)) in
-    let in_olds : lane_of (length (lanes_of olds)) (flow_of job) ≡ place = ap (λ (count : ℕ). lane_of count (flow_of job)) (length-map olds (λ (w : Worker). w.lane)) ∙ sym is_place in
-    let in_mids : lane_of (length (lanes_of mids)) (flow_of job) ≡ place = ap (λ (count : ℕ). lane_of count (flow_of job)) (length-map mids (λ (w : Worker). w.lane) ∙ size) ∙ sym is_place in
-    let before : knows (lanes_of olds) job ≡ known_of (get_or olds place other).lane job = ap (option_and_then (λ (lane : LaneState). known_of lane job)) (ap (slice_get (lanes_of olds)) in_olds ∙ is_old) in
-    let after : knows (lanes_of mids) job ≡ known_of (get_or mids place other).lane job = ap (option_and_then (λ (lane : LaneState). known_of lane job)) (ap (slice_get (lanes_of mids)) in_mids ∙ is_mid) in
-    let known : known_of (get_or mids place other).lane job ≡ facts_after (known_of (get_or olds place other).lane job) (filter (same_flow job) front) =
-    sym after ∙ learnt.known (among (lanes_of olds)) (among (lanes_of mids)) refl refl job ∙ ap (λ (facts : Option FlowFacts). facts_after facts (filter (same_flow job) front)) before in
-    subst (λ (facts : Option FlowFacts). IsSoundFor engines facts job) (sym known) (sound place other within front job rest whole here)
+    slice_get-map (λ (w : Worker). w.lane) mids place
+    ∙ ap (option_map (λ (w : Worker). w.lane)) (slice_get-get_or mids place other (omega arith)) in
+    let in_olds : lane_of (length (lanes_of olds)) (flow_of job) ≡ place =
+    ap (λ (count : ℕ). lane_of count (flow_of job)) (length-map olds (λ (w : Worker). w.lane)) ∙ sym is_place in
+    let in_mids : lane_of (length (lanes_of mids)) (flow_of job) ≡ place =
+    ap (λ (count : ℕ). lane_of count (flow_of job)) (length-map mids (λ (w : Worker). w.lane) ∙ size) ∙ sym is_place in
+    let before : knows (lanes_of olds) job ≡ known_of (get_or olds place other).lane job =
+    ap (option_and_then (λ (lane : LaneState). known_of lane job)) (ap (slice_get (lanes_of olds)) in_olds ∙ is_old) in
+    let after : knows (lanes_of mids) job ≡ known_of (get_or mids place other).lane job =
+    ap (option_and_then (λ (lane : LaneState). known_of lane job)) (ap (slice_get (lanes_of mids)) in_mids ∙ is_mid) in
+    let known : known_of (get_or mids place other).lane job
+    ≡ facts_after (known_of (get_or olds place other).lane job) (filter (same_flow job) front) =
+    sym after
+    ∙ learnt.known (among (lanes_of olds)) (among (lanes_of mids)) refl refl job
+    ∙ ap (λ (facts : Option FlowFacts). facts_after facts (filter (same_flow job) front)) before in
+    subst (λ (facts : Option FlowFacts). IsSoundFor engines facts job)
+    (sym known)
+    (sound place other within front job rest whole here)

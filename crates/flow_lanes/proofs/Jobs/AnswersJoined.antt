@@ -26,10 +26,14 @@ module _ {J A : Type 0} (same : J → J → Bool) (lane : J → ℕ) (number : J
       → merged ≡ along_from f before jobs
   answers_joined before jobs parts within are ascend merged whole ascending =
       let tolds : List (J × A) = along_from (told f) before jobs in
-      let each = λ (place : ℕ) (d : List A) (below : place < length parts). are place d below ∙ along_from-class same (λ job. lane job == place) f local (by_class place) before jobs in
-      let joined : IsPermutation (map (λ p. p.1) tolds) (flat_map (λ part. part) parts) = joined_classes (λ (p : J × A). lane p.0) (λ (p : J × A). p.1) (λ (part : List A). part) tolds parts (λ p. within p.0) each in
+      let each = λ (place : ℕ) (d : List A) (below : place < length parts).
+      are place d below ∙ along_from-class same (λ job. lane job == place) f local (by_class place) before jobs in
+      let joined : IsPermutation (map (λ p. p.1) tolds) (flat_map (λ part. part) parts) =
+      joined_classes (λ (p : J × A). lane p.0) (λ (p : J × A). p.1) (λ (part : List A). part) tolds parts (λ p. within p.0)
+      each in
       let plain : map (λ p. p.1) tolds ≡ along_from f before jobs = map-along_from (λ (p : J × A). p.1) (told f) before jobs in
       let right : IsPermutation (along_from f before jobs) merged =
       subst (λ (answers : List A). IsPermutation answers merged) plain
       (IsPermutation-trans (map (λ p. p.1) tolds) (flat_map (λ part. part) parts) merged joined whole) in
-      sym (AscendsBy-unique key (along_from f before jobs) merged right (subst (λ (ns : List ℕ). IsStrictlyIncreasing ns) (sym (numbers_of before jobs)) ascend) ascending)
+      sym (AscendsBy-unique key (along_from f before jobs) merged right
+      (subst (λ (ns : List ℕ). IsStrictlyIncreasing ns) (sym (numbers_of before jobs)) ascend) ascending)

@@ -79,7 +79,10 @@ numbered_out-local all d before job =
     }
 
 -- each lane's jobs are sound, where the batch's are
-pub AreSoundFor-in : (engines place : ℕ) (lanes : LanesState) (lane : LaneState) (jobs : List Job) → AreSoundFor engines lanes jobs → slice_get lanes.lanes place ≡ Some lane → AreSoundIn engines (length lanes.lanes) place lane jobs
+pub AreSoundFor-in : (engines place : ℕ) (lanes : LanesState) (lane : LaneState) (jobs : List Job)
+    → AreSoundFor engines lanes jobs
+    → slice_get lanes.lanes place ≡ Some lane
+    → AreSoundIn engines (length lanes.lanes) place lane jobs
 AreSoundFor-in engines place lanes lane jobs sound is front job rest whole here =
     let same : lane_of (length lanes.lanes) (flow_of job) ≡ place = grind (arith, nat_tests) in
     let known : known_in lanes job ≡ known_of lane job =
@@ -96,36 +99,58 @@ module _ {P : Type 0} (by : Inspection P) (olds : List LaneState) (jobs : List J
       (slice_get-get_or parts place [] (omega (arith, are.parts_count)))
       (slice_get-get_or news place idle (omega (arith, are.news_count)))
 
-  numbers_at : (place : ℕ) (part : List (Numbered JobFound)) → place < length parts → map (λ (out : Numbered JobFound). out.number) (get_or parts place part) ≡ map (λ (job : Job). job.number) (own_jobs (length parts) place jobs)
+  numbers_at : (place : ℕ) (part : List (Numbered JobFound))
+      → place < length parts
+      → map (λ (out : Numbered JobFound). out.number) (get_or parts place part) ≡
+      map (λ (job : Job). job.number) (own_jobs (length parts) place jobs)
   numbers_at place part within =
       ap (map (λ (out : Numbered JobFound). out.number)) (get_or_default parts place part [] within)
       ∙ (at_place place (omega (arith, are.parts_count))).numbers
       ∙ ap (λ count. map (λ (job : Job). job.number) (own_jobs count place jobs)) (sym are.parts_count)
 
   -- the answers of a lane bear ascending numbers
-  pub part_ascends : AscendsBy (λ (job : Job). job.number) jobs → (place : ℕ) (part : List (Numbered JobFound)) → place < length parts → AscendsBy (λ (out : Numbered JobFound). out.number) (get_or parts place part)
+  pub part_ascends : AscendsBy (λ (job : Job). job.number) jobs
+      → (place : ℕ) (part : List (Numbered JobFound))
+      → place < length parts
+      → AscendsBy (λ (out : Numbered JobFound). out.number) (get_or parts place part)
   part_ascends ascend place part within =
       subst IsStrictlyIncreasing (sym (numbers_at place part within)) (AscendsBy-filter (λ (job : Job). job.number) (is_in_lane (length parts) place) jobs ascend)
 
   -- all parts have the numbers of the batch
   pub numbers_joined : 0 < length olds → IsPermutation (map (λ (job : Job). job.number) jobs) (map (λ (out : Numbered JobFound). out.number) (flat_map (λ part. part) parts))
   numbers_joined some =
-      subst (λ (numbers : List ℕ). IsPermutation (map (λ (job : Job). job.number) jobs) numbers) (sym (map-flat_map (λ (out : Numbered JobFound). out.number) (λ part. part) parts))
-      (joined_classes (λ (job : Job). lane_of (length parts) (flow_of job)) (λ (job : Job). job.number) (λ (part : List (Numbered JobFound)). map (λ (out : Numbered JobFound). out.number) part) jobs parts
+      subst (λ (numbers : List ℕ). IsPermutation (map (λ (job : Job). job.number) jobs) numbers)
+      (sym (map-flat_map (λ (out : Numbered JobFound). out.number) (λ part. part) parts))
+      (joined_classes (λ (job : Job). lane_of (length parts) (flow_of job))
+      (λ (job : Job). job.number)
+      (λ (part : List (Numbered JobFound)). map (λ (out : Numbered JobFound). out.number) part) jobs parts
       (λ job. below_count (length parts) (flow_of job) (omega (arith, are.parts_count)))
       numbers_at)
 
   -- what the lanes know of a flow
-  pub parts_know : (old new : LanesState) → old.lanes ≡ olds → new.lanes ≡ news → 0 < length olds → (other : Job) → known_in new other ≡ facts_after (known_in old other) (filter (same_flow other) jobs)
+  pub parts_know : (old new : LanesState)
+      → old.lanes ≡ olds
+      → new.lanes ≡ news
+      → 0 < length olds
+      → (other : Job)
+      → known_in new other ≡ facts_after (known_in old other) (filter (same_flow other) jobs)
   parts_know old new is_old is_new some other =
       let place : ℕ = lane_of (length olds) (flow_of other) in
       let within : place < length olds = below_count (length olds) (flow_of other) some in
-      let here = GoesOn-known by (length olds) place (get_or olds place idle) (get_or news place idle) jobs (get_or parts place []) other (in_own_lane (length olds) (flow_of other)) (at_place place within) in
-      let known : List LaneState → ℕ → Option FlowFacts = λ lanes count. option_and_then (λ (lane : LaneState). known_of lane other) (slice_get lanes (lane_of count (flow_of other))) in
+      let here =
+      GoesOn-known by (length olds) place (get_or olds place idle) (get_or news place idle) jobs (get_or parts place []) other
+      (in_own_lane (length olds) (flow_of other))
+      (at_place place within) in
+      let known : List LaneState → ℕ → Option FlowFacts = λ lanes count.
+      option_and_then (λ (lane : LaneState). known_of lane other) (slice_get lanes (lane_of count (flow_of other))) in
       let after : known_in new other ≡ known_of (get_or news place idle) other =
-      ap (λ lanes. known lanes (length lanes)) is_new ∙ ap (known news) are.news_count ∙ ap (option_and_then (λ (lane : LaneState). known_of lane other)) (slice_get-get_or news place idle (omega (arith, are.news_count))) in
+      ap (λ lanes. known lanes (length lanes)) is_new
+      ∙ ap (known news) are.news_count
+      ∙ ap (option_and_then (λ (lane : LaneState). known_of lane other))
+      (slice_get-get_or news place idle (omega (arith, are.news_count))) in
       let before : known_in old other ≡ known_of (get_or olds place idle) other =
-      ap (λ lanes. known lanes (length lanes)) is_old ∙ ap (option_and_then (λ (lane : LaneState). known_of lane other)) (slice_get-get_or olds place idle within) in
+      ap (λ lanes. known lanes (length lanes)) is_old
+      ∙ ap (option_and_then (λ (lane : LaneState). known_of lane other)) (slice_get-get_or olds place idle within) in
       after ∙ here ∙ ap (λ facts. facts_after facts (filter (same_flow other) jobs)) (sym before)
 
   module _ (means : Means) (d : Detection) (before : List Job) (detects : DetectsBy by.finds means by.stream by.set d)
@@ -163,13 +188,19 @@ module _ {P : Type 0} (by : Inspection P) (olds : List LaneState) (jobs : List J
       → (merged : List (Numbered JobFound)) → IsPermutation (flat_map (λ part. part) parts) merged → AscendsBy (λ (out : Numbered JobFound). out.number) merged
       → HaveSearched by olds jobs merged news
   parts_searched some ascend merged whole ascending old new is_old is_new means d before detects hold =
-      let each : (place : ℕ) (lane : LaneState) → slice_get olds place ≡ Some lane → IsAfter d lane (own_jobs (length olds) place before) =
-      subst (λ (lanes : List LaneState). (place : ℕ) (lane : LaneState) → slice_get lanes place ≡ Some lane → IsAfter d lane (own_jobs (length lanes) place before)) is_old hold.each in
+      let each : (place : ℕ) (lane : LaneState)
+      → slice_get olds place ≡ Some lane
+      → IsAfter d lane (own_jobs (length olds) place before) =
+      subst (λ (lanes : List LaneState). (place : ℕ) (lane : LaneState) → slice_get lanes place ≡ Some lane →
+      IsAfter d lane (own_jobs (length lanes) place before)) is_old hold.each in
       record {
         right = parts_answer means d before detects each some ascend merged whole ascending;
         holds = record {
           some = subst (λ (lanes : List LaneState). 0 < length lanes) (sym is_new) (omega (arith, are.news_count));
-          each = subst (λ (lanes : List LaneState). (place : ℕ) (lane : LaneState) → slice_get lanes place ≡ Some lane → IsAfter d lane (own_jobs (length lanes) place (before ++ jobs))) (sym is_new) (parts_hold means d before detects each);
+          each =
+              subst (λ (lanes : List LaneState). (place : ℕ) (lane : LaneState) → slice_get lanes place ≡ Some lane →
+              IsAfter d lane (own_jobs (length lanes) place (before ++ jobs)))
+              (sym is_new) (parts_hold means d before detects each);
         };
       }
 
@@ -202,11 +233,14 @@ module _ {P : Type 0} (by : Inspection P) (olds news : List LaneState) (jobs : L
       → (out : Matches) → out.hits.items ≡ map (λ (o : Numbered JobFound). o.value.hits) found → out.items ≡ sum_by (λ (o : Numbered JobFound). o.value.items) found
       → out.tries ≡ sum_by (λ (o : Numbered JobFound). o.value.tries) found → HaveMatched by olds jobs out news
   told_matches is searched out hits items tries old new is_old is_new means d before detects hold =
-      let done : AreSearched false d before jobs found new = subst (λ (b : Bool). AreSearched b d before jobs found new) is (searched old new is_old is_new means d before detects hold) in
+      let done : AreSearched false d before jobs found new =
+      subst (λ (b : Bool). AreSearched b d before jobs found new) is
+      (searched old new is_old is_new means d before detects hold) in
       record {
         hits = hits ∙ hits-found false d before jobs found done.right ∙ sym (map-along_from matched_entry (answer d) before jobs);
         items = items ∙ sum-found false d (λ (f : JobFound). f.items) before jobs found done.right
-            ∙ sym (sym (sum-map (λ (entry : JobHits). length entry.items) (along_from (answer d) before jobs)) ∙ ap sum (map-along_from (λ (entry : JobHits). length entry.items) (answer d) before jobs));
+            ∙ sym (sym (sum-map (λ (entry : JobHits). length entry.items) (along_from (answer d) before jobs)) ∙
+            ap sum (map-along_from (λ (entry : JobHits). length entry.items) (answer d) before jobs));
         tries = tries ∙ sum-found false d (λ (f : JobFound). f.tries) before jobs found done.right;
         holds = done.holds;
       }

@@ -54,7 +54,10 @@ state_kept-after d kept [] = refl
 state_kept-after d kept (job ∷ jobs) = state_kept-after d (kept_after_one d kept job) jobs ∙ ap (λ found. fold (state_after_one d) found jobs) (state_kept-after_one d kept job)
 
 -- what a lane keeps of the flow of a job is what the job finds
-pub IsAfter-finds : (d : Detection) (lane : LaneState) (before : List Job) (job : Job) (flow : ℕ) → flow_of job ≡ Some flow → IsAfter d lane before → state_kept (kept_of lane flow) ≡ flow_state d (filter (same_flow job) before)
+pub IsAfter-finds : (d : Detection) (lane : LaneState) (before : List Job) (job : Job) (flow : ℕ)
+    → flow_of job ≡ Some flow
+    → IsAfter d lane before
+    → state_kept (kept_of lane flow) ≡ flow_state d (filter (same_flow job) before)
 unfolding flow_state
 IsAfter-finds d lane before job flow is holds =
     ap state_kept (holds.flows flow)

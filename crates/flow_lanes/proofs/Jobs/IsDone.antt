@@ -18,7 +18,8 @@ use Rattle.flow_lanes.specs.declared.job.Work.TheVariants as work
 use Rattle.flow_lanes.specs.Batching.{SearchesJob}
 use Rattle.flow_lanes.specs.Detecting.{Leaves, gain_of}
 use Rattle.flow_lanes.specs.Engines.{Making}
-use Rattle.flow_lanes.specs.Flows.{Detection, FlowState, all_items, flow_of, flow_state, hits, hits_in, items, same_flow, same_number, session_at_hand, state_after_one, tries, work_items, bits_at_hand, bits_found}
+use Rattle.flow_lanes.specs.Flows.{Detection, FlowState, all_items, flow_of, flow_state, hits, hits_in, items, same_flow}
+use Rattle.flow_lanes.specs.Flows.{same_number, session_at_hand, state_after_one, tries, work_items, bits_at_hand, bits_found}
 use Rattle.flow_lanes.specs.Given.{Inspection}
 use Rattle.flow_lanes.specs.Items.{JobItems, alone_items, finish_items}
 use Rattle.flow_lanes.specs.ItemHits.{hits_of, told}
@@ -43,11 +44,15 @@ sets_flows : (flow : ℕ) (kept : Option KeptFlow) (by : Option KeptFlow → Opt
 sets_flows flow kept by old new sets is other =
     sets other ∙ cond_then (other == flow) kept (by (kept_in old other)) (kept_in old other) (λ e. let same : flow ≡ other = grind (arith, nat_tests) in is ∙ ap (λ f. by (kept_in old f)) same)
 
-sets_facts : (flow : ℕ) (kept : Option KeptFlow) (by : Option FlowFacts → Option FlowFacts) (old new : List (ℕ × KeptFlow)) → Sets flow kept old new → facts_kept kept ≡ by (facts_kept (kept_in old flow))
-    → (other : ℕ) → facts_kept (kept_in new other) ≡ cond (other == flow) (by (facts_kept (kept_in old other))) (facts_kept (kept_in old other))
+sets_facts : (flow : ℕ) (kept : Option KeptFlow) (by : Option FlowFacts → Option FlowFacts) (old new : List (ℕ × KeptFlow))
+    → Sets flow kept old new
+    → facts_kept kept ≡ by (facts_kept (kept_in old flow))
+    → (other : ℕ)
+    → facts_kept (kept_in new other) ≡ cond (other == flow) (by (facts_kept (kept_in old other))) (facts_kept (kept_in old other))
 sets_facts flow kept by old new sets is other =
     ap facts_kept (sets other) ∙ apart (other == flow) kept (kept_in old other)
-    ∙ cond_then (other == flow) (facts_kept kept) (by (facts_kept (kept_in old other))) (facts_kept (kept_in old other)) (λ e. let same : flow ≡ other = grind (arith, nat_tests) in is ∙ ap (λ f. by (facts_kept (kept_in old f))) same)
+    ∙ cond_then (other == flow) (facts_kept kept) (by (facts_kept (kept_in old other))) (facts_kept (kept_in old other))
+    (λ e. let same : flow ≡ other = grind (arith, nat_tests) in is ∙ ap (λ f. by (facts_kept (kept_in old f))) same)
   where
     apart : (b : Bool) (x y : Option KeptFlow) → facts_kept (cond b x y) ≡ cond b (facts_kept x) (facts_kept y)
     apart true x y = refl
@@ -197,7 +202,10 @@ module _ {P : Type 0} (by : Inspection P) (old new : LaneState) (job : Job) (giv
   pub learns-job : LearnsJob old job new
   learns-job other = by_flow (flow_of other)
     where
-      by_flow : (flow : Option ℕ) → option_and_then (λ f. facts_kept (kept_of new f)) flow ≡ fold facts_after_one (option_and_then (λ f. facts_kept (kept_of old f)) flow) (cond (same_number flow (flow_of job)) (job ∷ []) [])
+      by_flow : (flow : Option ℕ)
+          → option_and_then (λ f. facts_kept (kept_of new f)) flow ≡
+          fold facts_after_one (option_and_then (λ f. facts_kept (kept_of old f)) flow)
+          (cond (same_number flow (flow_of job)) (job ∷ []) [])
       by_flow None = refl
       by_flow (Some flow) = done.facts flow ∙ by_test (same_number (Some flow) (flow_of job)) (facts_kept (kept_of old flow))
         where

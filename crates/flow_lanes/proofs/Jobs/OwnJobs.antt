@@ -54,7 +54,9 @@ own_jobs-of_flow count place other is (job ∷ jobs) = by_flow (same_flow other 
         dropped apart (is_in_lane count place job) ∙ rest ∙ sym (ap (λ c. cond c (job ∷ filter (same_flow other) jobs) (filter (same_flow other) jobs)) apart)
 
 -- one more job
-pub own_jobs-more : (count place : ℕ) (front : List Job) (job : Job) (b : Bool) → is_in_lane count place job ≡ b → own_jobs count place (front ++ job ∷ []) ≡ own_jobs count place front ++ cond b (job ∷ []) []
+pub own_jobs-more : (count place : ℕ) (front : List Job) (job : Job) (b : Bool)
+    → is_in_lane count place job ≡ b
+    → own_jobs count place (front ++ job ∷ []) ≡ own_jobs count place front ++ cond b (job ∷ []) []
 own_jobs-more count place front job b is = filter-append (is_in_lane count place) front (job ∷ []) ∙ ap (λ c. own_jobs count place front ++ cond c (job ∷ []) []) is
 
 module _ {P : Type 0} (by : Inspection P) where

@@ -1,5 +1,6 @@
 -- The payloads of stream items are short: those of each flush, and so those of a whole job.
-use Rattle.std.proofs.Common.{◌≡◌, ℕ, ◌+◌, ◌-◌, ◌*◌, ◌/◌, ◌≤◌, Bool, true, false, not, ◌&&◌, cond, List, [], ◌∷◌, ◌++◌, length, take, drop, Option, Some, None, unwrap_or, IsSome, arith, refl, sym, ◌∙◌}
+use Rattle.std.proofs.Common.{◌≡◌, ℕ, ◌+◌, ◌-◌, ◌*◌, ◌/◌, ◌≤◌, Bool, true, false, not, ◌&&◌, cond, List, [], ◌∷◌, ◌++◌, length}
+use Rattle.std.proofs.Common.{take, drop, Option, Some, None, unwrap_or, IsSome, arith, refl, sym, ◌∙◌}
 use Rattle.std.specs.Prelude.{All}
 use Rattle.std.specs.List.{filter, flat_map, range_with_len}
 use Rattle.std.specs.Option.{option_map_or}
@@ -15,7 +16,8 @@ use Rattle.stream5_sessions.specs.declared.step.Step.{Step}
 use Rattle.stream5_reassembly.specs.Segments.{DirectionState, ack_flushes, ack_place, top}
 use Rattle.rule_eval.specs.declared.item.Item.{Item}
 use Rattle.flow_lanes.specs.Engines.{Making}
-use Rattle.flow_lanes.specs.Items.{acked_items, both_sides, closing_items, finish_items, held_items, is_queued, items_told, left_items, own_items, packet_item, packet_items, session_after, session_items, stream_items}
+use Rattle.flow_lanes.specs.Items.{acked_items, both_sides, closing_items, finish_items, held_items, is_queued, items_told}
+use Rattle.flow_lanes.specs.Items.{left_items, own_items, packet_item, packet_items, session_after, session_items, stream_items}
 use Rattle.flow_lanes.specs.declared.job.Job.{Job}
 use Rattle.flow_lanes.specs.declared.job.Work.{Work}
 use Rattle.flow_lanes.specs.declared.job.Work.TheVariants as work
@@ -84,9 +86,14 @@ of_some_short items each (Some x) = each x
 streams_short : (side : Side) (of_client : Bool) (moment : Moment) (sizes : ℕ × ℕ) (payloads : List (List ℕ)) → All IsShort payloads → AllShort (stream_items side of_client moment sizes payloads)
 streams_short side of_client moment sizes [] h = none_short
 streams_short side of_client moment sizes (payload ∷ payloads) h =
-    All-cons IsShortItem _ (stream_items side of_client moment sizes payloads) (λ is. All-head IsShort payload payloads h) (streams_short side of_client moment sizes payloads (All-tail IsShort payload payloads h))
+    All-cons IsShortItem _ (stream_items side of_client moment sizes payloads)
+    (λ is. All-head IsShort payload payloads h)
+    (streams_short side of_client moment sizes payloads (All-tail IsShort payload payloads h))
 
-sides_short : (payloads : Side → List (List ℕ)) → ((side : Side) → All IsShort (payloads side)) → (session : Session) (moment : Moment) (sizes : ℕ × ℕ) → AllShort (both_sides payloads session moment sizes)
+sides_short : (payloads : Side → List (List ℕ))
+    → ((side : Side) → All IsShort (payloads side))
+    → (session : Session) (moment : Moment) (sizes : ℕ × ℕ)
+    → AllShort (both_sides payloads session moment sizes)
 sides_short payloads each session moment sizes =
     both_short (stream_items session.client true moment sizes (payloads session.client)) (stream_items session.server false moment sizes (payloads session.server))
     (streams_short session.client true moment sizes (payloads session.client) (each session.client))
@@ -100,8 +107,13 @@ closing_short session moment =
 
 acked_items_short : (p : Packet) (step : Step) (session : Session) (sizes : ℕ × ℕ) → AllShort (acked_items p step session sizes)
 acked_items_short p step session sizes =
-    if_short step.counts_ack (stream_items (acked_side step session) (not (unwrap_or step.from_client true)) p.moment sizes (acked_payloads (acked_side step session) (ack_of p))) []
-    (streams_short (acked_side step session) (not (unwrap_or step.from_client true)) p.moment sizes (acked_payloads (acked_side step session) (ack_of p)) (acked_short (acked_side step session) (ack_of p)))
+    if_short step.counts_ack
+    (stream_items (acked_side step session) (not (unwrap_or step.from_client true)) p.moment sizes
+    (acked_payloads (acked_side step session) (ack_of p)))
+    []
+    (streams_short (acked_side step session) (not (unwrap_or step.from_client true)) p.moment sizes
+    (acked_payloads (acked_side step session) (ack_of p))
+    (acked_short (acked_side step session) (ack_of p)))
     none_short
 
 -- a packet of a flow is no stretch
@@ -118,9 +130,14 @@ own_short making p step session after has =
 session_short : (making : Making) (p : Packet) (step : Step) (found session after : Option Session) → HasSessions p.head.body → AllShort (session_items making p step found session after)
 session_short making p step found session after has =
     let sizes : ℕ × ℕ = option_map_or sizes_of after (0, 0) in
-    let left = if_short step.ended_before [] (option_map_or (λ s. left_items s p.moment sizes) found []) none_short (of_some_short (λ s. left_items s p.moment sizes) (λ s. sides_short left_payloads left_short s p.moment sizes) found) in
+    let left =
+    if_short step.ended_before [] (option_map_or (λ s. left_items s p.moment sizes) found []) none_short
+    (of_some_short (λ s. left_items s p.moment sizes) (λ s. sides_short left_payloads left_short s p.moment sizes) found) in
     let acked = of_some_short (λ s. acked_items p step s sizes) (λ s. acked_items_short p step s sizes) session in
-    let held = if_short step.ends (option_map_or (λ s. held_items s p.moment sizes) after []) [] (of_some_short (λ s. held_items s p.moment sizes) (λ s. sides_short held_payloads held_short s p.moment sizes) after) none_short in
+    let held =
+    if_short step.ends (option_map_or (λ s. held_items s p.moment sizes) after []) []
+    (of_some_short (λ s. held_items s p.moment sizes) (λ s. sides_short held_payloads held_short s p.moment sizes) after)
+    none_short in
     both_short _ _ (both_short _ _ (both_short _ _ left acked) held) (own_short making p step session after has)
 
 told_short : (making : Making) (p : Packet) (found : Option Session) (step : Step) (state : State) → HasSessions p.head.body → AllShort (all_items (items_told making p found step state))
@@ -138,7 +155,10 @@ pub finish_short : (moment : Moment) (found : Option Session) → AllShort (all_
 unfolding finish_items
 finish_short moment found = both_short _ _ (of_some_short (λ s. closing_items s moment) (λ s. closing_short s moment) found) none_short
 
-work_short : (making : Making) (engines : ℕ) (facts : Option FlowFacts) (moment : Moment) (w : Work) (found : Option Session) → IsSoundWork engines facts moment w → IsSome (flow_of_work w) → AllShort (all_items (work_items making moment w found))
+work_short : (making : Making) (engines : ℕ) (facts : Option FlowFacts) (moment : Moment) (w : Work) (found : Option Session)
+    → IsSoundWork engines facts moment w
+    → IsSome (flow_of_work w)
+    → AllShort (all_items (work_items making moment w found))
 work_short making engines facts moment (work.Alone head payload) found sound some = absurd (false≢true some)
 work_short making engines facts moment (work.Packet flow head payload to_dst to_src) found sound some =
     packet_short making (record { head = head; payload = payload; moment = moment; to_dst = to_dst; to_src = to_src }) found sound.protocol

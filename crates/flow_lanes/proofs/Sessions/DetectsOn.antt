@@ -81,9 +81,13 @@ module _ (making : Making) (p : Packet) (step : Step) (state : State) (items : L
       settles ∙ (λ i. option_map (after_items trying (bits_are i) (items_are i)) (left i))
 
 -- after a session that ended before it, a packet begins its own or has none
-begun-anew : (making : Making) (p : Packet) (step : Step) (state : State) (found : Option Session) → step.begun ≡ step.tracked → session_of making p found step state ≡ session_of making p None step state
+begun-anew : (making : Making) (p : Packet) (step : Step) (state : State) (found : Option Session)
+    → step.begun ≡ step.tracked
+    → session_of making p found step state ≡ session_of making p None step state
 unfolding session_of
-begun-anew making p step state found fresh = by_case step.tracked step.begun (Some (with_bases step (begun_session making p step state))) (option_map (λ (session : Session). with_bases step (record (settled session) { state = state })) found) fresh
+begun-anew making p step state found fresh =
+    by_case step.tracked step.begun (Some (with_bases step (begun_session making p step state)))
+    (option_map (λ (session : Session). with_bases step (record (settled session) { state = state })) found) fresh
   where
     by_case : (t b : Bool) (x y : Option Session) → b ≡ t → cond {A = Option Session} (not t) None (cond b x y) ≡ cond (not t) None (cond b x None)
     by_case false b x y is = refl

@@ -62,11 +62,16 @@ module _ (byte : ℕ → Option ℕ) where
       let second : byte (start + 1) ≡ Some c = holds 1 (omega arith) in
       let after : start + length (b ∷ rest) ≡ start + 1 + length rest = omega arith in
       let longer : suc (length bytes + count) ≡ length rest + count = omega arith in
-      let joins : begins_run (places (start + 1) (length rest + count)) ≡ true = ap (λ n. begins_run (places (start + 1) n)) (sym longer) ∙ begins_run-some (start + 1) (length bytes + count) c second in
+      let joins : begins_run (places (start + 1) (length rest + count)) ≡ true =
+      ap (λ n. begins_run (places (start + 1) n)) (sym longer) ∙ begins_run-some (start + 1) (length bytes + count) c second in
       let next : (k : ℕ) → start + 1 + k ≡ start + suc k = λ k. omega arith in
-      let later = taken (start + 1) (c ∷ bytes) count (λ k lt. ap byte (next k) ∙ holds (suc k) (omega arith)) (omega arith) (ends_at (start + length (b ∷ rest)) (start + 1 + length rest) after ends) in
+      let later =
+      taken (start + 1) (c ∷ bytes) count (λ k lt. ap byte (next k) ∙ holds (suc k) (omega arith))
+      (omega arith)
+      (ends_at (start + length (b ∷ rest)) (start + 1 + length rest) after ends) in
       ap (λ n. runs_of (places start n)) more ∙ runs_of-step start (length rest + count)
-      ∙ ap (λ p. in_front p (begins_run (places (start + 1) (length rest + count))) (runs_of (places (start + 1) (length rest + count)))) first
+      ∙ ap (λ p. in_front p (begins_run (places (start + 1) (length rest + count)))
+      (runs_of (places (start + 1) (length rest + count)))) first
       ∙ ap (λ j. in_front (Some b) j (runs_of (places (start + 1) (length rest + count)))) joins
       ∙ ap (λ r. in_front (Some b) true r) later
       ∙ ap (λ l. (b ∷ rest) ∷ runs_of (places l count)) (sym after)
@@ -98,7 +103,10 @@ module _ (byte : ℕ → Option ℕ) where
       ∙ ap (λ r. run.bytes ∷ r) (sym later)
       )
     where
-      at_end : (left : ℕ) → (run.start + length run.bytes ≡ high) ⊎ (byte (run.start + length run.bytes) ≡ None) → (run.start + length run.bytes ≡ high → left ≡ 0) → (left ≡ 0) ⊎ (byte (run.start + length run.bytes) ≡ None)
+      at_end : (left : ℕ)
+          → (run.start + length run.bytes ≡ high) ⊎ (byte (run.start + length run.bytes) ≡ None)
+          → (run.start + length run.bytes ≡ high → left ≡ 0)
+          → (left ≡ 0) ⊎ (byte (run.start + length run.bytes) ≡ None)
       at_end left (inl is) then = inl (then is)
       at_end left (inr is) then = inr is
 

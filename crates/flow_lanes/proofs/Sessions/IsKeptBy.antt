@@ -28,9 +28,15 @@ pub ends-tcp : (p : Packet) (ends : FlowEnds) → ends ≡ ends_of p → ends.ke
 ends-tcp p ends same = ap (λ (e : FlowEnds). e.key.tcp) same ∙ key_of-tcp (is_tcp p.head.body) (sender p) (receiver p)
 
 -- the session that a sound packet finds is of its protocol, and has come less far than a session may
-pub found-sound : (p : Packet) (facts : FlowFacts) (found : Option Session) → IsKeptBy facts found → facts.ends ≡ ends_of p → facts.packets < 2 ^ 32 → IsFound (is_tcp p.head.body) (2 ^ 63 - 2 ^ 31) found
+pub found-sound : (p : Packet) (facts : FlowFacts) (found : Option Session)
+    → IsKeptBy facts found
+    → facts.ends ≡ ends_of p
+    → facts.packets < 2 ^ 32
+    → IsFound (is_tcp p.head.body) (2 ^ 63 - 2 ^ 31) found
 found-sound p facts found kept same few =
-    subst (λ (tcp : Bool). IsFound tcp (2 ^ 63 - 2 ^ 31) found) (ends-tcp p facts.ends same) (IsFound-weaker facts.ends.key.tcp (facts.packets * 2 ^ 31) (2 ^ 63 - 2 ^ 31) found (omega arith) kept.kept)
+    subst (λ (tcp : Bool). IsFound tcp (2 ^ 63 - 2 ^ 31) found)
+    (ends-tcp p facts.ends same)
+    (IsFound-weaker facts.ends.key.tcp (facts.packets * 2 ^ 31) (2 ^ 63 - 2 ^ 31) found (omega arith) kept.kept)
 
 -- what is kept after the packet
 pub kept-more : (p : Packet) (facts : FlowFacts) (found after : Option Session) → IsKeptBy facts found → facts.ends ≡ ends_of p → facts.packets < 2 ^ 32

@@ -19,7 +19,8 @@ use Rattle.flow_lanes.specs.Engines.{Making}
 use Rattle.flow_lanes.specs.Items.{acked_items, closing_items, facts_of, held_items, is_queued, left_items, own_items, session_after, stream_items}
 use Rattle.flow_lanes.specs.Sessions.{Packet, Session, ack_of, is_tcp, after_ack, after_data, is_from_client, seq_of, session_of, session_rules, settled, sizes_of, state_found, state_of}
 use Rattle.flow_lanes.specs.Sound.{HasSessions}
-use Rattle.flow_lanes.specs.Working.{HasNoneLeft, TellsLeft, TellsLeftAt, after_packet, item_with, items_on, maybe_items, own_facts, own_item, sizes_after, streams_of, stretches_items, stretches_of, streams_told}
+use Rattle.flow_lanes.specs.Working.{HasNoneLeft, TellsLeft, TellsLeftAt, after_packet, item_with, items_on, maybe_items}
+use Rattle.flow_lanes.specs.Working.{own_facts, own_item, sizes_after, streams_of, stretches_items, stretches_of, streams_told}
 use Rattle.flow_lanes.specs.Sides.{Side, acked_payloads, left_payloads, side_after_ack, side_after_data}
 
 -- where nothing is left, no stretches tell it
@@ -57,8 +58,10 @@ state_found-tcp p (Some session) same = same
 
 -- an acknowledgement and data touch different sides, so that the order of both is none
 either_order : (b n m : Bool) (s : Session) (f g : Side → Side)
-    → (let t : Session = cond m s (cond b (record s { client = g s.client }) (record s { server = g s.server })) in cond n t (cond b (record t { server = f t.server }) (record t { client = f t.client })))
-    ≡ (let t : Session = cond n s (cond b (record s { server = f s.server }) (record s { client = f s.client })) in cond m t (cond b (record t { client = g t.client }) (record t { server = g t.server })))
+    → (let t : Session = cond m s (cond b (record s { client = g s.client }) (record s { server = g s.server })) in cond n t
+    (cond b (record t { server = f t.server }) (record t { client = f t.client })))
+    ≡ (let t : Session = cond n s (cond b (record s { server = f s.server }) (record s { client = f s.client })) in cond m t
+    (cond b (record t { client = g t.client }) (record t { server = g t.server })))
 either_order true true true s f g = refl
 either_order true true false s f g = refl
 either_order true false true s f g = refl

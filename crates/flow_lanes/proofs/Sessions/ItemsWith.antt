@@ -19,7 +19,9 @@ pub pushed-are : {A : Type 0} (result : Result A NoMemory) (old new : List Item)
 pushed-are result old new head meant payloads given same is pushed = on_ok_weaker result (λ (e : new ≡ old ++ items_with head payloads). e ∙ (λ i. old ++ items_with (same i) (is i))) pushed
 
 -- the items of one run more
-pub items-more : (head : ItemHead) (first old new : List Item) (runs : List Run) (run : Run) → old ≡ first ++ items_with head (payloads_of runs) → new ≡ old ++ items_with head (parts_of item_size run.bytes)
+pub items-more : (head : ItemHead) (first old new : List Item) (runs : List Run) (run : Run)
+    → old ≡ first ++ items_with head (payloads_of runs)
+    → new ≡ old ++ items_with head (parts_of item_size run.bytes)
     → new ≡ first ++ items_with head (payloads_of (runs ++ run ∷ []))
 items-more head first old new runs run so_far pushed =
     let before : List (List ℕ) = payloads_of runs in

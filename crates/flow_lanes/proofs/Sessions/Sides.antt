@@ -41,7 +41,9 @@ pub acked-cut : (old new : DirectionState) (ack : ℕ) (runs : List Run) (flushe
     → (flushed ≡ true → Flushes old new (ack_place old ack) [] runs) → (flushed ≡ false → Stays old new [] runs)
     → (payloads_of runs ≡ cond (ack_flushes old ack) (flushed_payloads old (ack_place old ack)) [])
     × (new ≡ cond (ack_flushes old ack) (flushed_to old (ack_place old ack)) old)
-acked-cut old new ack runs flushed is flushes stays = subst (λ (b : Bool). (payloads_of runs ≡ cond b (flushed_payloads old (ack_place old ack)) []) × (new ≡ cond b (flushed_to old (ack_place old ack)) old)) is (by_case flushed flushes stays)
+acked-cut old new ack runs flushed is flushes stays =
+    subst (λ (b : Bool). (payloads_of runs ≡ cond b (flushed_payloads old (ack_place old ack)) []) ×
+    (new ≡ cond b (flushed_to old (ack_place old ack)) old)) is (by_case flushed flushes stays)
   where
     by_case : (b : Bool) → (b ≡ true → Flushes old new (ack_place old ack) [] runs) → (b ≡ false → Stays old new [] runs)
         → (payloads_of runs ≡ cond b (flushed_payloads old (ack_place old ack)) []) × (new ≡ cond b (flushed_to old (ack_place old ack)) old)

@@ -1,5 +1,7 @@
 -- The groups of an address of version 6, as they are read.
-use Rattle.std.proofs.Common.{◌≡◌, ℕ, zero, suc, ◌+◌, ◌-◌, ◌*◌, ◌^◌, ◌<◌, ◌≤◌, ◌==◌, ◌&&◌, ltb, leb, Bool, true, false, not, cond, min, List, [], ◌∷◌, ◌++◌, length, take, drop, replicate, Option, Some, None, refl, sym, ap, subst, ◌∙◌, arith, add-one, zero-add, codes, nat_eq, length-append}
+use Rattle.std.proofs.Common.{◌≡◌, ℕ, zero, suc, ◌+◌, ◌-◌, ◌*◌, ◌^◌, ◌<◌, ◌≤◌, ◌==◌, ◌&&◌, ltb, leb, Bool, true, false, not, cond}
+use Rattle.std.proofs.Common.{min, List, [], ◌∷◌, ◌++◌, length, take, drop, replicate, Option, Some, None, refl, sym, ap, subst}
+use Rattle.std.proofs.Common.{◌∙◌, arith, add-one, zero-add, codes, nat_eq, length-append}
 use Rattle.std.specs.Option.{option_map, option_and_then}
 use Rattle.std.specs.List.{fold, list_all, slice_split, onto_first, position, position_or_len, prefix_len, starts_with}
 use Rattle.std.specs.Char.{is_ascii_hexdigit}
@@ -67,7 +69,10 @@ slice_split-only : {X : Type 0} (p : X → Bool) (xs : List X) → length xs ≤
 slice_split-only p [] h = refl
 slice_split-only p (x ∷ xs) h = go (p x) h (slice_split-only p xs)
   where
-    go : (b : Bool) → length (x ∷ xs) ≤ cond (not b) (1 + prefix_len (λ y. not (p y)) xs) 0 → (length xs ≤ prefix_len (λ y. not (p y)) xs → slice_split p xs ≡ xs ∷ []) → cond b ([] ∷ slice_split p xs) (onto_first x (slice_split p xs)) ≡ (x ∷ xs) ∷ []
+    go : (b : Bool)
+        → length (x ∷ xs) ≤ cond (not b) (1 + prefix_len (λ y. not (p y)) xs) 0
+        → (length xs ≤ prefix_len (λ y. not (p y)) xs → slice_split p xs ≡ xs ∷ [])
+        → cond b ([] ∷ slice_split p xs) (onto_first x (slice_split p xs)) ≡ (x ∷ xs) ∷ []
     go true less more = absurd (omega arith)
     go false less more = ap (onto_first x) (more (omega arith))
 
@@ -125,7 +130,10 @@ joined_from count value h (piece ∷ pieces) = go (group piece) (count == 8) ref
   where
     past : (next : ℕ) (o : Option (List ℕ)) → count ≡ 8 → None ≡ option_and_then (kept count value) (option_and_then (λ others. Some (next ∷ others)) o)
     past next None e = refl
-    past next (Some others) e = sym (ap (λ b. cond b (made (count + suc (length others)) (fold (λ v g. v * 65536 + g) (value * 65536 + next) others)) None) (lt-leb (count + suc (length others)) 8 (omega arith)))
+    past next (Some others) e =
+        sym (ap
+        (λ b. cond b (made (count + suc (length others)) (fold (λ v g. v * 65536 + g) (value * 65536 + next) others)) None)
+        (lt-leb (count + suc (length others)) 8 (omega arith)))
 
     on : (next : ℕ) (o : Option (List ℕ)) → option_and_then (kept (count + 1) (value * 65536 + next)) o ≡ option_and_then (kept count value) (option_and_then (λ others. Some (next ∷ others)) o)
     on next None = refl
@@ -133,8 +141,14 @@ joined_from count value h (piece ∷ pieces) = go (group piece) (count == 8) ref
         let more : count + 1 + length others ≡ count + suc (length others) = omega arith in
         ap (λ n. cond (leb n 8) (made (n) (fold (λ v g. v * 65536 + g) (value * 65536 + next) others)) None) more
 
-    go : (o : Option ℕ) (b : Bool) → (count == 8) ≡ b → ((v : ℕ) → count + 1 ≤ 8 → joined (record { count = count + 1; value = v }) pieces ≡ option_and_then (kept (count + 1) v) (groups_of pieces))
-        → option_and_then (λ next. option_and_then (λ more. joined more pieces) (cond b None (Some (record { count = count + 1; value = value * 65536 + next })))) o ≡ option_and_then (kept count value) (option_and_then (λ first. option_and_then (λ others. Some (first ∷ others)) (groups_of pieces)) o)
+    go : (o : Option ℕ) (b : Bool)
+        → (count == 8) ≡ b
+        → ((v : ℕ) → count + 1 ≤ 8 →
+        joined (record { count = count + 1; value = v }) pieces ≡ option_and_then (kept (count + 1) v) (groups_of pieces))
+        → option_and_then (λ next. option_and_then (λ more. joined more pieces)
+        (cond b None (Some (record { count = count + 1; value = value * 65536 + next })))) o ≡
+        option_and_then (kept count value)
+        (option_and_then (λ first. option_and_then (λ others. Some (first ∷ others)) (groups_of pieces)) o)
     go None b e more = refl
     go (Some next) true e more = past next (groups_of pieces) (eqb-true count 8 e)
     go (Some next) false e more = more (value * 65536 + next) (below count h e) ∙ on next (groups_of pieces)
@@ -163,17 +177,24 @@ fold_from : (value : ℕ) (gs : List ℕ) → fold (λ v g. v * 65536 + g) value
 unfolding groups_value
 fold_from value [] = omega arith
 fold_from value (next ∷ gs) =
-    let shift : 2 ^ (16 * suc (length gs)) ≡ 2 ^ (16 * length gs) * 65536 = ap (λ k. 2 ^ (16 * k)) (sym (add-one (length gs))) ∙ shift_more (length gs) in
-    let here : fold (λ v g. v * 65536 + g) (value * 65536 + next) gs ≡ (value * 65536 + next) * 2 ^ (16 * length gs) + groups_value gs = fold_from (value * 65536 + next) gs in
-    let alone : fold (λ v g. v * 65536 + g) (0 * 65536 + next) gs ≡ (0 * 65536 + next) * 2 ^ (16 * length gs) + groups_value gs = fold_from (0 * 65536 + next) gs in
-    let step : (value * 65536 + next) * 2 ^ (16 * length gs) + groups_value gs ≡ value * 2 ^ (16 * suc (length gs)) + ((0 * 65536 + next) * 2 ^ (16 * length gs) + groups_value gs) = scaled value next (2 ^ (16 * length gs)) (2 ^ (16 * suc (length gs))) (groups_value gs) shift in
+    let shift : 2 ^ (16 * suc (length gs)) ≡ 2 ^ (16 * length gs) * 65536 =
+    ap (λ k. 2 ^ (16 * k)) (sym (add-one (length gs))) ∙ shift_more (length gs) in
+    let here : fold (λ v g. v * 65536 + g) (value * 65536 + next) gs
+    ≡ (value * 65536 + next) * 2 ^ (16 * length gs) + groups_value gs = fold_from (value * 65536 + next) gs in
+    let alone : fold (λ v g. v * 65536 + g) (0 * 65536 + next) gs ≡ (0 * 65536 + next) * 2 ^ (16 * length gs) + groups_value gs =
+    fold_from (0 * 65536 + next) gs in
+    let step : (value * 65536 + next) * 2 ^ (16 * length gs) + groups_value gs
+    ≡ value * 2 ^ (16 * suc (length gs)) + ((0 * 65536 + next) * 2 ^ (16 * length gs) + groups_value gs) =
+    scaled value next (2 ^ (16 * length gs)) (2 ^ (16 * suc (length gs))) (groups_value gs) shift in
     here ∙ step ∙ ap (λ v. value * 2 ^ (16 * suc (length gs)) + v) (sym alone)
 
 zeros_value : (n : ℕ) → fold (λ v g. v * 65536 + g) 0 (replicate n 0) ≡ 0
 zeros_value zero = refl
 zeros_value (suc n) = zeros_value n
 
-pub around_value : (front back : List ℕ) (n : ℕ) → n + length front + length back ≡ 8 → groups_value (front ++ (replicate n 0 ++ back)) ≡ groups_value front * 2 ^ (16 * (8 - length front)) + groups_value back
+pub around_value : (front back : List ℕ) (n : ℕ)
+    → n + length front + length back ≡ 8
+    → groups_value (front ++ (replicate n 0 ++ back)) ≡ groups_value front * 2 ^ (16 * (8 - length front)) + groups_value back
 unfolding groups_value
 around_value front back n e =
     let len : length (replicate n 0 ++ back) ≡ 8 - length front = omega (arith, length-append {A = ℕ} (replicate n 0) back, length-replicate {A = ℕ} n 0) in
@@ -182,7 +203,9 @@ around_value front back n e =
     ∙ ap (λ k. groups_value front * 2 ^ (16 * k) + groups_value (replicate n 0 ++ back)) len
     ∙ ap (λ v. groups_value front * 2 ^ (16 * (8 - length front)) + v) (fold-append (λ v g. v * 65536 + g) 0 (replicate n 0) back ∙ ap (λ v. fold (λ w g. w * 65536 + g) v back) (zeros_value n))
 
-pub sides_read : (fo bo : Option (List ℕ)) → option_and_then (λ front. option_and_then (λ back. around front back) (groups_upto bo)) (groups_upto fo) ≡ option_and_then (λ front. option_and_then (λ back. address_around front back) bo) fo
+pub sides_read : (fo bo : Option (List ℕ))
+    → option_and_then (λ front. option_and_then (λ back. around front back) (groups_upto bo)) (groups_upto fo) ≡
+    option_and_then (λ front. option_and_then (λ back. address_around front back) bo) fo
 unfolding address_around
 sides_read None bo = refl
 sides_read (Some front) None = go (leb (length front) 8)
@@ -195,10 +218,20 @@ sides_read (Some front) (Some back) = go (leb (length front) 8) refl (leb (lengt
     spelled : List ℕ
     spelled = front ++ (replicate (8 - (length front + length back)) 0 ++ back)
 
-    go : (a : Bool) → leb (length front) 8 ≡ a → (b : Bool) → leb (length back) 8 ≡ b → (c : Bool) → leb (length front + length back) 7 ≡ c → option_and_then (λ f. option_and_then (λ g. around f g) (cond b (Some (record { count = length back; value = groups_value back })) None)) (cond a (Some (record { count = length front; value = groups_value front })) None) ≡ cond c (Some (groups_value spelled)) None
+    go : (a : Bool)
+        → leb (length front) 8 ≡ a
+        → (b : Bool)
+        → leb (length back) 8 ≡ b
+        → (c : Bool)
+        → leb (length front + length back) 7 ≡ c
+        → option_and_then
+        (λ f. option_and_then (λ g. around f g) (cond b (Some (record { count = length back; value = groups_value back })) None))
+        (cond a (Some (record { count = length front; value = groups_value front })) None) ≡
+        cond c (Some (groups_value spelled)) None
     go true e true f true g =
         let few = leb-true (length front + length back) 7 g in
-        ap (λ d. cond d (Some (groups_value front * 2 ^ (16 * (8 - length front)) + groups_value back)) None) g ∙ ap Some (sym (around_value front back (8 - (length front + length back)) (omega arith)))
+        ap (λ d. cond d (Some (groups_value front * 2 ^ (16 * (8 - length front)) + groups_value back)) None) g
+        ∙ ap Some (sym (around_value front back (8 - (length front + length back)) (omega arith)))
     go true e true f false g = ap (λ d. cond d (Some (groups_value front * 2 ^ (16 * (8 - length front)) + groups_value back)) None) g
     go true e false f true g = absurd (omega (arith, leb-false (length back) 8 f, leb-true (length front + length back) 7 g))
     go true e false f false g = refl
@@ -227,11 +260,20 @@ around_fits f b v w few h k =
 -- the place of the first `::`, from a place on
 pub gap_place-here : (text : List ℕ) (i : ℕ) → i < length text → starts_with nat_eq (drop i text) (codes "::") ≡ true → gap_place (drop i text) ≡ Some 0
 unfolding gap_place
-gap_place-here text i h e = at_drop_more gap_place text i 0 h ∙ ap (λ b. cond b (Some 0) (option_map (λ place. 1 + place) (gap_place (drop (i + 1) text)))) (sym (at_drop_more (λ xs. starts_with nat_eq xs (codes "::")) text i 0 h) ∙ e)
+gap_place-here text i h e =
+    at_drop_more gap_place text i 0 h
+    ∙ ap (λ b. cond b (Some 0) (option_map (λ place. 1 + place) (gap_place (drop (i + 1) text))))
+    (sym (at_drop_more (λ xs. starts_with nat_eq xs (codes "::")) text i 0 h) ∙ e)
 
-pub gap_place-on : (text : List ℕ) (i : ℕ) → i < length text → starts_with nat_eq (drop i text) (codes "::") ≡ false → gap_place (drop i text) ≡ option_map (λ place. 1 + place) (gap_place (drop (i + 1) text))
+pub gap_place-on : (text : List ℕ) (i : ℕ)
+    → i < length text
+    → starts_with nat_eq (drop i text) (codes "::") ≡ false
+    → gap_place (drop i text) ≡ option_map (λ place. 1 + place) (gap_place (drop (i + 1) text))
 unfolding gap_place
-gap_place-on text i h e = at_drop_more gap_place text i 0 h ∙ ap (λ b. cond b (Some 0) (option_map (λ place. 1 + place) (gap_place (drop (i + 1) text)))) (sym (at_drop_more (λ xs. starts_with nat_eq xs (codes "::")) text i 0 h) ∙ e)
+gap_place-on text i h e =
+    at_drop_more gap_place text i 0 h
+    ∙ ap (λ b. cond b (Some 0) (option_map (λ place. 1 + place) (gap_place (drop (i + 1) text))))
+    (sym (at_drop_more (λ xs. starts_with nat_eq xs (codes "::")) text i 0 h) ∙ e)
 
 pub gap_place-end : (text : List ℕ) (i : ℕ) → length text ≤ i → gap_place (drop i text) ≡ None
 unfolding gap_place
@@ -284,10 +326,25 @@ groups-some [] h = absurd (omega arith)
 groups-some (byte ∷ rest) h = joined_groups (slice_split (λ b. b == 58) (byte ∷ rest))
 
 -- an address with a gap, and one without
-pub colons-gap : (text front back : List ℕ) → Some (front, back) ≡ gap text → colons text ≡ option_and_then (λ f. option_and_then (λ b. around f b) (groups_upto (groups back))) (groups_upto (groups front))
+pub colons-gap : (text front back : List ℕ)
+    → Some (front, back) ≡ gap text
+    → colons text ≡
+    option_and_then (λ f. option_and_then (λ b. around f b) (groups_upto (groups back))) (groups_upto (groups front))
 unfolding colons
-colons-gap text front back e = ap (λ o. elim o as (λ _. Option ℕ) [ None ↦ option_and_then address_of (groups text) | Some sides ↦ option_and_then (λ front. option_and_then (λ back. address_around front back) (groups sides.1)) (groups sides.0) ]) (sym e) ∙ sym (sides_read (groups front) (groups back))
+colons-gap text front back e =
+    ap (λ o. elim o as (λ _. Option ℕ) [
+      | None ↦ option_and_then address_of (groups text)
+      | Some sides ↦
+          option_and_then (λ front. option_and_then (λ back. address_around front back) (groups sides.1)) (groups sides.0)
+    ]) (sym e)
+    ∙ sym (sides_read (groups front) (groups back))
 
 pub colons-whole : (text : List ℕ) → None ≡ gap text → colons text ≡ option_and_then whole (groups_upto (groups text))
 unfolding colons
-colons-whole text e = ap (λ o. elim o as (λ _. Option ℕ) [ None ↦ option_and_then address_of (groups text) | Some sides ↦ option_and_then (λ front. option_and_then (λ back. address_around front back) (groups sides.1)) (groups sides.0) ]) (sym e) ∙ sym (whole_read (groups text))
+colons-whole text e =
+    ap (λ o. elim o as (λ _. Option ℕ) [
+      | None ↦ option_and_then address_of (groups text)
+      | Some sides ↦
+          option_and_then (λ front. option_and_then (λ back. address_around front back) (groups sides.1)) (groups sides.0)
+    ]) (sym e)
+    ∙ sym (whole_read (groups text))

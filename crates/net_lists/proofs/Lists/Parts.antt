@@ -1,5 +1,7 @@
 -- What the reader of lists gives is what the grammar spells, and the other way round.
-use Rattle.std.proofs.Common.{◌≡◌, ℕ, suc, ◌+◌, ◌-◌, ◌<◌, ◌≤◌, ◌==◌, leb, Bool, true, false, cond, ◌&&◌, List, [], ◌∷◌, ◌++◌, length, take, get_or, Option, Some, None, refl, sym, ap, subst, ◌∙◌, arith, codes, bytes_eq, length-append}
+use Rattle.std.proofs.Common.{◌≡◌, ℕ, suc, ◌+◌, ◌-◌, ◌<◌, ◌≤◌, ◌==◌, leb, Bool, true, false, cond, ◌&&◌, List, [], ◌∷◌, ◌++◌}
+use Rattle.std.proofs.Common.{length, take, get_or, Option, Some, None, refl, sym, ap, subst, ◌∙◌, arith, codes, bytes_eq}
+use Rattle.std.proofs.Common.{length-append}
 use Rattle.std.specs.Option.{option_map}
 use Rattle.std.proofs.lemmas.Bool.{eqb-true, eq-eqb, ne_eqb, le-leb}
 use Rattle.std.proofs.lemmas.List.{take_more, take_all, take_at, get_or_at}
@@ -44,14 +46,19 @@ bracketed_is (first ∷ []) inner e = absurd (none_some e)
 bracketed_is (first ∷ second ∷ rest) inner e =
     let text = first ∷ second ∷ rest in
     let back = second ∷ rest in
-    let h = taken ((leb 2 (length text) && (first == 91)) && (get_or text (length text - 1) 0 == 93)) (Some (take (length text - 2) back)) inner e in
+    let h =
+    taken ((leb 2 (length text) && (first == 91)) && (get_or text (length text - 1) 0 == 93))
+    (Some (take (length text - 2) back)) inner e in
     let opens : first ≡ 91 = eqb-true first 91 (second_so (leb 2 (length text)) (first == 91) (first_so _ _ h.0)) in
     let closes : get_or text (length text - 1) 0 ≡ 93 = eqb-true _ 93 (second_so _ _ h.0) in
     let fewer : length text - 1 ≡ suc (length back - 1) = omega arith in
     let last : get_or back (length back - 1) 0 ≡ 93 = ap (λ k. get_or text k 0) (sym fewer) ∙ closes in
     let size : length back - 1 ≡ length text - 2 = omega arith in
     let is : take (length text - 2) back ≡ inner = cc in
-    ap (λ b. b ∷ back) opens ∙ ap (λ xs. 91 ∷ xs) (ended back (omega arith) ∙ ap (λ b. take (length back - 1) back ++ (b ∷ [])) last ∙ ap (λ n. take n back ++ (93 ∷ [])) size ∙ ap (λ xs. xs ++ (93 ∷ [])) is)
+    ap (λ b. b ∷ back) opens
+    ∙ ap (λ xs. 91 ∷ xs)
+    (ended back (omega arith) ∙ ap (λ b. take (length back - 1) back ++ (b ∷ [])) last ∙ ap (λ n. take n back ++ (93 ∷ [])) size ∙
+    ap (λ xs. xs ++ (93 ∷ [])) is)
 
 module _ {B : Type 0} (reads : List ℕ → Option B) where
   -- an operand that was read: a part, or a group in brackets
@@ -59,7 +66,14 @@ module _ {B : Type 0} (reads : List ℕ → Option B) where
   unfolding operand_parts group_parts
   list_of_operand text parts e = go (bracketed text) refl e
     where
-      go : (o : Option (List ℕ)) → bracketed text ≡ o → elim o as (λ _. Option (List (Part B))) [ None ↦ option_map (λ bounds. signed false bounds ∷ []) (reads text) | Some inner ↦ group_parts reads false inner ] ≡ Some parts → IsList reads text parts
+      go : (o : Option (List ℕ))
+          → bracketed text ≡ o
+          → elim o as (λ _. Option (List (Part B))) [
+            | None ↦ option_map (λ bounds. signed false bounds ∷ []) (reads text)
+            | Some inner ↦ group_parts reads false inner
+          ] ≡
+          Some parts
+          → IsList reads text parts
       go None b h =
           let found = mapped (λ bounds. signed false bounds ∷ []) (reads text) parts h in
           let is : signed false found.0 ∷ [] ≡ parts = some_same _ _ (ap (option_map (λ bounds. signed false bounds ∷ [])) (sym found.1) ∙ h) in
@@ -70,7 +84,14 @@ module _ {B : Type 0} (reads : List ℕ → Option B) where
   unfolding operand_parts group_parts
   list_of_negated text parts e = go (bracketed text) refl e
     where
-      go : (o : Option (List ℕ)) → bracketed text ≡ o → elim o as (λ _. Option (List (Part B))) [ None ↦ option_map (λ bounds. signed true bounds ∷ []) (reads text) | Some inner ↦ group_parts reads true inner ] ≡ Some parts → IsList reads (33 ∷ text) parts
+      go : (o : Option (List ℕ))
+          → bracketed text ≡ o
+          → elim o as (λ _. Option (List (Part B))) [
+            | None ↦ option_map (λ bounds. signed true bounds ∷ []) (reads text)
+            | Some inner ↦ group_parts reads true inner
+          ] ≡
+          Some parts
+          → IsList reads (33 ∷ text) parts
       go None b h =
           let found = mapped (λ bounds. signed true bounds ∷ []) (reads text) parts h in
           let is : signed true found.0 ∷ [] ≡ parts = some_same _ _ (ap (option_map (λ bounds. signed true bounds ∷ [])) (sym found.1) ∙ h) in
@@ -104,8 +125,10 @@ module _ {B : Type 0} (reads : List ℕ → Option B) where
     not_bracketed [] bounds e = refl
     not_bracketed (first ∷ rest) bounds e =
         let start = are_parts.starts first rest bounds e in
-        ap (λ b. cond ((leb 2 (length (first ∷ rest)) && b) && (get_or (first ∷ rest) (length (first ∷ rest) - 1) 0 == 93)) (Some (take (length (first ∷ rest) - 2) rest)) None) (ne_eqb first 91 start.no_bracket)
-        ∙ never (leb 2 (length (first ∷ rest))) (get_or (first ∷ rest) (length (first ∷ rest) - 1) 0 == 93) (take (length (first ∷ rest) - 2) rest)
+        ap (λ b. cond ((leb 2 (length (first ∷ rest)) && b) && (get_or (first ∷ rest) (length (first ∷ rest) - 1) 0 == 93))
+        (Some (take (length (first ∷ rest) - 2) rest)) None) (ne_eqb first 91 start.no_bracket)
+        ∙ never (leb 2 (length (first ∷ rest))) (get_or (first ∷ rest) (length (first ∷ rest) - 1) 0 == 93)
+        (take (length (first ∷ rest) - 2) rest)
       where
         never : (a b : Bool) (xs : List ℕ) → cond ((a && false) && b) (Some xs) None ≡ None
         never true b xs = refl
@@ -114,13 +137,21 @@ module _ {B : Type 0} (reads : List ℕ → Option B) where
     operand_parts-part : (negated : Bool) (text : List ℕ) (bounds : B) → reads text ≡ Some bounds → operand_parts reads negated text ≡ Some (signed negated bounds ∷ [])
     unfolding operand_parts
     operand_parts-part negated text bounds e =
-        ap (λ o. elim o as (λ _. Option (List (Part B))) [ None ↦ option_map (λ bounds. signed negated bounds ∷ []) (reads text) | Some inner ↦ group_parts reads negated inner ]) (not_bracketed text bounds e)
+        ap (λ o. elim o as (λ _. Option (List (Part B)))
+        [ None ↦ option_map (λ bounds. signed negated bounds ∷ []) (reads text) | Some inner ↦ group_parts reads negated inner ])
+        (not_bracketed text bounds e)
         ∙ ap (option_map (λ bounds. signed negated bounds ∷ [])) e
 
-    operand_parts-brackets : (negated : Bool) (inner : List ℕ) (parts : List (Part B)) → group_parts reads negated inner ≡ Some parts → operand_parts reads negated (91 ∷ (inner ++ (93 ∷ []))) ≡ Some parts
+    operand_parts-brackets : (negated : Bool) (inner : List ℕ) (parts : List (Part B))
+        → group_parts reads negated inner ≡ Some parts
+        → operand_parts reads negated (91 ∷ (inner ++ (93 ∷ []))) ≡ Some parts
     unfolding operand_parts
     operand_parts-brackets negated inner parts e =
-        ap (λ o. elim o as (λ _. Option (List (Part B))) [ None ↦ option_map (λ bounds. signed negated bounds ∷ []) (reads (91 ∷ (inner ++ (93 ∷ [])))) | Some inner ↦ group_parts reads negated inner ]) (bracketed-brackets inner) ∙ e
+        ap (λ o. elim o as (λ _. Option (List (Part B))) [
+          | None ↦ option_map (λ bounds. signed negated bounds ∷ []) (reads (91 ∷ (inner ++ (93 ∷ []))))
+          | Some inner ↦ group_parts reads negated inner
+        ]) (bracketed-brackets inner)
+        ∙ e
 
     list_parts-part : (text : List ℕ) (bounds : B) → reads text ≡ Some bounds → list_parts reads text ≡ Some (signed false bounds ∷ [])
     unfolding list_parts signed_parts
@@ -145,7 +176,12 @@ module _ {B : Type 0} (reads : List ℕ → Option B) where
     read (brackets_negated inner {parts} d) = operand_parts-brackets true inner parts (accepts_group reads true (symbols inner) parts d 1 refl)
 
     -- the answers of a reader
-    pub answer_ok : (text : List ℕ) (list : List (Part B)) → list_parts reads text ≡ Some list → length list ≤ 1024 → (parts : List (Part B)) → IsList reads text parts → (list ≡ parts) × (length parts ≤ 1024)
+    pub answer_ok : (text : List ℕ) (list : List (Part B))
+        → list_parts reads text ≡ Some list
+        → length list ≤ 1024
+        → (parts : List (Part B))
+        → IsList reads text parts
+        → (list ≡ parts) × (length parts ≤ 1024)
     answer_ok text list e short parts d =
         let same : list ≡ parts = some_same _ _ (sym e ∙ read d) in
         (same, subst (λ ps. length ps ≤ 1024) same short)

@@ -1,5 +1,6 @@
 -- A part is no `any`, and begins with no `!` and no `[`.
-use Rattle.std.proofs.Common.{◌≡◌, ℕ, suc, ◌+◌, ◌≤◌, ◌==◌, ◌⊎◌, inl, inr, ltb, leb, Bool, true, false, not, cond, ◌&&◌, List, [], ◌∷◌, length, take, drop, Option, Some, None, refl, sym, ap, ◌∙◌, arith, codes, nat_eq}
+use Rattle.std.proofs.Common.{◌≡◌, ℕ, suc, ◌+◌, ◌≤◌, ◌==◌, ◌⊎◌, inl, inr, ltb, leb, Bool, true, false, not, cond, ◌&&◌, List, []}
+use Rattle.std.proofs.Common.{◌∷◌, length, take, drop, Option, Some, None, refl, sym, ap, ◌∙◌, arith, codes, nat_eq}
 use Rattle.std.specs.Option.{option_map, option_and_then}
 use Rattle.std.specs.List.{list_all, prefix_len, slice_split, onto_first, starts_with}
 use Rattle.std.specs.Char.{is_ascii_digit, is_ascii_hexdigit}
@@ -12,7 +13,8 @@ use Rattle.edge_io.specs.declared.address.Addr.TheVariants.{V4, V6}
 use Rattle.net_lists.specs.declared.part.Bounds.{Bounds}
 use Rattle.net_lists.specs.declared.part.AddrBounds.{AddrBounds}
 use Rattle.net_lists.specs.declared.network.Network.{Network}
-use Rattle.net_lists.specs.Addresses.{cut, hex_value, octet, dotted, group, groups_of, groups, gap_place, gap, address_of, address_around, colons, address, bits_of, network_at, network, address_bounds}
+use Rattle.net_lists.specs.Addresses.{cut, hex_value, octet, dotted, group, groups_of, groups, gap_place, gap, address_of}
+use Rattle.net_lists.specs.Addresses.{address_around, colons, address, bits_of, network_at, network, address_bounds}
 use Rattle.net_lists.specs.Parts.{port_end, between_ends, port_bounds}
 
 -- a digit, or a byte after the digits and before the letters
@@ -98,7 +100,9 @@ no_octet value e = no_digits 255 value e
 split : List ℕ → ℕ → List ℕ × List ℕ
 split text place = (take place text, drop (place + 1) text)
 
-at_place : (text : List ℕ) (place : ℕ) (within : Bool) (parts : List ℕ × List ℕ) → option_map (λ n. (take n text, drop (n + 1) text)) (cond within (Some place) None) ≡ Some parts → take place text ≡ parts.0
+at_place : (text : List ℕ) (place : ℕ) (within : Bool) (parts : List ℕ × List ℕ)
+    → option_map (λ n. (take n text, drop (n + 1) text)) (cond within (Some place) None) ≡ Some parts
+    → take place text ≡ parts.0
 at_place text place true parts e = cc
 at_place text place false parts e = absurd (none_some e)
 
@@ -107,7 +111,13 @@ cut_head : (at byte : ℕ) (rest : List ℕ) (parts : List ℕ × List ℕ) → 
 unfolding cut
 cut_head at byte rest parts e = go (byte == at) refl e
   where
-    go : (b : Bool) → (byte == at) ≡ b → option_map (λ place. (take place (byte ∷ rest), drop (place + 1) (byte ∷ rest))) (cond (ltb (cond (not b) (1 + prefix_len (λ x. not (x == at)) rest) 0) (length (byte ∷ rest))) (Some (cond (not b) (1 + prefix_len (λ x. not (x == at)) rest) 0)) None) ≡ Some parts → ((parts.0 ≡ []) × (byte ≡ at)) ⊎ ((front : List ℕ) × (parts.0 ≡ byte ∷ front))
+    go : (b : Bool)
+        → (byte == at) ≡ b
+        → option_map (λ place. (take place (byte ∷ rest), drop (place + 1) (byte ∷ rest)))
+        (cond (ltb (cond (not b) (1 + prefix_len (λ x. not (x == at)) rest) 0) (length (byte ∷ rest)))
+        (Some (cond (not b) (1 + prefix_len (λ x. not (x == at)) rest) 0)) None) ≡
+        Some parts
+        → ((parts.0 ≡ []) × (byte ≡ at)) ⊎ ((front : List ℕ) × (parts.0 ≡ byte ∷ front))
     go true same h = inl (sym (at_place (byte ∷ rest) 0 (ltb 0 (length (byte ∷ rest))) parts h), eqb-true byte at same)
     go false same h =
         let n = prefix_len (λ x. not (x == at)) rest in
@@ -142,7 +152,10 @@ groups_of_refused piece pieces e = ap (option_and_then (λ first. option_and_the
 -- a text that begins with no hexadecimal digit and no colon has no groups
 group_refused : (byte : ℕ) (rest : List ℕ) → is_ascii_hexdigit byte ≡ false → group (byte ∷ rest) ≡ None
 unfolding group
-group_refused byte rest e = ap (λ h. cond ((leb 1 (length (byte ∷ rest)) && leb (length (byte ∷ rest)) 4) && (h && list_all is_ascii_hexdigit rest)) (Some (hex_value (byte ∷ rest))) None) e ∙ go (leb 1 (length (byte ∷ rest)) && leb (length (byte ∷ rest)) 4)
+group_refused byte rest e =
+    ap (λ h. cond ((leb 1 (length (byte ∷ rest)) && leb (length (byte ∷ rest)) 4) && (h && list_all is_ascii_hexdigit rest))
+    (Some (hex_value (byte ∷ rest))) None) e
+    ∙ go (leb 1 (length (byte ∷ rest)) && leb (length (byte ∷ rest)) 4)
   where
     go : (b : Bool) → cond (b && false) (Some (hex_value (byte ∷ rest))) None ≡ None
     go true = refl
@@ -165,14 +178,31 @@ no_gap byte rest c = ap (λ b. b && starts_with nat_eq rest (codes ":")) (ne_eqb
 colons_refused : (byte : ℕ) (rest : List ℕ) → (byte == 58) ≡ false → is_ascii_hexdigit byte ≡ false → colons (byte ∷ rest) ≡ None
 unfolding colons gap gap_place
 colons_refused byte rest c h =
-    ap (λ b. elim (option_map {T = ℕ} {U = List ℕ × List ℕ} (λ place. (take place (byte ∷ rest), drop (place + 2) (byte ∷ rest))) (cond b (Some 0) (option_map (λ place. 1 + place) (gap_place rest)))) as (λ _. Option ℕ) [ None ↦ option_and_then address_of (groups (byte ∷ rest)) | Some sides ↦ option_and_then (λ front. option_and_then (λ back. address_around front back) (groups sides.1)) (groups sides.0) ]) (no_gap byte rest c)
+    ap (λ b. elim
+    (option_map {T = ℕ} {U = List ℕ × List ℕ} (λ place. (take place (byte ∷ rest), drop (place + 2) (byte ∷ rest)))
+    (cond b (Some 0) (option_map (λ place. 1 + place) (gap_place rest))))
+    as (λ _. Option ℕ) [
+      | None ↦ option_and_then address_of (groups (byte ∷ rest))
+      | Some sides ↦
+          option_and_then (λ front. option_and_then (λ back. address_around front back) (groups sides.1)) (groups sides.0)
+    ])
+    (no_gap byte rest c)
     ∙ go (gap_place rest)
   where
-    go : (o : Option ℕ) → elim (option_map {T = ℕ} {U = List ℕ × List ℕ} (λ place. (take place (byte ∷ rest), drop (place + 2) (byte ∷ rest))) (option_map (λ place. 1 + place) o)) as (λ _. Option ℕ) [ None ↦ option_and_then address_of (groups (byte ∷ rest)) | Some sides ↦ option_and_then (λ front. option_and_then (λ back. address_around front back) (groups sides.1)) (groups sides.0) ] ≡ None
+    go : (o : Option ℕ)
+        → elim (option_map {T = ℕ} {U = List ℕ × List ℕ} (λ place. (take place (byte ∷ rest), drop (place + 2) (byte ∷ rest)))
+        (option_map (λ place. 1 + place) o)) as (λ _. Option ℕ) [
+          | None ↦ option_and_then address_of (groups (byte ∷ rest))
+          | Some sides ↦
+              option_and_then (λ front. option_and_then (λ back. address_around front back) (groups sides.1)) (groups sides.0)
+        ] ≡
+        None
     go None = ap (option_and_then address_of) (groups_refused byte rest c h)
     go (Some n) =
         let one_more : 1 + n ≡ suc n = omega arith in
-        ap (option_and_then (λ front. option_and_then (λ back. address_around front back) (groups (drop (1 + n + 2) (byte ∷ rest))))) (ap (λ k. groups (take k (byte ∷ rest))) one_more ∙ groups_refused byte (take n rest) c h)
+        ap
+        (option_and_then (λ front. option_and_then (λ back. address_around front back) (groups (drop (1 + n + 2) (byte ∷ rest)))))
+        (ap (λ k. groups (take k (byte ∷ rest))) one_more ∙ groups_refused byte (take n rest) c h)
 
 colons_start : (byte : ℕ) (rest : List ℕ) (value : ℕ) → colons (byte ∷ rest) ≡ Some value → IsPlain byte
 colons_start byte rest value e = record {
@@ -208,7 +238,15 @@ network_start : (byte : ℕ) (rest : List ℕ) (net : Network) → network (byte
 unfolding network
 network_start byte rest net e = go (cut 47 (byte ∷ rest)) refl e
   where
-    go : (o : Option (List ℕ × List ℕ)) → cut 47 (byte ∷ rest) ≡ o → elim o as (λ _. Option Network) [ None ↦ option_map (λ whole. network_at whole (bits_of whole)) (address (byte ∷ rest)) | Some part ↦ option_and_then (λ whole. option_map (network_at whole) (number_in 0 (bits_of whole) part.1)) (address part.0) ] ≡ Some net → IsPlain byte
+    go : (o : Option (List ℕ × List ℕ))
+        → cut 47 (byte ∷ rest) ≡ o
+        → elim o as (λ _. Option Network) [
+          | None ↦ option_map (λ whole. network_at whole (bits_of whole)) (address (byte ∷ rest))
+          | Some part ↦
+              option_and_then (λ whole. option_map (network_at whole) (number_in 0 (bits_of whole) part.1)) (address part.0)
+        ] ≡
+        Some net
+        → IsPlain byte
     go None c h = let found = mapped _ (address (byte ∷ rest)) net h in address_start byte rest found.0 found.1
     go (Some part) c h = let found = bound _ (address part.0) net h in prefixed byte rest part.0 found.0 (cut_head 47 byte rest part c) found.1
 
@@ -235,7 +273,14 @@ port_bounds_start : (byte : ℕ) (rest : List ℕ) (bounds : Bounds ℕ) → por
 unfolding port_bounds between_ends
 port_bounds_start byte rest bounds e = go (cut 58 (byte ∷ rest)) refl e
   where
-    go : (o : Option (List ℕ × List ℕ)) → cut 58 (byte ∷ rest) ≡ o → elim o as (λ _. Option (Bounds ℕ)) [ None ↦ option_map (λ port. record { low = port; high = port }) (number_in 0 65535 (byte ∷ rest)) | Some part ↦ between_ends part ] ≡ Some bounds → IsStart byte
+    go : (o : Option (List ℕ × List ℕ))
+        → cut 58 (byte ∷ rest) ≡ o
+        → elim o as (λ _. Option (Bounds ℕ)) [
+          | None ↦ option_map (λ port. record { low = port; high = port }) (number_in 0 65535 (byte ∷ rest))
+          | Some part ↦ between_ends part
+        ] ≡
+        Some bounds
+        → IsStart byte
     go None c h = let port = mapped _ (number_in 0 65535 (byte ∷ rest)) bounds h in number_start 0 65535 byte rest port.0 port.1
     go (Some part) c h = let low = bound _ (port_end 0 part.0) bounds h in end_start byte rest part.0 low.0 (cut_head 58 byte rest part c) low.1
 

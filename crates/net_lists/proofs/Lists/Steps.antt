@@ -22,7 +22,9 @@ before-before front back None = refl
 before-before front back (Some rest) = ap Some (sym (append_assoc front back rest))
 
 -- what comes after parts that were read
-pub before_some : {B : Type 0} (parts : List (Part B)) (rest : Option (List (Part B))) (whole : List (Part B)) → before parts rest ≡ Some whole → (others : List (Part B)) × (rest ≡ Some others) × (whole ≡ parts ++ others)
+pub before_some : {B : Type 0} (parts : List (Part B)) (rest : Option (List (Part B))) (whole : List (Part B))
+    → before parts rest ≡ Some whole
+    → (others : List (Part B)) × (rest ≡ Some others) × (whole ≡ parts ++ others)
 before_some parts None whole e = cc
 before_some parts (Some rest) whole e = (rest, refl, cc)
 
@@ -52,21 +54,39 @@ opened-closed wanted.Separator sign negated s = absurd s
 
 module _ {B : Type 0} (reads : List ℕ → Option B) where
   -- where an operand is wanted
-  pub run-word : (w : Wanted) (depth negated : ℕ) (sign : Bool) (word : List ℕ) (rest : List Symbol) → MayCome w negated sign → run reads (at w depth negated) (Word word ∷ rest) ≡ option_and_then (λ bounds. before (signed sign bounds ∷ []) (run reads (at wanted.Separator depth negated) rest)) (reads word)
+  pub run-word : (w : Wanted) (depth negated : ℕ) (sign : Bool) (word : List ℕ) (rest : List Symbol)
+      → MayCome w negated sign
+      → run reads (at w depth negated) (Word word ∷ rest) ≡
+      option_and_then (λ bounds. before (signed sign bounds ∷ []) (run reads (at wanted.Separator depth negated) rest))
+      (reads word)
   unfolding run after_word
   run-word wanted.Item depth negated sign word rest s =
-      elim (reads word) as (λ o. elim (option_map {U = Step B} (λ bounds. record { place = at wanted.Separator depth negated; part = Some (signed (ltb 0 negated) bounds) }) o) as (λ _. Option (List (Part B))) [ None ↦ None | Some step ↦ before (option_to_list step.part) (run reads step.place rest) ] ≡ option_and_then (λ bounds. before (signed sign bounds ∷ []) (run reads (at wanted.Separator depth negated) rest)) o) [
+      elim (reads word) as
+      (λ o. elim
+      (option_map {U = Step B}
+      (λ bounds. record { place = at wanted.Separator depth negated; part = Some (signed (ltb 0 negated) bounds) }) o)
+      as (λ _. Option (List (Part B)))
+      [ None ↦ None | Some step ↦ before (option_to_list step.part) (run reads step.place rest) ] ≡
+      option_and_then (λ bounds. before (signed sign bounds ∷ []) (run reads (at wanted.Separator depth negated) rest)) o) [
         | None ↦ refl
         | Some bounds ↦ ap (λ b. before (signed b bounds ∷ []) (run reads (at wanted.Separator depth negated) rest)) s
       ]
   run-word wanted.Operand depth negated sign word rest s =
-      elim (reads word) as (λ o. elim (option_map {U = Step B} (λ bounds. record { place = at wanted.Separator depth negated; part = Some (signed true bounds) }) o) as (λ _. Option (List (Part B))) [ None ↦ None | Some step ↦ before (option_to_list step.part) (run reads step.place rest) ] ≡ option_and_then (λ bounds. before (signed sign bounds ∷ []) (run reads (at wanted.Separator depth negated) rest)) o) [
+      elim (reads word) as
+      (λ o. elim
+      (option_map {U = Step B} (λ bounds. record { place = at wanted.Separator depth negated; part = Some (signed true bounds) })
+      o)
+      as (λ _. Option (List (Part B)))
+      [ None ↦ None | Some step ↦ before (option_to_list step.part) (run reads step.place rest) ] ≡
+      option_and_then (λ bounds. before (signed sign bounds ∷ []) (run reads (at wanted.Separator depth negated) rest)) o) [
         | None ↦ refl
         | Some bounds ↦ ap (λ b. before (signed b bounds ∷ []) (run reads (at wanted.Separator depth negated) rest)) (sym s.1)
       ]
   run-word wanted.Separator depth negated sign word rest s = absurd s
 
-  pub run-open : (w : Wanted) (depth negated : ℕ) (sign : Bool) (rest : List Symbol) → MayCome w negated sign → run reads (at w depth negated) (Open ∷ rest) ≡ run reads (at wanted.Item (depth + 1) (opened sign negated)) rest
+  pub run-open : (w : Wanted) (depth negated : ℕ) (sign : Bool) (rest : List Symbol)
+      → MayCome w negated sign
+      → run reads (at w depth negated) (Open ∷ rest) ≡ run reads (at wanted.Item (depth + 1) (opened sign negated)) rest
   unfolding run after_open
   run-open wanted.Item depth negated sign rest s = before-nil _ ∙ ap (λ b. run reads (at wanted.Item (depth + 1) (cond b (negated + 1) 0)) rest) s
   run-open wanted.Operand depth negated sign rest s = before-nil _ ∙ ap (λ b. run reads (at wanted.Item (depth + 1) (cond b (negated + 1) 0)) rest) (sym s.1)
@@ -74,7 +94,13 @@ module _ {B : Type 0} (reads : List ℕ → Option B) where
 
   pub run-not : (depth negated : ℕ) (rest : List Symbol) → run reads (at wanted.Item depth negated) (Not ∷ rest) ≡ cond (negated == 0) (run reads (at wanted.Operand depth negated) rest) None
   unfolding run after_not
-  run-not depth negated rest = elim (negated == 0) as (λ b. elim (cond b (Some (no_part {B = B} (at wanted.Operand depth negated))) None) as (λ _. Option (List (Part B))) [ None ↦ None | Some step ↦ before (option_to_list step.part) (run reads step.place rest) ] ≡ cond b (run reads (at wanted.Operand depth negated) rest) None) [ true ↦ before-nil _ | false ↦ refl ]
+  run-not depth negated rest =
+      elim (negated == 0) as
+      (λ b. elim (cond b (Some (no_part {B = B} (at wanted.Operand depth negated))) None) as
+      (λ _. Option (List (Part B)))
+      [ None ↦ None | Some step ↦ before (option_to_list step.part) (run reads step.place rest) ] ≡
+      cond b (run reads (at wanted.Operand depth negated) rest) None)
+      [ true ↦ before-nil _ | false ↦ refl ]
 
   -- what may not come at a place
   pub run-end_wanted : (w : Wanted) (depth negated : ℕ) (sign : Bool) → MayCome w negated sign → run reads (at w depth negated) [] ≡ None
@@ -108,8 +134,11 @@ module _ {B : Type 0} (reads : List ℕ → Option B) where
   unfolding run after_close
   run-close depth negated rest =
       let e : suc depth - 1 ≡ depth = omega arith in
-      ap (λ b. elim (cond b None (Some (no_part {B = B} (at wanted.Separator (suc depth - 1) (negated - 1))))) as (λ _. Option (List (Part B))) [ None ↦ None | Some step ↦ before (option_to_list step.part) (run reads step.place rest) ]) (eqb-suc-zero depth)
-      ∙ before-nil (run reads (at wanted.Separator (suc depth - 1) (negated - 1)) rest) ∙ ap (λ d. run reads (at wanted.Separator d (negated - 1)) rest) e
+      ap (λ b. elim (cond b None (Some (no_part {B = B} (at wanted.Separator (suc depth - 1) (negated - 1))))) as
+      (λ _. Option (List (Part B)))
+      [ None ↦ None | Some step ↦ before (option_to_list step.part) (run reads step.place rest) ]) (eqb-suc-zero depth)
+      ∙ before-nil (run reads (at wanted.Separator (suc depth - 1) (negated - 1)) rest)
+      ∙ ap (λ d. run reads (at wanted.Separator d (negated - 1)) rest) e
 
   pub run-close_outer : (negated : ℕ) (rest : List Symbol) → run reads (at wanted.Separator 0 negated) (Close ∷ rest) ≡ None
   unfolding run after_close
@@ -140,7 +169,9 @@ module _ {B : Type 0} (reads : List ℕ → Option B) where
   unfolding run
   run-refused place symbol rest e = ap (λ o. elim o as (λ _. Option (List (Part B))) [ None ↦ None | Some step ↦ before (option_to_list step.part) (run reads step.place rest) ]) (sym e)
 
-  pub run-step : (place : Place) (symbol : Symbol) (rest : List Symbol) (step : Step B) → Some step ≡ step_of reads place symbol → run reads place (symbol ∷ rest) ≡ before (option_to_list step.part) (run reads step.place rest)
+  pub run-step : (place : Place) (symbol : Symbol) (rest : List Symbol) (step : Step B)
+      → Some step ≡ step_of reads place symbol
+      → run reads place (symbol ∷ rest) ≡ before (option_to_list step.part) (run reads step.place rest)
   unfolding run
   run-step place symbol rest step e = ap (λ o. elim o as (λ _. Option (List (Part B))) [ None ↦ None | Some step ↦ before (option_to_list step.part) (run reads step.place rest) ]) (sym e)
 
@@ -154,7 +185,11 @@ module _ {B : Type 0} (reads : List ℕ → Option B) where
 
   module _ (whole : Option (List (Part B))) (front : List (Part B)) (place : Place) (symbols : List Symbol) (so_far : whole ≡ before front (run reads place symbols)) where
     -- the reader in the code, a symbol on
-    pub goes_on : (symbol : Symbol) (rest : List Symbol) (step : Step B) (now : List (Part B)) → symbols ≡ symbol ∷ rest → Some step ≡ step_of reads place symbol → now ≡ front ++ option_to_list step.part → whole ≡ before now (run reads step.place rest)
+    pub goes_on : (symbol : Symbol) (rest : List Symbol) (step : Step B) (now : List (Part B))
+        → symbols ≡ symbol ∷ rest
+        → Some step ≡ step_of reads place symbol
+        → now ≡ front ++ option_to_list step.part
+        → whole ≡ before now (run reads step.place rest)
     goes_on symbol rest step now next e more =
         so_far ∙ ap (λ ss. before front (run reads place ss)) next ∙ ap (before front) (run-step place symbol rest step e)
         ∙ before-before front (option_to_list step.part) (run reads step.place rest) ∙ ap (λ ps. before ps (run reads step.place rest)) (sym more)

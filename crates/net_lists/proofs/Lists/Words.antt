@@ -14,7 +14,11 @@ pub symbols-blanks : (xs : List ℕ) → symbols (drop (prefix_len is_blank xs) 
 symbols-blanks [] = refl
 symbols-blanks (x ∷ xs) = go (is_blank x) refl (symbols-blanks xs)
   where
-    go : (b : Bool) → is_blank x ≡ b → symbols (drop (prefix_len is_blank xs) xs) ≡ symbols xs → symbols (drop (cond b (1 + prefix_len is_blank xs) 0) (x ∷ xs)) ≡ cond b (symbols xs) (put x (mark x) (begins_word xs) (symbols xs))
+    go : (b : Bool)
+        → is_blank x ≡ b
+        → symbols (drop (prefix_len is_blank xs) xs) ≡ symbols xs
+        → symbols (drop (cond b (1 + prefix_len is_blank xs) 0) (x ∷ xs)) ≡
+        cond b (symbols xs) (put x (mark x) (begins_word xs) (symbols xs))
     go true e more = rw one_more more
     go false e more = rw e refl
 
@@ -51,7 +55,12 @@ symbols-word (x ∷ xs) h = word_front x xs h ∙ go (begins_word xs) refl (symb
     here : prefix_len is_word_byte (x ∷ xs) ≡ suc (prefix_len is_word_byte xs)
     here = rw h (one_more _)
 
-    go : (b : Bool) → begins_word xs ≡ b → (begins_word xs ≡ true → symbols xs ≡ Word (take (prefix_len is_word_byte xs) xs) ∷ symbols (drop (prefix_len is_word_byte xs) xs)) → joined x b (symbols xs) ≡ Word (x ∷ take (prefix_len is_word_byte xs) xs) ∷ symbols (drop (prefix_len is_word_byte xs) xs)
+    go : (b : Bool)
+        → begins_word xs ≡ b
+        → (begins_word xs ≡ true →
+        symbols xs ≡ Word (take (prefix_len is_word_byte xs) xs) ∷ symbols (drop (prefix_len is_word_byte xs) xs))
+        → joined x b (symbols xs) ≡
+        Word (x ∷ take (prefix_len is_word_byte xs) xs) ∷ symbols (drop (prefix_len is_word_byte xs) xs)
     go true e more = ap (joined x true) (more e)
     go false e more = rw no_word refl
 

@@ -30,7 +30,14 @@ listed_of_6 value parts = verdict-map (has_address (addr.V6 value)) false false 
 pub ruleset verdicts = (listed_of_4, listed_of_6)
 
 -- a part more that is kept, after the last, and one that can't be
-pub kept_more : (parts : List (Part AddrBounds)) (i : ℕ) (part : Part AddrBounds) (kept : Part (Bounds ℕ)) (compact after : List (Part (Bounds ℕ))) → map with_version compact ≡ take i parts → i < length parts → part ≡ get_or parts i part → with_version kept ≡ part → after ≡ compact ++ kept ∷ [] → map with_version after ≡ take (i + 1) parts
+pub kept_more : (parts : List (Part AddrBounds)) (i : ℕ) (part : Part AddrBounds) (kept : Part (Bounds ℕ))
+    (compact after : List (Part (Bounds ℕ)))
+    → map with_version compact ≡ take i parts
+    → i < length parts
+    → part ≡ get_or parts i part
+    → with_version kept ≡ part
+    → after ≡ compact ++ kept ∷ []
+    → map with_version after ≡ take (i + 1) parts
 kept_more parts i part kept compact after so_far within here same pushed =
     ap (map with_version) pushed ∙ map-append with_version compact (kept ∷ [])
     ∙ ap (λ front. front ++ with_version kept ∷ []) so_far

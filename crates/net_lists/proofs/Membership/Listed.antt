@@ -1,5 +1,6 @@
 -- The verdict of one pass over the parts is membership.
-use Rattle.std.proofs.Common.{◌≡◌, ℕ, zero, suc, ◌+◌, ◌<◌, ◌≤◌, Bool, true, false, not, ◌&&◌, ◌||◌, ◌⊎◌, ◌↔◌, inl, inr, cond, leb, IsTrue, List, [], ◌∷◌, length, drop, get_or, All, Any, refl, sym, ap, subst, ◌∙◌, arith, ⊎_elim}
+use Rattle.std.proofs.Common.{◌≡◌, ℕ, zero, suc, ◌+◌, ◌<◌, ◌≤◌, Bool, true, false, not, ◌&&◌, ◌||◌, ◌⊎◌, ◌↔◌, inl, inr, cond, leb}
+use Rattle.std.proofs.Common.{IsTrue, List, [], ◌∷◌, length, drop, get_or, All, Any, refl, sym, ap, subst, ◌∙◌, arith, ⊎_elim}
 use Rattle.std.proofs.lemmas.List.{at_drop_more, drop_all}
 use Rattle.std.proofs.lemmas.Bool.{false≢true, leb-true, le-leb}
 use Rattle.std.proofs.lemmas.List.Elements.{All-cons}
@@ -14,7 +15,12 @@ use Rattle.net_lists.specs.Verdicts.{is_within, has_address, verdict, is_listed}
 
 module _ {B : Type 0} (has : B → Bool) where
   -- at a part, and after the last
-  pub verdict-stop : (found positive : Bool) (parts : List (Part B)) (i : ℕ) (part : Part B) → i < length parts → part ≡ get_or parts i part → has part.bounds ≡ true → part.negated ≡ true → verdict has found positive (drop i parts) ≡ false
+  pub verdict-stop : (found positive : Bool) (parts : List (Part B)) (i : ℕ) (part : Part B)
+      → i < length parts
+      → part ≡ get_or parts i part
+      → has part.bounds ≡ true
+      → part.negated ≡ true
+      → verdict has found positive (drop i parts) ≡ false
   unfolding verdict
   verdict-stop found positive parts i part h e t n =
       at_drop_more (verdict has found positive) parts i part h
@@ -22,7 +28,12 @@ module _ {B : Type 0} (has : B → Bool) where
       ∙ ap (λ b. cond (b && part.negated) false (verdict has (found || has part.bounds) (positive || not part.negated) (drop (i + 1) parts))) t
       ∙ ap (λ b. cond b false (verdict has (found || has part.bounds) (positive || not part.negated) (drop (i + 1) parts))) n
 
-  pub verdict-on : (found positive : Bool) (parts : List (Part B)) (i : ℕ) (part : Part B) → i < length parts → part ≡ get_or parts i part → (has part.bounds && part.negated) ≡ false → verdict has found positive (drop i parts) ≡ verdict has (found || has part.bounds) (positive || not part.negated) (drop (i + 1) parts)
+  pub verdict-on : (found positive : Bool) (parts : List (Part B)) (i : ℕ) (part : Part B)
+      → i < length parts
+      → part ≡ get_or parts i part
+      → (has part.bounds && part.negated) ≡ false
+      → verdict has found positive (drop i parts) ≡
+      verdict has (found || has part.bounds) (positive || not part.negated) (drop (i + 1) parts)
   unfolding verdict
   verdict-on found positive parts i part h e t =
       at_drop_more (verdict has found positive) parts i part h
@@ -93,7 +104,13 @@ module _ {B : Type 0} (has : B → Bool) (meant : B → Type 0) (yes : (b : B) �
   meant_of false false [] e = record { some = inr (inr (refl, All-nil IsNegated)); none = All-nil Miss }
   meant_of found positive (part ∷ parts) e = go (has part.bounds) refl part.negated refl (λ f p. meant_of f p parts) e
     where
-      go : (h : Bool) → has part.bounds ≡ h → (n : Bool) → part.negated ≡ n → ((f p : Bool) → verdict has f p parts ≡ true → Meant meant f p parts) → cond (h && n) false (verdict has (found || h) (positive || not n) parts) ≡ true → Meant meant found positive (part ∷ parts)
+      go : (h : Bool)
+          → has part.bounds ≡ h
+          → (n : Bool)
+          → part.negated ≡ n
+          → ((f p : Bool) → verdict has f p parts ≡ true → Meant meant f p parts)
+          → cond (h && n) false (verdict has (found || h) (positive || not n) parts) ≡ true
+          → Meant meant found positive (part ∷ parts)
       go true hs true ns more v = absurd (false≢true v)
       go true hs false ns more v = let m = more (found || true) (positive || true) v in record {
         some = inr (inl (Any-here Hit part parts (ns, yes part.bounds hs)));
@@ -104,7 +121,8 @@ module _ {B : Type 0} (has : B → Bool) (meant : B → Type 0) (yes : (b : B) �
         none = All-cons Miss part parts (λ negated. no part.bounds hs) m.none;
       }
         where
-          kept : ((found || false) ≡ true) ⊎ (Any Hit parts ⊎ (((positive || false) ≡ false) × All IsNegated parts)) → (found ≡ true) ⊎ (Any Hit (part ∷ parts) ⊎ ((positive ≡ false) × All IsNegated (part ∷ parts)))
+          kept : ((found || false) ≡ true) ⊎ (Any Hit parts ⊎ (((positive || false) ≡ false) × All IsNegated parts))
+              → (found ≡ true) ⊎ (Any Hit (part ∷ parts) ⊎ ((positive ≡ false) × All IsNegated (part ∷ parts)))
           kept (inl f) = inl (sym (or_false found) ∙ f)
           kept (inr (inl any)) = inr (inl (Any-there Hit part parts any))
           kept (inr (inr all)) = inr (inr (sym (or_false positive) ∙ all.0, All-cons IsNegated part parts ns all.1))
@@ -113,7 +131,8 @@ module _ {B : Type 0} (has : B → Bool) (meant : B → Type 0) (yes : (b : B) �
         none = All-cons Miss part parts (λ negated. no part.bounds hs) m.none;
       }
         where
-          kept : ((found || false) ≡ true) ⊎ (Any Hit parts ⊎ (((positive || true) ≡ false) × All IsNegated parts)) → (found ≡ true) ⊎ (Any Hit (part ∷ parts) ⊎ ((positive ≡ false) × All IsNegated (part ∷ parts)))
+          kept : ((found || false) ≡ true) ⊎ (Any Hit parts ⊎ (((positive || true) ≡ false) × All IsNegated parts))
+              → (found ≡ true) ⊎ (Any Hit (part ∷ parts) ⊎ ((positive ≡ false) × All IsNegated (part ∷ parts)))
           kept (inl f) = inl (sym (or_false found) ∙ f)
           kept (inr (inl any)) = inr (inl (Any-there Hit part parts any))
           kept (inr (inr all)) = absurd (false≢true (sym all.0 ∙ or_true positive))
@@ -133,18 +152,25 @@ module _ {B : Type 0} (has : B → Bool) (meant : B → Type 0) (yes : (b : B) �
       rest : All Miss parts
       rest = All-tail Miss part parts m.none
 
-      go : (h : Bool) → has part.bounds ≡ h → (n : Bool) → part.negated ≡ n → ((f p : Bool) → Meant meant f p parts → verdict has f p parts ≡ true) → cond (h && n) false (verdict has (found || h) (positive || not n) parts) ≡ true
+      go : (h : Bool)
+          → has part.bounds ≡ h
+          → (n : Bool)
+          → part.negated ≡ n
+          → ((f p : Bool) → Meant meant f p parts → verdict has f p parts ≡ true)
+          → cond (h && n) false (verdict has (found || h) (positive || not n) parts) ≡ true
       go true hs true ns more = absurd (All-head Miss part parts m.none ns (yes part.bounds hs))
       go true hs false ns more = more (found || true) (positive || true) (record { some = inl (or_true found); none = rest })
       go false hs true ns more = more (found || false) (positive || false) (record { some = left m.some; none = rest })
         where
-          left : (found ≡ true) ⊎ (Any Hit (part ∷ parts) ⊎ ((positive ≡ false) × All IsNegated (part ∷ parts))) → ((found || false) ≡ true) ⊎ (Any Hit parts ⊎ (((positive || false) ≡ false) × All IsNegated parts))
+          left : (found ≡ true) ⊎ (Any Hit (part ∷ parts) ⊎ ((positive ≡ false) × All IsNegated (part ∷ parts)))
+              → ((found || false) ≡ true) ⊎ (Any Hit parts ⊎ (((positive || false) ≡ false) × All IsNegated parts))
           left (inl f) = inl (or_false found ∙ f)
           left (inr (inl any)) = ⊎_elim (λ hit. absurd (false≢true (sym hit.0 ∙ ns))) (λ more. inr (inl more)) (Any-split Hit part parts any)
           left (inr (inr all)) = inr (inr (or_false positive ∙ all.0, All-tail IsNegated part parts all.1))
       go false hs false ns more = more (found || false) (positive || true) (record { some = left m.some; none = rest })
         where
-          left : (found ≡ true) ⊎ (Any Hit (part ∷ parts) ⊎ ((positive ≡ false) × All IsNegated (part ∷ parts))) → ((found || false) ≡ true) ⊎ (Any Hit parts ⊎ (((positive || true) ≡ false) × All IsNegated parts))
+          left : (found ≡ true) ⊎ (Any Hit (part ∷ parts) ⊎ ((positive ≡ false) × All IsNegated (part ∷ parts)))
+              → ((found || false) ≡ true) ⊎ (Any Hit parts ⊎ (((positive || true) ≡ false) × All IsNegated parts))
           left (inl f) = inl (or_false found ∙ f)
           left (inr (inl any)) = ⊎_elim (λ hit. absurd (no part.bounds hs hit.1)) (λ more. inr (inl more)) (Any-split Hit part parts any)
           left (inr (inr all)) = absurd (false≢true (sym ns ∙ All-head IsNegated part parts all.1))

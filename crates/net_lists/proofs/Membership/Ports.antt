@@ -61,10 +61,16 @@ module _ (port : ℕ) where
       let barred = list_any (λ part. part.negated && is_in port part) parts in
       let both = and_parts (positive || negated) (not barred) e in (
         ⊎_elim
-            (λ a. inl (any-tells (λ part. not part.negated && is_in port part) (λ part. IsPositive part × Has port part.bounds) positive-tells positive-from parts a))
+            (λ a. inl
+            (any-tells (λ part. not part.negated && is_in port part)
+            (λ part. IsPositive part × Has port part.bounds) positive-tells positive-from parts a))
             (λ b. inr (all-tells (λ part. part.negated) IsNegated (λ part n. n) (λ part n. n) parts b))
             (or_cases positive negated both.0),
-        λ k d h neg has. false≢true (sym (not-true barred both.1) ∙ any-from (λ part. part.negated && is_in port part) (λ part. IsNegated part × Has port part.bounds) barred-tells barred-from parts k (get_or parts k d) h (same parts k d (get_or parts k d) h) (neg, has)),
+        λ k d h neg has.
+            false≢true (sym (not-true barred both.1) ∙
+            any-from (λ part. part.negated && is_in port part)
+            (λ part. IsNegated part × Has port part.bounds) barred-tells barred-from parts k
+            (get_or parts k d) h (same parts k d (get_or parts k d) h) (neg, has)),
       )
     where
       same : (xs : List (Part (Bounds ℕ))) (k : ℕ) (d e : Part (Bounds ℕ)) → k < length xs → get_or xs k e ≡ get_or xs k d

@@ -27,11 +27,19 @@ positive-min least most cap number h = grind (arith, ints, nat_tests)
 negative-min : (least most : ℤ) (cap number : ℕ) → neg_ℤ (pos cap) <ℤ least → signed_kept_in least most (neg_ℤ (pos (min number cap))) ≡ signed_kept_in least most (neg_ℤ (pos number))
 negative-min least most cap number h = grind (arith, ints, nat_tests)
 
-positives : (least most : ℤ) (cap : ℕ) → most <ℤ pos cap → (o : Option ℕ) → option_and_then (signed_kept_in least most) (option_map (λ n. pos (min n cap)) o) ≡ option_and_then (signed_kept_in least most) (option_map pos o)
+positives : (least most : ℤ) (cap : ℕ)
+    → most <ℤ pos cap
+    → (o : Option ℕ)
+    → option_and_then (signed_kept_in least most) (option_map (λ n. pos (min n cap)) o) ≡
+    option_and_then (signed_kept_in least most) (option_map pos o)
 positives least most cap h None = refl
 positives least most cap h (Some number) = positive-min least most cap number h
 
-negatives : (least most : ℤ) (cap : ℕ) → neg_ℤ (pos cap) <ℤ least → (o : Option ℕ) → option_and_then (signed_kept_in least most) (option_map (λ n. neg_ℤ (pos (min n cap))) o) ≡ option_and_then (signed_kept_in least most) (option_map (λ n. neg_ℤ (pos n)) o)
+negatives : (least most : ℤ) (cap : ℕ)
+    → neg_ℤ (pos cap) <ℤ least
+    → (o : Option ℕ)
+    → option_and_then (signed_kept_in least most) (option_map (λ n. neg_ℤ (pos (min n cap))) o) ≡
+    option_and_then (signed_kept_in least most) (option_map (λ n. neg_ℤ (pos n)) o)
 negatives least most cap h None = refl
 negatives least most cap h (Some number) = negative-min least most cap number h
 
@@ -49,14 +57,20 @@ module _ (least most : ℤ) (cap : ℕ) (low : neg_ℤ (pos cap) <ℤ least) (hi
   after digits e = ap (λ o. option_and_then (signed_kept_in least most) (number_signed text o)) e
 
   -- a number without a sign that was read with a cap, or none
-  pub signed_in-plain : (read : Option ℕ) → None ≡ after_minus text → read ≡ option_map (λ n. min n cap) (whole_number text) → option_and_then (signed_kept_in least most) (option_map pos read) ≡ signed_in least most text
+  pub signed_in-plain : (read : Option ℕ)
+      → None ≡ after_minus text
+      → read ≡ option_map (λ n. min n cap) (whole_number text)
+      → option_and_then (signed_kept_in least most) (option_map pos read) ≡ signed_in least most text
   signed_in-plain read e r =
       ap (λ o. option_and_then (signed_kept_in least most) (option_map pos o)) r
       ∙ ap (option_and_then (signed_kept_in least most)) (map-map pos (λ n. min n cap) (whole_number text))
       ∙ positives least most cap high (whole_number text) ∙ sym (plain (sym e))
 
   -- the number after a `-`, or none
-  pub signed_in-minus : (read : Option ℕ) (digits : List ℕ) → Some digits ≡ after_minus text → read ≡ option_map (λ n. min n cap) (whole_number digits) → option_and_then (signed_kept_in least most) (option_map (λ n. neg_ℤ (pos n)) read) ≡ signed_in least most text
+  pub signed_in-minus : (read : Option ℕ) (digits : List ℕ)
+      → Some digits ≡ after_minus text
+      → read ≡ option_map (λ n. min n cap) (whole_number digits)
+      → option_and_then (signed_kept_in least most) (option_map (λ n. neg_ℤ (pos n)) read) ≡ signed_in least most text
   signed_in-minus read digits e r =
       ap (λ o. option_and_then (signed_kept_in least most) (option_map (λ n. neg_ℤ (pos n)) o)) r
       ∙ ap (option_and_then (signed_kept_in least most)) (map-map (λ n. neg_ℤ (pos n)) (λ n. min n cap) (whole_number digits))

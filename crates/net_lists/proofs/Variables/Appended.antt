@@ -36,9 +36,13 @@ pieces-nil : (variables : Variables) (text : List ℕ) (place : ℕ) → pieces 
 unfolding pieces
 pieces-nil variables text place = refl
 
-module _ (variables : Variables) (text : List ℕ) (whole : Result (List ℕ) ExpandFault) (front : List ℕ) (place room : ℕ) (so_far : whole ≡ with_front front (put_together room (pieces variables text place 0 (drop place text)))) where
+module _ (variables : Variables) (text : List ℕ) (whole : Result (List ℕ) ExpandFault) (front : List ℕ) (place room : ℕ)
+    (so_far : whole ≡ with_front front (put_together room (pieces variables text place 0 (drop place text)))) where
   -- after a piece that fits
-  pub fits_after : (bytes : List ℕ) (next : ℕ) → pieces variables text place 0 (drop place text) ≡ Bytes bytes ∷ pieces variables text next 0 (drop next text) → length bytes ≤ room → whole ≡ with_front (front ++ bytes) (put_together (room - length bytes) (pieces variables text next 0 (drop next text)))
+  pub fits_after : (bytes : List ℕ) (next : ℕ)
+      → pieces variables text place 0 (drop place text) ≡ Bytes bytes ∷ pieces variables text next 0 (drop next text)
+      → length bytes ≤ room
+      → whole ≡ with_front (front ++ bytes) (put_together (room - length bytes) (pieces variables text next 0 (drop next text)))
   fits_after bytes next piece fits =
       so_far ∙ ap (λ ps. with_front front (put_together room ps)) piece
       ∙ ap (with_front front) (put_together-bytes room bytes _ fits)

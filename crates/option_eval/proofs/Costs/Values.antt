@@ -1,5 +1,7 @@
 -- What a rule can extract from a payload: the numbers, the lists of values, and the points after extractions.
-use Rattle.std.proofs.Common.{◌≡◌, ℕ, zero, suc, ◌+◌, ◌-◌, ◌*◌, ◌<◌, ◌≤◌, ◌⊎◌, inl, inr, ⊎_elim, pos, ◌+ℤ◌, Bool, true, false, not, ◌&&◌, ◌||◌, ◌==◌, cond, List, [], ◌∷◌, length, take, drop, get_or, Option, Some, None, Contains, slice_index, slice_set, refl, sym, ap, subst, ◌∙◌, arith, unwrap_or}
+use Rattle.std.proofs.Common.{◌≡◌, ℕ, zero, suc, ◌+◌, ◌-◌, ◌*◌, ◌<◌, ◌≤◌, ◌⊎◌, inl, inr, ⊎_elim, pos, ◌+ℤ◌, Bool, true, false}
+use Rattle.std.proofs.Common.{not, ◌&&◌, ◌||◌, ◌==◌, cond, List, [], ◌∷◌, length, take, drop, get_or, Option, Some, None}
+use Rattle.std.proofs.Common.{Contains, slice_index, slice_set, refl, sym, ap, subst, ◌∙◌, arith, unwrap_or}
 use Rattle.std.specs.Prelude.{min, All, nat_le, option_and_then}
 use Rattle.std.proofs.lemmas.Bool.{false≢true, eqb-true}
 use Rattle.std.proofs.lemmas.Bool.Decides.{nat_tests}
@@ -87,7 +89,10 @@ module _ (payload : List ℕ) (fetch : Fetch) where
   few_inside = few_weaker ℕ (length payload + 1 - fetch.bytes) (length payload + 1 - fetch.bytes) (λ n. n < length payload + 1 - fetch.bytes) (Begins payload fetch) (omega arith)
       (λ n begins. omega (arith, begins.within)) (few_below (length payload + 1 - fetch.bytes))
 
-  by_offset : (relative : Bool) (offset : Num) → relative ≡ fetch.relative → offset ≡ fetch.offset → Few ℕ (cond (not relative && is_told offset) 1 (length payload + 1 - fetch.bytes)) (Begins payload fetch)
+  by_offset : (relative : Bool) (offset : Num)
+      → relative ≡ fetch.relative
+      → offset ≡ fetch.offset
+      → Few ℕ (cond (not relative && is_told offset) 1 (length payload + 1 - fetch.bytes)) (Begins payload fetch)
   unfolding place_from
   by_offset true offset is same = few_inside
   by_offset false (num.Name name) is same = few_inside
@@ -141,8 +146,16 @@ module _ (payload : List ℕ) (fetch : Fetch) where
   few_numbers : (name times align : ℕ) → All (λ byte. byte < 256) payload → Few ℕ (number_count (opt.ByteExtract fetch name times align) (length payload)) (Takes times align)
   few_numbers name times align bytes = by_size (fetch.bytes == 1) refl
     where
-      by_size : (b : Bool) → (fetch.bytes == 1) ≡ b → Few ℕ (cond b (min (place_count (opt.ByteExtract fetch name times align) (length payload)) 256) (place_count (opt.ByteExtract fetch name times align) (length payload))) (Takes times align)
-      by_size true is = few_min ℕ (Takes times align) (place_count (opt.ByteExtract fetch name times align) (length payload)) 256 (few_numbers_at name times align) (few_of_one times align (eqb-true fetch.bytes 1 is) bytes)
+      by_size : (b : Bool)
+          → (fetch.bytes == 1) ≡ b
+          → Few ℕ
+          (cond b (min (place_count (opt.ByteExtract fetch name times align) (length payload)) 256)
+          (place_count (opt.ByteExtract fetch name times align) (length payload)))
+          (Takes times align)
+      by_size true is =
+          few_min ℕ (Takes times align) (place_count (opt.ByteExtract fetch name times align) (length payload)) 256
+          (few_numbers_at name times align)
+          (few_of_one times align (eqb-true fetch.bytes 1 is) bytes)
       by_size false is = few_numbers_at name times align
 
 -- ---- the values of a name
@@ -167,7 +180,9 @@ module _ (payload : List ℕ) where
 
   few_given_by : All (λ byte. byte < 256) payload → (name : ℕ) (o : Opt) (b : Bool) → gives name o ≡ b → Few ℕ (cond b (number_count o (length payload)) 0) (IsGivenBy name o)
   unfolding IsGivenBy
-  few_given_by bytes name o true is = few_weaker ℕ (number_count o (length payload)) (number_count o (length payload)) (TakenBy o) (IsGivenBy name o) (omega arith) (λ x given. given.1) (few_taken bytes o)
+  few_given_by bytes name o true is =
+      few_weaker ℕ (number_count o (length payload)) (number_count o (length payload)) (TakenBy o) (IsGivenBy name o)
+      (omega arith) (λ x given. given.1) (few_taken bytes o)
   few_given_by bytes name o false is = few_none ℕ (IsGivenBy name o) (λ x given. false≢true (sym is ∙ given.0))
 
   few_given : All (λ byte. byte < 256) payload → (name : ℕ) (options : List Opt) → Few ℕ (extracted_count name options (length payload)) (IsGiven name options)
@@ -204,7 +219,12 @@ module _ (payload : List ℕ) (all : List Opt) where
   unfolding IsValue
   start_values = record { first = 0; second = 0; are = refl; one = inl refl; other = inl refl }
 
-  set_values : (fetch : Fetch) (name times align : ℕ) → Contains all (opt.ByteExtract fetch name times align) → (values : List ℕ) (x : ℕ) → AreValues values → Takes payload fetch times align x → AreValues (slice_set values name x)
+  set_values : (fetch : Fetch) (name times align : ℕ)
+      → Contains all (opt.ByteExtract fetch name times align)
+      → (values : List ℕ) (x : ℕ)
+      → AreValues values
+      → Takes payload fetch times align x
+      → AreValues (slice_set values name x)
   unfolding IsValue IsGiven TakenBy
   set_values fetch zero times align at values x had takes = record {
     first = x;
@@ -303,11 +323,18 @@ module _ (payload : List ℕ) (all : List Opt) where
   unfolding list_count Both One
   few_lists bytes = by_reading (reads_both all) refl
     where
-      by_reading : (b : Bool) → reads_both all ≡ b → Few (List ℕ) (cond b ((1 + extracted_count 0 all (length payload)) * (1 + extracted_count 1 all (length payload))) (1 + (extracted_count 0 all (length payload) + extracted_count 1 all (length payload)))) (IsKept all)
+      by_reading : (b : Bool)
+          → reads_both all ≡ b
+          → Few (List ℕ)
+          (cond b ((1 + extracted_count 0 all (length payload)) * (1 + extracted_count 1 all (length payload)))
+          (1 + (extracted_count 0 all (length payload) + extracted_count 1 all (length payload))))
+          (IsKept all)
       by_reading true is =
           let count = (1 + extracted_count 0 all (length payload)) * (1 + extracted_count 1 all (length payload)) in
           few_weaker (List ℕ) count count Both (IsKept all) (omega arith) (λ v kept. kept_both all v kept)
-          (few_pairs ℕ (IsValue 0) ℕ (List ℕ) (λ x y. x ∷ y ∷ []) (1 + extracted_count 0 all (length payload)) (1 + extracted_count 1 all (length payload)) (IsValue 1) (few_values bytes 0) (few_values bytes 1))
+          (few_pairs ℕ (IsValue 0) ℕ (List ℕ) (λ x y. x ∷ y ∷ []) (1 + extracted_count 0 all (length payload))
+          (1 + extracted_count 1 all (length payload))
+          (IsValue 1) (few_values bytes 0) (few_values bytes 1))
       by_reading false is =
           let a = extracted_count 0 all (length payload) in
           let b = extracted_count 1 all (length payload) in
@@ -320,7 +347,13 @@ module _ (payload : List ℕ) (all : List Opt) where
 
   module _ (means : Means) where
     IsAfterOne : Opt → List Opt → Point → Type 0
-    IsAfterOne o later s = (is_extract o ≡ true) × (before : Point) × (after : Point) × AreValues before.values × Leads means payload o before after × (s ≡ point (kept_values later after.values) after.place)
+    IsAfterOne o later s =
+        (is_extract o ≡ true)
+        × (before : Point)
+        × (after : Point)
+        × AreValues before.values
+        × Leads means payload o before after
+        × (s ≡ point (kept_values later after.values) after.place)
 
     IsAfter : List Opt → Point → Type 0
     IsAfter [] s = ⊥
@@ -412,7 +445,11 @@ module _ (payload : List ℕ) (all : List Opt) where
                 ∙ ap (λ (n : ℕ). point (left n others) (got.from + fetch.bytes)) (sym number),
           )
 
-      few_placed : All (λ byte. byte < 256) payload → Few Point (place_count o (length payload) * (other_count 0 o later all (length payload) * other_count 1 o later all (length payload))) (IsAfterOne o later)
+      few_placed : All (λ byte. byte < 256) payload
+          → Few Point
+          (place_count o (length payload) *
+          (other_count 0 o later all (length payload) * other_count 1 o later all (length payload)))
+          (IsAfterOne o later)
       unfolding Placed Others
       few_placed bytes =
           let places = place_count o (length payload) in
@@ -422,16 +459,27 @@ module _ (payload : List ℕ) (all : List Opt) where
           (few_pairs ℕ (Begins payload fetch) (List ℕ) Point at_place_with places (one * other) Others (few_places payload fetch name times align)
           (few_pairs ℕ (IsOther (counts 0) 0) ℕ (List ℕ) (λ x y. x ∷ y ∷ []) one other (IsOther (counts 1) 1) (few_others bytes 0 (counts 0)) (few_others bytes 1 (counts 1))))
 
-    few_after_one : All (λ byte. byte < 256) payload → (o : Opt) (later : List Opt) → Few Point (place_count o (length payload) * (other_count 0 o later all (length payload) * other_count 1 o later all (length payload))) (IsAfterOne o later)
+    few_after_one : All (λ byte. byte < 256) payload
+        → (o : Opt) (later : List Opt)
+        → Few Point
+        (place_count o (length payload) *
+        (other_count 0 o later all (length payload) * other_count 1 o later all (length payload)))
+        (IsAfterOne o later)
     unfolding IsAfterOne
     few_after_one bytes (opt.ByteExtract fetch name times align) later = few_placed fetch name times align later bytes
-    few_after_one bytes o later = few_as Point (IsAfterOne o later) 0 (0 * (other_count 0 o later all (length payload) * other_count 1 o later all (length payload))) (omega arith) (few_none Point (IsAfterOne o later) (λ s following. false≢true following.0))
+    few_after_one bytes o later =
+        few_as Point (IsAfterOne o later) 0
+        (0 * (other_count 0 o later all (length payload) * other_count 1 o later all (length payload)))
+        (omega arith)
+        (few_none Point (IsAfterOne o later) (λ s following. false≢true following.0))
 
     few_after : All (λ byte. byte < 256) payload → (options : List Opt) → Few Point (points_after all options (length payload)) (IsAfter options)
     unfolding IsAfter
     few_after bytes [] = few_none Point (λ s. ⊥) (λ s never. never)
     few_after bytes (o ∷ os) =
-        few_or Point (place_count o (length payload) * (other_count 0 o os all (length payload) * other_count 1 o os all (length payload))) (points_after all os (length payload)) (IsAfterOne o os) (IsAfter os) (few_after_one bytes o os) (few_after bytes os)
+        few_or Point
+        (place_count o (length payload) * (other_count 0 o os all (length payload) * other_count 1 o os all (length payload)))
+        (points_after all os (length payload)) (IsAfterOne o os) (IsAfter os) (few_after_one bytes o os) (few_after bytes os)
 
     -- ---- all of it
 

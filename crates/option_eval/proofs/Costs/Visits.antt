@@ -58,10 +58,20 @@ module _ (means : Means) (payload : List ℕ) (options : List Opt) (old now : �
         let each = visits_of options (length payload) in
         omega (arith, once, mul-le (length lists) each (list_count options (length payload)) each few (omega arith))
 
-    by_count : (b : Bool) → nat_le (point_count options (length payload)) part_points ≡ b → Together → Apart
-        → now ≤ old + cond b (min (list_count options (length payload) * visits_of options (length payload)) (visits_apart (list_count options (length payload)) options (length payload))) (visits_apart (list_count options (length payload)) options (length payload))
+    by_count : (b : Bool)
+        → nat_le (point_count options (length payload)) part_points ≡ b
+        → Together → Apart
+        → now ≤
+        old +
+        cond b
+        (min (list_count options (length payload) * visits_of options (length payload))
+        (visits_apart (list_count options (length payload)) options (length payload)))
+        (visits_apart (list_count options (length payload)) options (length payload))
     by_count true is together apart =
-        both_ways old now (list_count options (length payload) * visits_of options (length payload)) (visits_apart (list_count options (length payload)) options (length payload)) (at_once together (grind (arith, nat_tests, is))) (in_parts apart)
+        both_ways old now (list_count options (length payload) * visits_of options (length payload))
+        (visits_apart (list_count options (length payload)) options (length payload))
+        (at_once together (grind (arith, nat_tests, is)))
+        (in_parts apart)
     by_count false is together apart = in_parts apart
 
   pub visits_few : All (λ byte. byte < 256) payload → Together → Apart → now ≤ old + most_visits options (length payload)
@@ -114,5 +124,8 @@ most_is false x y m less = less
 pub visits_closed : (options : List Opt) (size : ℕ) → most_visits options size ≤ list_count options size ^ count_by is_extract options * visits_of options size
 unfolding most_visits
 visits_closed options size =
-    most_is (nat_le (point_count options size) part_points) (list_count options size * visits_of options size) (visits_apart (list_count options size) options size) (list_count options size ^ count_by is_extract options * visits_of options size)
+    most_is (nat_le (point_count options size) part_points)
+    (list_count options size * visits_of options size)
+    (visits_apart (list_count options size) options size)
+    (list_count options size ^ count_by is_extract options * visits_of options size)
     (apart_closed (list_count options size) options size (one_list options size))

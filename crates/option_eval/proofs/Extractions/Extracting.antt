@@ -1,5 +1,7 @@
 -- The states after an extraction, from one place and from a set.
-use Rattle.std.proofs.Common.{◌≡◌, ℕ, ◌-◌, ◌*◌, ◌<◌, ◌≤◌, ◌⊎◌, inl, inr, ⊎_elim, Bool, true, false, cond, List, [], ◌∷◌, ◌++◌, length, take, drop, get_or, slice_set, Option, Some, None, Contains, unwrap_or, refl, sym, subst, ◌∙◌, arith}
+use Rattle.std.proofs.Common.{◌≡◌, ℕ, ◌-◌, ◌*◌, ◌<◌, ◌≤◌, ◌⊎◌, inl, inr, ⊎_elim, Bool, true, false, cond, List, [], ◌∷◌, ◌++◌}
+use Rattle.std.proofs.Common.{length, take, drop, get_or, slice_set, Option, Some, None, Contains, unwrap_or, refl, sym, subst}
+use Rattle.std.proofs.Common.{◌∙◌, arith}
 use Rattle.std.specs.Prelude.{bytes_eq}
 use Rattle.std.proofs.lemmas.List.{length-set}
 use Rattle.rule_types.specs.declared.option.Fetch.{Fetch}
@@ -27,7 +29,10 @@ module _ (means : Means) (payload : List ℕ) (fetch : Fetch) (name times align 
   leaves_none none states = record {
     sound = λ m. inl m;
     kept = λ m. m;
-    complete = λ m. absurd (extract_none means payload fetch name times align later values place none (subst (λ (p : ℕ). MatchesFrom means payload (opt.ByteExtract fetch name times align ∷ later) (point values p)) (contains_one place m.0 m.1) m.2));
+    complete = λ m.
+        absurd (extract_none means payload fetch name times align later values place none
+        (subst (λ (p : ℕ). MatchesFrom means payload (opt.ByteExtract fetch name times align ∷ later) (point values p))
+        (contains_one place m.0 m.1) m.2));
     have = λ lists listed each old. old;
   }
 
@@ -46,7 +51,12 @@ module _ (means : Means) (payload : List ℕ) (fetch : Fetch) (name times align 
     leads = (read, sym some, refl)
 
     up : MatchesFrom means payload later (point after read.stop) → MatchesFrom means payload (opt.ByteExtract fetch name times align ∷ later) (point values place)
-    up m = (extract_some means payload fetch name times align later values place read full some refl).1 (read.stop, contains_first read.stop [], matches_alike means payload later after full read.stop (alike_sym later full after same) m)
+    up m =
+        (extract_some means payload fetch name times align later values place read full some refl).1 (
+          read.stop,
+          contains_first read.stop [],
+          matches_alike means payload later after full read.stop (alike_sym later full after same) m,
+        )
 
     down : MatchesFrom means payload (opt.ByteExtract fetch name times align ∷ later) (point values place) → MatchesFrom means payload later (point after read.stop)
     down m =
@@ -55,16 +65,22 @@ module _ (means : Means) (payload : List ℕ) (fetch : Fetch) (name times align 
 
     pub leaves_some : Leaves means payload (opt.ByteExtract fetch name times align ∷ later) values (place ∷ []) old new
     leaves_some = record {
-      sound = λ m. ⊎_elim (λ (before : MatchesFromSome means payload later old). inl before) (λ (here : MatchesFrom means payload later (point after read.stop)). inr (place, contains_first place [], up here))
+      sound = λ m.
+          ⊎_elim (λ (before : MatchesFromSome means payload later old). inl before)
+          (λ (here : MatchesFrom means payload later (point after read.stop)). inr (place, contains_first place [], up here))
           (some_added old new after read.stop added (λ v p. MatchesFrom means payload later (point v p)) m);
       kept = λ m. some_kept old new after read.stop added (λ v p. MatchesFrom means payload later (point v p)) m;
       complete = λ m. some_new old new after read.stop added (λ v p. MatchesFrom means payload later (point v p))
-          (down (subst (λ (p : ℕ). MatchesFrom means payload (opt.ByteExtract fetch name times align ∷ later) (point values p)) (contains_one place m.0 m.1) m.2));
+          (down (subst (λ (p : ℕ). MatchesFrom means payload (opt.ByteExtract fetch name times align ∷ later) (point values p))
+          (contains_one place m.0 m.1) m.2));
       have = λ lists listed each before.
           let here = each place (contains_first place []) (point full read.stop) leads in
-          each_added old new after read.stop added (Contains lists) (λ v p. IsListed listed v p × HasValues means payload lists listed later (point v p)) before
-          (subst (λ (v : List ℕ). Contains lists v) (sym kept) here.0)
-          (subst (λ (v : List ℕ). IsListed listed v read.stop) (sym kept) (here.1 refl), has_values_alike means payload lists listed later full after read.stop same here.2);
+          each_added old new after read.stop added (Contains lists)
+          (λ v p. IsListed listed v p × HasValues means payload lists listed later (point v p)) before
+          (subst (λ (v : List ℕ). Contains lists v) (sym kept) here.0) (
+            subst (λ (v : List ℕ). IsListed listed v read.stop) (sym kept) (here.1 refl),
+            has_values_alike means payload lists listed later full after read.stop same here.2,
+          );
     }
 
 -- the places before the rest were asked
@@ -86,22 +102,40 @@ module _ (means : Means) (payload : List ℕ) (options : List Opt) (values place
     have = λ lists listed each before. before;
   }
 
-  pub asked_next : (rest : List ℕ) (old now new : States) → 1 ≤ length rest → AskedFrom means payload options values places rest old now → Leaves means payload options values (get_or rest 0 0 ∷ []) now new
+  pub asked_next : (rest : List ℕ) (old now new : States)
+      → 1 ≤ length rest
+      → AskedFrom means payload options values places rest old now
+      → Leaves means payload options values (get_or rest 0 0 ∷ []) now new
       → AskedFrom means payload options values places (take (length rest - 1) (drop 1 rest)) old new
   asked_next rest old now new some before next = record {
     sound = λ m. ⊎_elim before.sound
-        (λ (here : MatchesFromOne means payload options values (get_or rest 0 0 ∷ [])). inr (get_or rest 0 0, first_in, subst (λ (p : ℕ). MatchesFrom means payload options (point values p)) (contains_one (get_or rest 0 0) here.0 here.1) here.2))
+        (λ (here : MatchesFromOne means payload options values (get_or rest 0 0 ∷ [])). inr (
+          get_or rest 0 0,
+          first_in,
+          subst (λ (p : ℕ). MatchesFrom means payload options (point values p))
+              (contains_one (get_or rest 0 0) here.0 here.1)
+              here.2,
+        ))
         (next.sound m);
     kept = λ m. next.kept (before.kept m);
     within = λ p has. before.within p (contains_later rest p some has);
     complete = λ p has m. ⊎_elim
         (λ (done : MatchesFromSome means payload (after_extraction options) now). inl (next.kept done))
         (λ (left : Contains rest p). ⊎_elim
-        (λ (same : p ≡ get_or rest 0 0). inl (next.complete (get_or rest 0 0, contains_first (get_or rest 0 0) [], subst (λ (x : ℕ). MatchesFrom means payload options (point values x)) same m)))
+        (λ (same : p ≡ get_or rest 0 0). inl
+        (next.complete (
+          get_or rest 0 0,
+          contains_first (get_or rest 0 0) [],
+          subst (λ (x : ℕ). MatchesFrom means payload options (point values x)) same m,
+        )))
         (λ (after : Contains (take (length rest - 1) (drop 1 rest)) p). inr after)
-        (contains_cases (get_or rest 0 0) (take (length rest - 1) (drop 1 rest)) p (subst (λ (xs : List ℕ). Contains xs p) (split rest some) left)))
+        (contains_cases (get_or rest 0 0) (take (length rest - 1) (drop 1 rest)) p
+        (subst (λ (xs : List ℕ). Contains xs p) (split rest some) left)))
         (before.complete p has m);
-    have = λ lists listed each have. next.have lists listed (λ p has. each p (subst (λ (x : ℕ). Contains places x) (sym (contains_one (get_or rest 0 0) p has)) first_in)) (before.have lists listed each have);
+    have = λ lists listed each have.
+        next.have lists listed
+        (λ p has. each p (subst (λ (x : ℕ). Contains places x) (sym (contains_one (get_or rest 0 0) p has)) first_in))
+        (before.have lists listed each have);
   } where
     first_in : Contains places (get_or rest 0 0)
     first_in = before.within (get_or rest 0 0) (contains_head rest some)

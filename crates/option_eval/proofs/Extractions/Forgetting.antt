@@ -1,5 +1,7 @@
 -- Values that no later option reads make no difference.
-use Rattle.std.proofs.Common.{◌≡◌, ℕ, zero, suc, ◌+◌, ◌*◌, ◌<◌, ◌≤◌, ⊎_elim, ℤ, pos, ◌+ℤ◌, ◌<ℤ◌, Bool, true, false, not, ◌&&◌, ◌||◌, ◌==◌, cond, List, [], ◌∷◌, length, drop, Option, Some, None, MatchBool, Contains, slice_index, slice_set, refl, sym, ap, subst, ◌∙◌, arith, option_map, unwrap_or}
+use Rattle.std.proofs.Common.{◌≡◌, ℕ, zero, suc, ◌+◌, ◌*◌, ◌<◌, ◌≤◌, ⊎_elim, ℤ, pos, ◌+ℤ◌, ◌<ℤ◌, Bool, true, false, not, ◌&&◌}
+use Rattle.std.proofs.Common.{◌||◌, ◌==◌, cond, List, [], ◌∷◌, length, drop, Option, Some, None, MatchBool, Contains, slice_index}
+use Rattle.std.proofs.Common.{slice_set, refl, sym, ap, subst, ◌∙◌, arith, option_map, unwrap_or}
 use Rattle.std.proofs.lemmas.Bool.{false≢true, eqb-true, cases_lt}
 use Rattle.std.proofs.lemmas.Bool.Decides.{nat_tests}
 use Rattle.std.proofs.lemmas.List.{get_or-set_same, get_or-set_other, length-set, get_or_past}
@@ -50,12 +52,17 @@ sought_of only nocase origin from room =
     cond only (record { nocase = true; from = pos 0; until = None })
     (record { nocase = nocase; from = pos origin +ℤ unwrap_or from (pos 0); until = option_map (λ (room : ℤ). (pos origin +ℤ unwrap_or from (pos 0)) +ℤ room) room })
 
-sought_same : (content : Content) (vs ws : List ℕ) (p : ℕ) → number_if vs content.from ≡ number_if ws content.from → number_if vs content.room ≡ number_if ws content.room → sought content (point vs p) ≡ sought content (point ws p)
+sought_same : (content : Content) (vs ws : List ℕ) (p : ℕ)
+    → number_if vs content.from ≡ number_if ws content.from
+    → number_if vs content.room ≡ number_if ws content.room
+    → sought content (point vs p) ≡ sought content (point ws p)
 sought_same content vs ws p from room =
     ap (λ (f : Option ℤ). sought_of (is_only content.fast) content.nocase (cond content.relative p 0) f (number_if vs content.room)) from
     ∙ ap (λ (r : Option ℤ). sought_of (is_only content.fast) content.nocase (cond content.relative p 0) (number_if ws content.from) r) room
 
-fetched_same : (payload : List ℕ) (fetch : Fetch) (vs ws : List ℕ) (p : ℕ) → number_of vs fetch.offset ≡ number_of ws fetch.offset → fetched payload fetch (point vs p) ≡ fetched payload fetch (point ws p)
+fetched_same : (payload : List ℕ) (fetch : Fetch) (vs ws : List ℕ) (p : ℕ)
+    → number_of vs fetch.offset ≡ number_of ws fetch.offset
+    → fetched payload fetch (point vs p) ≡ fetched payload fetch (point ws p)
 unfolding fetched
 fetched_same payload fetch vs ws p same = rw same refl
 
@@ -78,13 +85,24 @@ module _ (vs ws : List ℕ) (p q : ℕ) where
 
 -- an option other than an extraction leads on alike
 module _ (means : Means) (payload vs ws : List ℕ) (p q : ℕ) where
-  pub plain_alike : (o : Opt) → is_extract o ≡ false → ((name : ℕ) → reads name o ≡ true → slice_index vs name ≡ slice_index ws name) → Leads means payload o (point vs p) (point vs q) → Leads means payload o (point ws p) (point ws q)
+  pub plain_alike : (o : Opt)
+      → is_extract o ≡ false
+      → ((name : ℕ) → reads name o ≡ true → slice_index vs name ≡ slice_index ws name)
+      → Leads means payload o (point vs p) (point vs q)
+      → Leads means payload o (point ws p) (point ws q)
   unfolding Leads
   plain_alike (opt.Content content) plain same h =
-      let from = number_if_same vs ws content.from (λ name is. same name (or_left (is_named_if name content.from) (is_named_if name content.room) is)) in
-      let room = number_if_same vs ws content.room (λ name is. same name (or_right (is_named_if name content.from) (is_named_if name content.room) is)) in
+      let from =
+      number_if_same vs ws content.from
+      (λ name is. same name (or_left (is_named_if name content.from) (is_named_if name content.room) is)) in
+      let room =
+      number_if_same vs ws content.room
+      (λ name is. same name (or_right (is_named_if name content.from) (is_named_if name content.room) is)) in
       let how = sought_same content vs ws p from room in
-      content_alike vs ws p q content.negated (is_only content.fast) (λ i. IsFoundAt content.bytes payload (sought content (point vs p)) i) (λ i. IsFoundAt content.bytes payload (sought content (point ws p)) i) (length content.bytes)
+      content_alike vs ws p q content.negated (is_only content.fast)
+      (λ i. IsFoundAt content.bytes payload (sought content (point vs p)) i)
+      (λ i. IsFoundAt content.bytes payload (sought content (point ws p)) i)
+      (length content.bytes)
       (λ i here. subst (λ (how : Sought). IsFoundAt content.bytes payload how i) how here)
       (λ i here. subst (λ (how : Sought). IsFoundAt content.bytes payload how i) (sym how) here)
       h
@@ -156,7 +174,9 @@ module _ (means : Means) (payload : List ℕ) where
     abbrev LeadsAlike : Opt → Point → Type 0
     LeadsAlike o t = (t' : Point) × Leads means payload o (point ws p) t' × (t'.place ≡ t.place) × Alike os t.values t'.values
 
-    extract_alike : (fetch : Fetch) (given times align : ℕ) (t : Point) → Alike (opt.ByteExtract fetch given times align ∷ os) vs ws → Leads means payload (opt.ByteExtract fetch given times align) (point vs p) t
+    extract_alike : (fetch : Fetch) (given times align : ℕ) (t : Point)
+        → Alike (opt.ByteExtract fetch given times align ∷ os) vs ws
+        → Leads means payload (opt.ByteExtract fetch given times align) (point vs p) t
         → LeadsAlike (opt.ByteExtract fetch given times align) t
     unfolding Leads
     extract_alike fetch given times align t alike h =

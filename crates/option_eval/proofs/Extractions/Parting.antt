@@ -1,5 +1,6 @@
 -- Parts of states: the same points, each once, how many they are, and what trying them one after another costs.
-use Rattle.std.proofs.Common.{◌≡◌, ℕ, ◌+◌, ◌*◌, ◌≤◌, ◌⊎◌, inl, inr, ⊎_elim, Bool, true, false, cond, List, [], ◌∷◌, length, Some, None, Ok, Err, Result, IfOk, IsTrue, MatchBool, Contains, refl, sym, ap, subst, ◌∙◌, arith}
+use Rattle.std.proofs.Common.{◌≡◌, ℕ, ◌+◌, ◌*◌, ◌≤◌, ◌⊎◌, inl, inr, ⊎_elim, Bool, true, false, cond, List, [], ◌∷◌, length, Some}
+use Rattle.std.proofs.Common.{None, Ok, Err, Result, IfOk, IsTrue, MatchBool, Contains, refl, sym, ap, subst, ◌∙◌, arith}
 use Rattle.std.specs.Prelude.{bytes_eq, ⊤}
 use Rattle.std.proofs.lemmas.Bool.{false≢true}
 use Rattle.edge_io.specs.declared.fault.NoMemory.{NoMemory}
@@ -50,7 +51,8 @@ module _ (from left left' done done' : States) (values taken places : List ℕ) 
   merged_next before = record {
     there = λ q before_it at. ⊎_elim
         (λ (in_left : cond (bytes_eq values q) None (places_at left q) ≡ Some before_it). inl (less q ∙ in_left))
-        (λ (in_done : (found : List ℕ) × (cond (bytes_eq values q) (Some places) (places_at done q) ≡ Some found) × ((p : ℕ) → Contains before_it p → Contains found p)). inr (in_done.0, more q ∙ in_done.1, in_done.2))
+        (λ (in_done : (found : List ℕ) × (cond (bytes_eq values q) (Some places) (places_at done q) ≡ Some found) ×
+        ((p : ℕ) → Contains before_it p → Contains found p)). inr (in_done.0, more q ∙ in_done.1, in_done.2))
         (there_next (bytes_eq values q) q before_it refl at (before.there q before_it at));
     back = λ q after at. back_next (bytes_eq values q) q after refl (sym (more q) ∙ at) before.back;
   }
@@ -118,11 +120,19 @@ abbrev pub Owing : ℕ → ℕ → List (List ℕ) → States → States → ℕ
 Owing each owed lists left following old now = (((q : List ℕ) → places_at following q ≡ None) × Counted each lists left old now) ⊎ Counted each lists left old (now + owed)
 
 module _ (each owed : ℕ) (lists : List (List ℕ)) where
-  pub owing_first : (states following : States) (R : List ℕ → ℕ → Type 0) (old : ℕ) → ((q : List ℕ) → places_at following q ≡ None) → EachState (Contains lists) R states → Owing each owed lists states following old old
+  pub owing_first : (states following : States) (R : List ℕ → ℕ → Type 0) (old : ℕ)
+      → ((q : List ℕ) → places_at following q ≡ None)
+      → EachState (Contains lists) R states
+      → Owing each owed lists states following old old
   owing_first states following R old none have = inl (none, counted_first each lists states R old have)
 
-  pub owing_walked : (upto : ℕ) (left left' following : States) (values places : List ℕ) (old now new : ℕ) → upto + owed ≡ each → places_at left values ≡ Some places
-      → ((q : List ℕ) → places_at left' q ≡ cond (bytes_eq values q) None (places_at left q)) → new ≤ now + upto → Owing each owed lists left following old now → Counted each lists left' old (new + owed)
+  pub owing_walked : (upto : ℕ) (left left' following : States) (values places : List ℕ) (old now new : ℕ)
+      → upto + owed ≡ each
+      → places_at left values ≡ Some places
+      → ((q : List ℕ) → places_at left' q ≡ cond (bytes_eq values q) None (places_at left q))
+      → new ≤ now + upto
+      → Owing each owed lists left following old now
+      → Counted each lists left' old (new + owed)
   owing_walked upto left left' following values places old now new is was less more before =
       let alone : new + owed ≤ now + each = omega arith in
       let also : new + owed ≤ now + owed + each = omega arith in
@@ -131,7 +141,11 @@ module _ (each owed : ℕ) (lists : List (List ℕ)) where
       (λ (h : Counted each lists left old (now + owed)). counted_next each lists left left' values places old (now + owed) (new + owed) was less also h)
       before
 
-  pub owing_parted : (left following : States) (old now new : ℕ) → new ≤ now + owed → (new ≡ now) ⊎ ((q : List ℕ) → places_at following q ≡ None) → Counted each lists left old (now + owed) → Owing each owed lists left following old new
+  pub owing_parted : (left following : States) (old now new : ℕ)
+      → new ≤ now + owed
+      → (new ≡ now) ⊎ ((q : List ℕ) → places_at following q ≡ None)
+      → Counted each lists left old (now + owed)
+      → Owing each owed lists left following old new
   owing_parted left following old now new more which h = ⊎_elim
       (λ (same : new ≡ now). inr (subst (λ (n : ℕ). Counted each lists left old (n + owed)) (sym same) h))
       (λ (none : (q : List ℕ) → places_at following q ≡ None). inl (none, (h.0, h.1, omega (arith, h.2))))
@@ -140,7 +154,11 @@ module _ (each owed : ℕ) (lists : List (List ℕ)) where
   pub owing_spent : (left : States) (old now : ℕ) → Counted each lists left old (now + owed) → now + owed ≤ old + length lists * each
   owing_spent left old now h = omega (arith, h.2)
 
-  pub owing_end : (left following : States) (old now new : ℕ) → new ≤ now + owed → (((q : List ℕ) → places_at following q ≡ None) → new ≤ now) → Owing each owed lists left following old now → new ≤ old + length lists * each
+  pub owing_end : (left following : States) (old now new : ℕ)
+      → new ≤ now + owed
+      → (((q : List ℕ) → places_at following q ≡ None) → new ≤ now)
+      → Owing each owed lists left following old now
+      → new ≤ old + length lists * each
   owing_end left following old now new more none_more h = ⊎_elim
       (λ (both : ((q : List ℕ) → places_at following q ≡ None) × Counted each lists left old now). let spent = none_more both.0 in omega (arith, both.1.2))
       (λ (rest : Counted each lists left old (now + owed)). omega (arith, rest.2))

@@ -22,7 +22,10 @@ cond_map f false true w x placed same is = absurd (false≢true same)
 pub get_updated : {X : Type 0} (f : X → List ℕ) (m n : BTreeMap (List ℕ) X) (values : List ℕ) (w : Option X) (placed : Option (List ℕ)) → option_map f w ≡ placed
     → ((q : List ℕ) → get (slice_cmp nat_cmp) n q ≡ cond (is_at (slice_cmp nat_cmp values) q) w (get (slice_cmp nat_cmp) m q))
     → (q : List ℕ) → option_map f (get (slice_cmp nat_cmp) n q) ≡ cond (bytes_eq values q) placed (option_map f (get (slice_cmp nat_cmp) m q))
-get_updated f m n values w placed is h q = ap (option_map f) (h q) ∙ cond_map f (is_at (slice_cmp nat_cmp values) q) (bytes_eq values q) w (get (slice_cmp nat_cmp) m q) placed (is_eq-slice_cmp values q) is
+get_updated f m n values w placed is h q =
+    ap (option_map f) (h q)
+    ∙ cond_map f (is_at (slice_cmp nat_cmp values) q) (bytes_eq values q) w (get (slice_cmp nat_cmp) m q) placed
+    (is_eq-slice_cmp values q) is
 
 -- a map with this value alone
 pub get_one : {X : Type 0} (f : X → List ℕ) (m n : BTreeMap (List ℕ) X) (values : List ℕ) (w : X) → m.entries ≡ []
@@ -76,7 +79,8 @@ module _ (old new : States) (values : List ℕ) (place : ℕ)
       let same = same_values values q (sym is) in
       let here : unwrap_or (places_at old values) [] ++ place ∷ [] ≡ places = cc in
       ⊎_elim
-      (λ (before : (places : List ℕ) × (places_at old values ≡ Some places) × Contains places p). inl (subst (λ (q : List ℕ). (places : List ℕ) × (places_at old q ≡ Some places) × Contains places p) same before))
+      (λ (before : (places : List ℕ) × (places_at old values ≡ Some places) × Contains places p). inl
+      (subst (λ (q : List ℕ). (places : List ℕ) × (places_at old q ≡ Some places) × Contains places p) same before))
       (λ (is_place : place ≡ p). inr (same, is_place))
       (old_or_new (places_at old values) p (subst (λ (xs : List ℕ). Contains xs p) (sym here) has))
   is_in false q places is found p has = inl (places, found, has)
@@ -102,8 +106,16 @@ module _ (old new : States) (values : List ℕ) (place : ℕ)
       (q, after.0, added q ∙ after.1, p, after.2, holds)
 
   pub some_new : (P : List ℕ → ℕ → Type 0) → P values place → SomeState P new
-  some_new P holds =
-      (values, unwrap_or (places_at old values) [] ++ place ∷ [], added values ∙ ap (λ (b : Bool). cond b (Some (unwrap_or (places_at old values) [] ++ place ∷ [])) (places_at old values)) (own_values values), place, Contains-push (unwrap_or (places_at old values) []) place, holds)
+  some_new P holds = (
+    values,
+    unwrap_or (places_at old values) [] ++ place ∷ [],
+    added values
+        ∙ ap (λ (b : Bool). cond b (Some (unwrap_or (places_at old values) [] ++ place ∷ [])) (places_at old values))
+        (own_values values),
+    place,
+    Contains-push (unwrap_or (places_at old values) []) place,
+    holds,
+  )
 
   -- kinds that hold of each point hold of each one after one more was added
   pub each_added : (K : List ℕ → Type 0) (R : List ℕ → ℕ → Type 0) → EachState K R old → K values → R values place → EachState K R new
@@ -178,7 +190,11 @@ pub same_own : (states : States) → AreSame states states
 same_own states = (λ values places found. (places, found, λ p has. has), λ values places found. (places, found, λ p has. has))
 
 -- each point is of weaker kinds, too
-pub each_weaker : (states : States) (K L : List ℕ → Type 0) (R S : List ℕ → ℕ → Type 0) → ((values : List ℕ) → K values → L values) → ((values : List ℕ) (p : ℕ) → R values p → S values p) → EachState K R states → EachState L S states
+pub each_weaker : (states : States) (K L : List ℕ → Type 0) (R S : List ℕ → ℕ → Type 0)
+    → ((values : List ℕ) → K values → L values)
+    → ((values : List ℕ) (p : ℕ) → R values p → S values p)
+    → EachState K R states
+    → EachState L S states
 each_weaker states K L R S key here each values places found =
     let at = each values places found in
     (key values at.0, λ p has. here values p (at.1 p has))

@@ -1,5 +1,6 @@
 -- One option more of a walk that leaves states after the first extraction, one state more, and what they cost.
-use Rattle.std.proofs.Common.{◌≡◌, ℕ, zero, suc, ◌+◌, ◌*◌, ◌≤◌, ◌⊎◌, inl, inr, ⊎_elim, Bool, true, false, cond, List, [], ◌∷◌, length, Option, Some, None, MatchBool, Contains, refl, sym, ap, subst, ◌∙◌, arith}
+use Rattle.std.proofs.Common.{◌≡◌, ℕ, zero, suc, ◌+◌, ◌*◌, ◌≤◌, ◌⊎◌, inl, inr, ⊎_elim, Bool, true, false, cond, List, [], ◌∷◌}
+use Rattle.std.proofs.Common.{length, Option, Some, None, MatchBool, Contains, refl, sym, ap, subst, ◌∙◌, arith}
 use Rattle.std.specs.Prelude.{bytes_eq, ⊤}
 use Rattle.std.specs.List.Sorted.{IsPermutation}
 use Rattle.std.proofs.lemmas.List.Sorted.{Contains-permutation, IsPermutation-sym}
@@ -44,12 +45,18 @@ after_plain o os plain = cond_false (is_extract o) os (after_extraction os) plai
 module _ (means : Means) (payload : List ℕ) where
   -- an option other than an extraction
   module _ (o : Opt) (os : List Opt) (values places next : List ℕ) (plain : is_extract o ≡ false) (old new : States) where
-    pub leaves_plain : Gathers (needs_place os) (IsLedTo (LeadsFrom means payload values o) places) next → Leaves means payload os values next old new → Leaves means payload (o ∷ os) values places old new
+    pub leaves_plain : Gathers (needs_place os) (IsLedTo (LeadsFrom means payload values o) places) next
+        → Leaves means payload os values next old new
+        → Leaves means payload (o ∷ os) values places old new
     leaves_plain found h = record {
-      sound = λ m. ⊎_elim (λ (before : MatchesFromSome means payload (after_extraction os) old). inl (back old before)) (λ (here : MatchesFromOne means payload os values next). inr (step.1 here)) (h.sound (there new m));
+      sound = λ m.
+          ⊎_elim (λ (before : MatchesFromSome means payload (after_extraction os) old). inl (back old before))
+          (λ (here : MatchesFromOne means payload os values next). inr (step.1 here))
+          (h.sound (there new m));
       kept = λ m. back new (h.kept (there old m));
       complete = λ m. back new (h.complete (step.0 m));
-      have = λ lists listed each before. subst (λ (rest : List Opt). HaveValues means payload lists listed rest new) (sym is) (h.have lists listed
+      have = λ lists listed each before.
+          subst (λ (rest : List Opt). HaveValues means payload lists listed rest new) (sym is) (h.have lists listed
           (λ q has. let from = found.sound q has in (each from.0 from.1 (point values q) from.2).2)
           (subst (λ (rest : List Opt). HaveValues means payload lists listed rest old) is before));
     } where
@@ -62,7 +69,8 @@ module _ (means : Means) (payload : List ℕ) where
       back : (states : States) → MatchesFromSome means payload (after_extraction os) states → MatchesFromSome means payload (after_extraction (o ∷ os)) states
       back states m = subst (λ (rest : List Opt). MatchesFromSome means payload rest states) (sym is) m
 
-      step : (MatchesFromOne means payload (o ∷ os) values places → MatchesFromOne means payload os values next) × (MatchesFromOne means payload os values next → MatchesFromOne means payload (o ∷ os) values places)
+      step : (MatchesFromOne means payload (o ∷ os) values places → MatchesFromOne means payload os values next)
+          × (MatchesFromOne means payload os values next → MatchesFromOne means payload (o ∷ os) values places)
       step = walk_step means payload o os values places next plain found
 
   -- an extraction from no place leaves the states as they are
@@ -78,9 +86,16 @@ module _ (means : Means) (payload : List ℕ) where
   pub one_same : (os : List Opt) (values xs ys : List ℕ) → ((q : ℕ) → Contains xs q → Contains ys q) → MatchesFromOne means payload os values xs → MatchesFromOne means payload os values ys
   one_same os values xs ys up m = (m.0, up m.0 m.1, m.2)
 
-  pub leaves_same : (os : List Opt) (values xs ys : List ℕ) (old new : States) → ((q : ℕ) → Contains xs q → Contains ys q) → ((q : ℕ) → Contains ys q → Contains xs q) → Leaves means payload os values xs old new → Leaves means payload os values ys old new
+  pub leaves_same : (os : List Opt) (values xs ys : List ℕ) (old new : States)
+      → ((q : ℕ) → Contains xs q → Contains ys q)
+      → ((q : ℕ) → Contains ys q → Contains xs q)
+      → Leaves means payload os values xs old new
+      → Leaves means payload os values ys old new
   leaves_same os values xs ys old new up down h = record {
-    sound = λ m. ⊎_elim (λ (before : MatchesFromSome means payload (after_extraction os) old). inl before) (λ (here : MatchesFromOne means payload os values xs). inr (one_same os values xs ys up here)) (h.sound m);
+    sound = λ m.
+        ⊎_elim (λ (before : MatchesFromSome means payload (after_extraction os) old). inl before)
+        (λ (here : MatchesFromOne means payload os values xs). inr (one_same os values xs ys up here))
+        (h.sound m);
     kept = h.kept;
     complete = λ m. h.complete (one_same os values ys xs down m);
     have = λ lists listed each before. h.have lists listed (λ p has. each p (up p has)) before;
@@ -112,7 +127,11 @@ module _ (means : Means) (payload : List ℕ) (options : List Opt) (from : State
     have = λ lists listed each. each_nowhere (Contains lists) (λ v p. IsListed listed v p × HasValues means payload lists listed (after_extraction options) (point v p)) after none;
   }
 
-  pub some_here : (left : States) (values places : List ℕ) → IsLeft from left → places_at left values ≡ Some places → MatchesFromOne means payload options values places → MatchesFromSome means payload options from
+  pub some_here : (left : States) (values places : List ℕ)
+      → IsLeft from left
+      → places_at left values ≡ Some places
+      → MatchesFromOne means payload options values places
+      → MatchesFromSome means payload options from
   some_here left values places within was m = (values, places, within values places was, m.0, m.1, m.2)
 
   -- one state more was gone on from
@@ -135,9 +154,16 @@ module _ (means : Means) (payload : List ℕ) (options : List Opt) (from : State
   pub gone_fewer : (left now new : States) → AreAmong new now → (MatchesFromSome means payload (after_extraction options) now → MatchesFromSome means payload (after_extraction options) new)
       → GoneOnFrom means payload options from left now → GoneOnFrom means payload options from left new
   gone_fewer left now new among keeps before = record {
-    sound = λ m. before.sound (some_among new now among (λ v p. MatchesFrom means payload (after_extraction options) (point v p)) m);
-    complete = λ m. ⊎_elim (λ (done : MatchesFromSome means payload (after_extraction options) now). inl (keeps done)) (λ (there : MatchesFromSome means payload options left). inr there) (before.complete m);
-    have = λ lists listed each. each_among new now among (Contains lists) (λ v p. IsListed listed v p × HasValues means payload lists listed (after_extraction options) (point v p)) (before.have lists listed each);
+    sound = λ m.
+        before.sound (some_among new now among (λ v p. MatchesFrom means payload (after_extraction options) (point v p)) m);
+    complete = λ m.
+        ⊎_elim (λ (done : MatchesFromSome means payload (after_extraction options) now). inl (keeps done))
+        (λ (there : MatchesFromSome means payload options left). inr there)
+        (before.complete m);
+    have = λ lists listed each.
+        each_among new now among (Contains lists)
+        (λ v p. IsListed listed v p × HasValues means payload lists listed (after_extraction options) (point v p))
+        (before.have lists listed each);
   }
 
   -- all states were gone on from
@@ -188,7 +214,9 @@ pub counted_end : (each : ℕ) (lists : List (List ℕ)) (left : States) (old no
 counted_end each lists left old now h = omega (arith, h.2)
 
 -- the visits up to the first extraction and after it are those of all options
-pub visits_upto : (o : Opt) (os : List Opt) (size : ℕ) → is_extract o ≡ false → cond (is_payload_option o) (size + 1) 0 + visits_of (upto_extraction os) size ≡ visits_of (upto_extraction (o ∷ os)) size
+pub visits_upto : (o : Opt) (os : List Opt) (size : ℕ)
+    → is_extract o ≡ false
+    → cond (is_payload_option o) (size + 1) 0 + visits_of (upto_extraction os) size ≡ visits_of (upto_extraction (o ∷ os)) size
 visits_upto o os size plain =
     visits_next o (upto_extraction os) size ∙ ap (λ (rest : List Opt). visits_of (o ∷ rest) size) (sym (cond_false (is_extract o) [] (upto_extraction os) plain))
 
@@ -207,7 +235,10 @@ visits_split (o ∷ os) size = step (is_extract o) (visits_split os size)
     none : visits_of [] size ≡ 0
     none = omega arith
 
-    step : (b : Bool) → visits_of (upto_extraction os) size + visits_of (after_extraction os) size ≡ visits_of os size → visits_of (o ∷ cond b [] (upto_extraction os)) size + visits_of (cond b os (after_extraction os)) size ≡ visits_of (o ∷ os) size
+    step : (b : Bool)
+        → visits_of (upto_extraction os) size + visits_of (after_extraction os) size ≡ visits_of os size
+        → visits_of (o ∷ cond b [] (upto_extraction os)) size + visits_of (cond b os (after_extraction os)) size ≡
+        visits_of (o ∷ os) size
     step true after = omega (arith, visits_next o [] size, visits_next o os size, none)
     step false after = omega (arith, visits_next o (upto_extraction os) size, visits_next o os size)
 
@@ -229,7 +260,13 @@ apart_split lists (o ∷ os) size = step (is_extract o) (apart_split lists os si
         → visits_of (o ∷ cond b [] (upto_extraction os)) size + lists * visits_apart lists (cond b os (after_extraction os)) size
         ≡ cond (is_payload_option o) (size + 1) 0 + cond b (lists * visits_apart lists os size) (visits_apart lists os size)
     step true later = ap (λ (n : ℕ). n + lists * visits_apart lists os size) alone
-    step false later = sums (cond (is_payload_option o) (size + 1) 0) (visits_of (upto_extraction os) size) (lists * visits_apart lists (after_extraction os) size) (visits_apart lists os size) (visits_of (o ∷ upto_extraction os) size) (visits_next o (upto_extraction os) size) later
+    step false later =
+        sums (cond (is_payload_option o) (size + 1) 0)
+        (visits_of (upto_extraction os) size)
+        (lists * visits_apart lists (after_extraction os) size)
+        (visits_apart lists os size)
+        (visits_of (o ∷ upto_extraction os) size)
+        (visits_next o (upto_extraction os) size) later
 
 -- options that extract nothing
 pub upto_nothing : (os : List Opt) → ExtractsNothing os → upto_extraction os ≡ os

@@ -1,5 +1,7 @@
 -- One place more of a set that is asked place by place.
-use Rattle.std.proofs.Common.{◌≡◌, ℕ, suc, ◌+◌, ◌-◌, ◌<◌, ◌≤◌, ◌⊎◌, inl, inr, ⊎_elim, Bool, true, false, cond, List, [], ◌∷◌, ◌++◌, length, take, drop, get_or, Option, Some, None, IsTrue, Contains, IfSome, nat_le, refl, sym, ap, subst, ◌∙◌, arith}
+use Rattle.std.proofs.Common.{◌≡◌, ℕ, suc, ◌+◌, ◌-◌, ◌<◌, ◌≤◌, ◌⊎◌, inl, inr, ⊎_elim, Bool, true, false, cond, List, [], ◌∷◌}
+use Rattle.std.proofs.Common.{◌++◌, length, take, drop, get_or, Option, Some, None, IsTrue, Contains, IfSome, nat_le, refl, sym}
+use Rattle.std.proofs.Common.{ap, subst, ◌∙◌, arith}
 use Rattle.std.proofs.lemmas.Bool.{false≢true}
 use Rattle.std.proofs.lemmas.Bool.Decides.{nat_tests}
 use Rattle.std.proofs.lemmas.List.{take_all, take-append-le}
@@ -37,12 +39,20 @@ pub kept_next : (P : ℕ → Type 0) (places rest next new : List ℕ) (holds : 
     → Kept P places (take (length rest - 1) (drop 1 rest)) new
 kept_next P places [] next new holds some before is added = absurd (omega arith)
 kept_next P places (place ∷ later) next new true some before is added = record {
-  sound = λ q has. ⊎_elim (λ (old : Contains next q). before.sound q old) (λ (same : place ≡ q). (subst (λ (x : ℕ). Contains places x) same (before.within place (contains_first place later)), subst P same (is.0 refl))) (Contains-push_cases next place q (subst (λ (xs : List ℕ). Contains xs q) added has));
-  within = λ p has. before.within p (contains_after place later p (subst (λ (xs : List ℕ). Contains xs p) (later_of place later) has));
+  sound = λ q has.
+      ⊎_elim (λ (old : Contains next q). before.sound q old)
+      (λ (same : place ≡ q).
+      (subst (λ (x : ℕ). Contains places x) same (before.within place (contains_first place later)), subst P same (is.0 refl)))
+      (Contains-push_cases next place q (subst (λ (xs : List ℕ). Contains xs q) added has));
+  within = λ p has.
+      before.within p (contains_after place later p (subst (λ (xs : List ℕ). Contains xs p) (later_of place later) has));
   complete = λ p has held. ⊎_elim
-      (λ (old : Contains next p). inl (subst (λ (xs : List ℕ). Contains xs p) (sym added) (Contains-append_left next (place ∷ []) p old)))
+      (λ (old : Contains next p). inl
+      (subst (λ (xs : List ℕ). Contains xs p) (sym added) (Contains-append_left next (place ∷ []) p old)))
       (λ (left : Contains (place ∷ later) p). ⊎_elim
-      (λ (same : p ≡ place). inl (subst (λ (xs : List ℕ). Contains xs p) (sym added) (subst (λ (x : ℕ). Contains (next ++ place ∷ []) x) (sym same) (Contains-push next place))))
+      (λ (same : p ≡ place). inl
+      (subst (λ (xs : List ℕ). Contains xs p) (sym added)
+      (subst (λ (x : ℕ). Contains (next ++ place ∷ []) x) (sym same) (Contains-push next place))))
       (λ (after : Contains later p). inr (subst (λ (xs : List ℕ). Contains xs p) (sym (later_of place later)) after))
       (contains_cases place later p left))
       (before.complete p has held);
@@ -94,11 +104,17 @@ led_next leads places (place ∷ later) led new (Some there) some before only ad
   sound = λ q has. ⊎_elim (λ (old : Contains led q). before.sound q old)
       (λ (same : there ≡ q). (place, before.within place (contains_first place later), subst (leads place) same only.0))
       (Contains-push_cases led there q (subst (λ (xs : List ℕ). Contains xs q) added has));
-  within = λ p has. before.within p (contains_after place later p (subst (λ (xs : List ℕ). Contains xs p) (later_of place later) has));
+  within = λ p has.
+      before.within p (contains_after place later p (subst (λ (xs : List ℕ). Contains xs p) (later_of place later) has));
   complete = λ p q has goes. ⊎_elim
-      (λ (old : Contains led q). inl (subst (λ (xs : List ℕ). Contains xs q) (sym added) (Contains-append_left led (there ∷ []) q old)))
+      (λ (old : Contains led q). inl
+      (subst (λ (xs : List ℕ). Contains xs q) (sym added) (Contains-append_left led (there ∷ []) q old)))
       (λ (left : Contains (place ∷ later) p). ⊎_elim
-      (λ (same : p ≡ place). inl (subst (λ (xs : List ℕ). Contains xs q) (sym added) (subst (λ (x : ℕ). Contains (led ++ there ∷ []) x) (sym (only.1 q (subst (λ (x : ℕ). leads x q) same goes))) (Contains-push led there))))
+      (λ (same : p ≡ place). inl
+      (subst (λ (xs : List ℕ). Contains xs q) (sym added)
+      (subst (λ (x : ℕ). Contains (led ++ there ∷ []) x)
+      (sym (only.1 q (subst (λ (x : ℕ). leads x q) same goes)))
+      (Contains-push led there))))
       (λ (after : Contains later p). inr (subst (λ (xs : List ℕ). Contains xs p) (sym (later_of place later)) after))
       (contains_cases place later p left))
       (before.complete p q has goes);
@@ -151,7 +167,11 @@ pub none_left : (rest : List ℕ) (p : ℕ) → length rest < 1 → Contains res
 none_left rest p empty has = omega (arith, has.1)
 
 -- all places were asked
-pub kept_all : (every : Bool) (leads : ℕ → ℕ → Type 0) (places rest next : List ℕ) → ((p q : ℕ) → leads p q → q ≡ p) → length rest < 1 → Kept (λ p. leads p p) places rest next → Gathers every (IsLedTo leads places) next
+pub kept_all : (every : Bool) (leads : ℕ → ℕ → Type 0) (places rest next : List ℕ)
+    → ((p q : ℕ) → leads p q → q ≡ p)
+    → length rest < 1
+    → Kept (λ p. leads p p) places rest next
+    → Gathers every (IsLedTo leads places) next
 kept_all every leads places rest next test empty h = record {
   sound = λ q has. let s = h.sound q has in (q, s.0, s.1);
   complete = λ q led.
@@ -169,28 +189,52 @@ with_if_within led new (Some x) most q added here before has =
 -- a sorted list, element by element
 pub ascending_from : (xs : List ℕ) (low : ℕ) → ((k d : ℕ) → k < length xs → low ≤ get_or xs k d) → ((i j d : ℕ) → i ≤ j → j < length xs → get_or xs i d ≤ get_or xs j d) → IsAscending low xs
 ascending_from [] low above sorted = tt
-ascending_from (x ∷ xs) low above sorted = (above 0 0 (omega arith), ascending_from xs x (λ k d below. sorted 0 (suc k) d (omega arith) (omega arith)) (λ i j d order below. sorted (suc i) (suc j) d (omega arith) (omega arith)))
+ascending_from (x ∷ xs) low above sorted = (
+  above 0 0 (omega arith),
+  ascending_from xs x (λ k d below. sorted 0 (suc k) d (omega arith) (omega arith))
+      (λ i j d order below. sorted (suc i) (suc j) d (omega arith) (omega arith)),
+)
 
-pub deduped_next : (sorted rest next new : List ℕ) (low : ℕ) (wanted : Bool) → 1 ≤ length rest → Deduped sorted rest low next → IsAscending (low - 1) rest → IsRising 0 next low
-    → wanted ≡ nat_le low (get_or rest 0 0) → new ≡ cond wanted (next ++ get_or rest 0 0 ∷ []) next
-    → Deduped sorted (take (length rest - 1) (drop 1 rest)) (get_or rest 0 0 + 1) new × IsAscending (get_or rest 0 0 + 1 - 1) (take (length rest - 1) (drop 1 rest)) × IsRising 0 new (get_or rest 0 0 + 1)
+pub deduped_next : (sorted rest next new : List ℕ) (low : ℕ) (wanted : Bool)
+    → 1 ≤ length rest
+    → Deduped sorted rest low next
+    → IsAscending (low - 1) rest
+    → IsRising 0 next low
+    → wanted ≡ nat_le low (get_or rest 0 0)
+    → new ≡ cond wanted (next ++ get_or rest 0 0 ∷ []) next
+    → Deduped sorted (take (length rest - 1) (drop 1 rest)) (get_or rest 0 0 + 1) new ×
+    IsAscending (get_or rest 0 0 + 1 - 1) (take (length rest - 1) (drop 1 rest)) × IsRising 0 new (get_or rest 0 0 + 1)
 deduped_next sorted [] next new low wanted some h order risen is added = absurd (omega arith)
 deduped_next sorted (place ∷ later) next new low true some h order risen is added =
     let over : low ≤ place = grind (arith, nat_tests) in (
       record {
-        sound = λ q has. ⊎_elim (λ (old : Contains next q). h.sound q old) (λ (same : place ≡ q). subst (λ (x : ℕ). Contains sorted x) same (h.within place (contains_first place later))) (Contains-push_cases next place q (subst (λ (xs : List ℕ). Contains xs q) added has));
-        within = λ q has. h.within q (contains_after place later q (subst (λ (xs : List ℕ). Contains xs q) (later_of place later) has));
+        sound = λ q has.
+            ⊎_elim (λ (old : Contains next q). h.sound q old)
+            (λ (same : place ≡ q). subst (λ (x : ℕ). Contains sorted x) same (h.within place (contains_first place later)))
+            (Contains-push_cases next place q (subst (λ (xs : List ℕ). Contains xs q) added has));
+        within = λ q has.
+            h.within q (contains_after place later q (subst (λ (xs : List ℕ). Contains xs q) (later_of place later) has));
         complete = λ q has. ⊎_elim
-            (λ (old : Contains next q). inl (subst (λ (xs : List ℕ). Contains xs q) (sym added) (Contains-append_left next (place ∷ []) q old)))
+            (λ (old : Contains next q). inl
+            (subst (λ (xs : List ℕ). Contains xs q) (sym added) (Contains-append_left next (place ∷ []) q old)))
             (λ (left : Contains (place ∷ later) q). ⊎_elim
-            (λ (same : q ≡ place). inl (subst (λ (xs : List ℕ). Contains xs q) (sym added) (subst (λ (x : ℕ). Contains (next ++ place ∷ []) x) (sym same) (Contains-push next place))))
+            (λ (same : q ≡ place). inl
+            (subst (λ (xs : List ℕ). Contains xs q) (sym added)
+            (subst (λ (x : ℕ). Contains (next ++ place ∷ []) x) (sym same) (Contains-push next place))))
             (λ (after : Contains later q). inr (subst (λ (xs : List ℕ). Contains xs q) (sym (later_of place later)) after))
             (contains_cases place later q left))
             (h.complete q has);
-        latest = inr (subst (λ (xs : List ℕ). Contains xs (place + 1 - 1)) (sym added) (subst (λ (x : ℕ). Contains (next ++ place ∷ []) x) (back place) (Contains-push next place)));
+        latest =
+            inr (subst (λ (xs : List ℕ). Contains xs (place + 1 - 1))
+            (sym added)
+            (subst (λ (x : ℕ). Contains (next ++ place ∷ []) x) (back place) (Contains-push next place)));
       },
-      subst (λ (x : ℕ). IsAscending x (take (length (place ∷ later) - 1) (drop 1 (place ∷ later)))) (back place) (subst (λ (xs : List ℕ). IsAscending place xs) (sym (later_of place later)) order.1),
-      subst (λ (xs : List ℕ). IsRising 0 xs (place + 1)) (sym added) (rising_push next 0 low place (place + 1) over (omega arith) risen),
+      subst (λ (x : ℕ). IsAscending x (take (length (place ∷ later) - 1) (drop 1 (place ∷ later))))
+          (back place)
+          (subst (λ (xs : List ℕ). IsAscending place xs) (sym (later_of place later)) order.1),
+      subst (λ (xs : List ℕ). IsRising 0 xs (place + 1))
+          (sym added)
+          (rising_push next 0 low place (place + 1) over (omega arith) risen),
     )
   where
     back : (place : ℕ) → place ≡ place + 1 - 1
@@ -198,20 +242,30 @@ deduped_next sorted (place ∷ later) next new low true some h order risen is ad
 deduped_next sorted (place ∷ later) next new low false some h order risen is added =
     let under : place < low = grind (arith, nat_tests) in
     let low_is : low ≡ place + 1 = omega (arith, order.0) in
-    let has_last : Contains next place = ⊎_elim (λ (zero_is : low ≡ 0). absurd (omega arith)) (λ (last : Contains next (low - 1)). let same : low - 1 ≡ place = omega arith in subst (λ (x : ℕ). Contains next x) same last) h.latest in (
+    let has_last : Contains next place =
+    ⊎_elim (λ (zero_is : low ≡ 0). absurd (omega arith))
+    (λ (last : Contains next (low - 1)). let same : low - 1 ≡ place = omega arith in subst (λ (x : ℕ). Contains next x) same last)
+    h.latest in (
       record {
         sound = λ q has. h.sound q (subst (λ (xs : List ℕ). Contains xs q) added has);
-        within = λ q has. h.within q (contains_after place later q (subst (λ (xs : List ℕ). Contains xs q) (later_of place later) has));
+        within = λ q has.
+            h.within q (contains_after place later q (subst (λ (xs : List ℕ). Contains xs q) (later_of place later) has));
         complete = λ q has. ⊎_elim
             (λ (old : Contains next q). inl (subst (λ (xs : List ℕ). Contains xs q) (sym added) old))
             (λ (left : Contains (place ∷ later) q). ⊎_elim
-            (λ (same : q ≡ place). inl (subst (λ (xs : List ℕ). Contains xs q) (sym added) (subst (λ (x : ℕ). Contains next x) (sym same) has_last)))
+            (λ (same : q ≡ place). inl
+            (subst (λ (xs : List ℕ). Contains xs q) (sym added) (subst (λ (x : ℕ). Contains next x) (sym same) has_last)))
             (λ (after : Contains later q). inr (subst (λ (xs : List ℕ). Contains xs q) (sym (later_of place later)) after))
             (contains_cases place later q left))
             (h.complete q has);
-        latest = inr (subst (λ (xs : List ℕ). Contains xs (place + 1 - 1)) (sym added) (subst (λ (x : ℕ). Contains next x) (back place) has_last));
+        latest =
+            inr (subst (λ (xs : List ℕ). Contains xs (place + 1 - 1))
+            (sym added)
+            (subst (λ (x : ℕ). Contains next x) (back place) has_last));
       },
-      subst (λ (x : ℕ). IsAscending x (take (length (place ∷ later) - 1) (drop 1 (place ∷ later)))) (back place) (subst (λ (xs : List ℕ). IsAscending place xs) (sym (later_of place later)) order.1),
+      subst (λ (x : ℕ). IsAscending x (take (length (place ∷ later) - 1) (drop 1 (place ∷ later))))
+          (back place)
+          (subst (λ (xs : List ℕ). IsAscending place xs) (sym (later_of place later)) order.1),
       subst (λ (xs : List ℕ). IsRising 0 xs (place + 1)) (sym added) (subst (λ (x : ℕ). IsRising 0 next x) low_is risen),
     )
   where
@@ -242,15 +296,24 @@ length-asked false [] asked is = omega (arith, ap length is)
 length-asked false (x ∷ places) asked is = omega (arith, ap length is)
 
 -- where an option that isn't relative leads from one place it leads from each
-pub asked_leads : (relative : Bool) (leads : ℕ → ℕ → Type 0) (places asked : List ℕ) → 0 < length places → asked ≡ cond relative places (take 1 places) → (relative ≡ false → (p p' q : ℕ) → leads p q → leads p' q)
-    → (q : ℕ) → IsLedTo leads places q → IsLedTo leads asked q
+pub asked_leads : (relative : Bool) (leads : ℕ → ℕ → Type 0) (places asked : List ℕ)
+    → 0 < length places
+    → asked ≡ cond relative places (take 1 places)
+    → (relative ≡ false → (p p' q : ℕ) → leads p q → leads p' q)
+    → (q : ℕ)
+    → IsLedTo leads places q
+    → IsLedTo leads asked q
 asked_leads true leads places asked some is free q led = (led.0, subst (λ (xs : List ℕ). Contains xs led.0) (sym is) led.1, led.2)
 asked_leads false leads [] asked some is free q led = absurd (omega arith)
 asked_leads false leads (x ∷ places) asked some is free q led = (x, subst (λ (xs : List ℕ). Contains xs x) (sym is) (contains_first x []), free refl led.0 x q led.2)
 
 -- jumps, in order and each once
-pub jumps_gathered : (every relative : Bool) (leads : ℕ → ℕ → Type 0) (places asked led sorted next : List ℕ) → 0 < length places → asked ≡ cond relative places (take 1 places) → (relative ≡ false → (p p' q : ℕ) → leads p q → leads p' q)
-    → ((q : ℕ) → (Contains led q → IsLedTo leads asked q) × (IsLedTo leads asked q → Contains led q)) → IsPermutation led sorted
+pub jumps_gathered : (every relative : Bool) (leads : ℕ → ℕ → Type 0) (places asked led sorted next : List ℕ)
+    → 0 < length places
+    → asked ≡ cond relative places (take 1 places)
+    → (relative ≡ false → (p p' q : ℕ) → leads p q → leads p' q)
+    → ((q : ℕ) → (Contains led q → IsLedTo leads asked q) × (IsLedTo leads asked q → Contains led q))
+    → IsPermutation led sorted
     → ((q : ℕ) → (Contains next q → Contains sorted q) × (Contains sorted q → Contains next q))
     → Gathers every (IsLedTo leads places) next
 jumps_gathered every relative leads places asked led sorted next some is free found same deduped = record {
@@ -261,13 +324,22 @@ jumps_gathered every relative leads places asked led sorted next some is free fo
 }
 
 -- a test of the first place, where the option isn't relative
-pub first_holds : (every : Bool) (leads : ℕ → ℕ → Type 0) (places : List ℕ) → ((p q : ℕ) → leads p q → q ≡ p) → ((p p' : ℕ) → leads p p → leads p' p') → 0 < length places → leads (get_or places 0 0) (get_or places 0 0) → Gathers every (IsLedTo leads places) places
+pub first_holds : (every : Bool) (leads : ℕ → ℕ → Type 0) (places : List ℕ)
+    → ((p q : ℕ) → leads p q → q ≡ p)
+    → ((p p' : ℕ) → leads p p → leads p' p')
+    → 0 < length places
+    → leads (get_or places 0 0) (get_or places 0 0)
+    → Gathers every (IsLedTo leads places) places
 first_holds every leads places test free some here = record {
   sound = λ q has. (q, has, free (get_or places 0 0) q here);
   complete = λ q led. got_of_contains every places q (subst (λ (x : ℕ). Contains places x) (sym (test led.0 q led.2)) led.1);
 }
 
-pub first_fails : (every : Bool) (leads : ℕ → ℕ → Type 0) (places : List ℕ) → ((p q : ℕ) → leads p q → q ≡ p) → ((p p' : ℕ) → leads p p → leads p' p') → (leads (get_or places 0 0) (get_or places 0 0) → ⊥) → Gathers every (IsLedTo leads places) []
+pub first_fails : (every : Bool) (leads : ℕ → ℕ → Type 0) (places : List ℕ)
+    → ((p q : ℕ) → leads p q → q ≡ p)
+    → ((p p' : ℕ) → leads p p → leads p' p')
+    → (leads (get_or places 0 0) (get_or places 0 0) → ⊥)
+    → Gathers every (IsLedTo leads places) []
 first_fails every leads places test free never = record {
   sound = λ q has. absurd (omega (arith, has.1));
   complete = λ q led. absurd (never (free led.0 (get_or places 0 0) (subst (λ (x : ℕ). leads led.0 x) (test led.0 q led.2) led.2)));

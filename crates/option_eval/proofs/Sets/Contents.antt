@@ -1,5 +1,7 @@
 -- Where a content occurs, as its reach from its origin; and where it leads from a set of places.
-use Rattle.std.proofs.Common.{◌≡◌, ℕ, ◌+◌, ◌<◌, ◌≤◌, ⊎_elim, min, ℤ, pos, ◌+ℤ◌, ◌≤ℤ◌, Bool, true, false, not, ◌&&◌, ◌||◌, cond, List, [], ◌∷◌, length, Option, Some, None, is_some, IfSome, IsTrue, MatchBool, Contains, refl, sym, ap, subst, ◌∙◌, arith, option_map, unwrap_or}
+use Rattle.std.proofs.Common.{◌≡◌, ℕ, ◌+◌, ◌<◌, ◌≤◌, ⊎_elim, min, ℤ, pos, ◌+ℤ◌, ◌≤ℤ◌, Bool, true, false, not, ◌&&◌, ◌||◌, cond}
+use Rattle.std.proofs.Common.{List, [], ◌∷◌, length, Option, Some, None, is_some, IfSome, IsTrue, MatchBool, Contains, refl, sym}
+use Rattle.std.proofs.Common.{ap, subst, ◌∙◌, arith, option_map, unwrap_or}
 use Rattle.std.proofs.lemmas.Bool.{false≢true}
 use Rattle.std.proofs.lemmas.Int.{ints}
 use Rattle.memchr.specs.Find.{IsFirst}
@@ -34,23 +36,37 @@ module _ (nocase relative : Bool) (place : ℕ) (from : ℤ) (reach : Reach) (pa
   is_found_of false None from_is room_is h here = record { from = rw from_is at h.low; until = tt; occurs = here }
   is_found_of false (Some room) from_is room_is h here = record { from = rw from_is at h.low; until = rw (room_is, from_is) at h.high; occurs = here }
 
-module _ (content : Content) (values : List ℕ) (place : ℕ) (payload : List ℕ) (reach : Reach) (from_is : reach.from ≡ reach_from content values) (room_is : reach.room ≡ reach_room content values) (i : ℕ) where
-  pub is_found_within : IsFoundAt content.bytes payload (sought content (point values place)) i → IsWithin reach (length content.bytes) (content_origin content place) i × Occurs (folds_case content) payload content.bytes i
+module _ (content : Content) (values : List ℕ) (place : ℕ) (payload : List ℕ) (reach : Reach)
+    (from_is : reach.from ≡ reach_from content values)
+    (room_is : reach.room ≡ reach_room content values)
+    (i : ℕ) where
+  pub is_found_within : IsFoundAt content.bytes payload (sought content (point values place)) i
+      → IsWithin reach (length content.bytes) (content_origin content place) i ×
+      Occurs (folds_case content) payload content.bytes i
   is_found_within h =
-      within_of content.nocase content.relative place (unwrap_or (number_if values content.from) (pos 0)) reach payload content.bytes i (is_only content.fast) (number_if values content.room) from_is room_is h
+      within_of content.nocase content.relative place (unwrap_or (number_if values content.from) (pos 0)) reach payload
+      content.bytes i (is_only content.fast) (number_if values content.room) from_is room_is h
 
-  pub within_is_found : IsWithin reach (length content.bytes) (content_origin content place) i → Occurs (folds_case content) payload content.bytes i → IsFoundAt content.bytes payload (sought content (point values place)) i
+  pub within_is_found : IsWithin reach (length content.bytes) (content_origin content place) i
+      → Occurs (folds_case content) payload content.bytes i
+      → IsFoundAt content.bytes payload (sought content (point values place)) i
   within_is_found h here =
-      is_found_of content.nocase content.relative place (unwrap_or (number_if values content.from) (pos 0)) reach payload content.bytes i (is_only content.fast) (number_if values content.room) from_is room_is h here
+      is_found_of content.nocase content.relative place (unwrap_or (number_if values content.from) (pos 0)) reach payload
+      content.bytes i (is_only content.fast) (number_if values content.room) from_is room_is h here
 
 -- what a search of the window answers
-pub window_answer : (nocase : Bool) (payload bytes : List ℕ) (reach : Reach) (place bound least most low : ℕ) (r : Option ℕ) (answer : Bool)
-    → answer ≡ is_some r → IsFirst (Occurs nocase payload bytes) low most r
+pub window_answer : (nocase : Bool) (payload bytes : List ℕ) (reach : Reach) (place bound least most low : ℕ) (r : Option ℕ)
+    (answer : Bool)
+    → answer ≡ is_some r
+    → IsFirst (Occurs nocase payload bytes) low most r
     → ((i : ℕ) → i + length bytes ≤ length payload → i < bound)
     → ((i : ℕ) → i < bound → ((pos place +ℤ reach.from) ≤ℤ pos i → least ≤ i) × (least ≤ i → (pos place +ℤ reach.from) ≤ℤ pos i))
-    → ((i : ℕ) → i < bound → (IfSome reach.room (λ room. pos (i + length bytes) ≤ℤ ((pos place +ℤ reach.from) +ℤ room)) → i < most) × (i < most → IfSome reach.room (λ room. pos (i + length bytes) ≤ℤ ((pos place +ℤ reach.from) +ℤ room))))
+    → ((i : ℕ) → i < bound →
+    (IfSome reach.room (λ room. pos (i + length bytes) ≤ℤ ((pos place +ℤ reach.from) +ℤ room)) → i < most) ×
+    (i < most → IfSome reach.room (λ room. pos (i + length bytes) ≤ℤ ((pos place +ℤ reach.from) +ℤ room))))
     → low ≡ min least most
-    → (IsTrue answer → (i : ℕ) × IsWithin reach (length bytes) place i × Occurs nocase payload bytes i) × (((i : ℕ) × IsWithin reach (length bytes) place i × Occurs nocase payload bytes i) → IsTrue answer)
+    → (IsTrue answer → (i : ℕ) × IsWithin reach (length bytes) place i × Occurs nocase payload bytes i) ×
+    (((i : ℕ) × IsWithin reach (length bytes) place i × Occurs nocase payload bytes i) → IsTrue answer)
 window_answer nocase payload bytes reach place bound least most low None answer is found fits least_is most_is low_is = (
   λ yes. absurd (false≢true (sym is ∙ yes)),
   λ h.
@@ -108,7 +124,11 @@ some_place : (places : List ℕ) → 0 < length places → (p : ℕ) × Contains
 some_place [] some = absurd (omega arith)
 some_place (p ∷ places) some = (p, contains_first p places)
 
-asked_place : (relative : Bool) (places asked : List ℕ) (p : ℕ) → 0 < length places → MatchBool relative (asked ≡ places) (asked ≡ 0 ∷ []) → Contains asked p → (from : ℕ) × Contains places from × (cond relative from 0 ≡ p)
+asked_place : (relative : Bool) (places asked : List ℕ) (p : ℕ)
+    → 0 < length places
+    → MatchBool relative (asked ≡ places) (asked ≡ 0 ∷ [])
+    → Contains asked p
+    → (from : ℕ) × Contains places from × (cond relative from 0 ≡ p)
 asked_place true places asked p some is has = (p, subst (λ (xs : List ℕ). Contains xs p) is has, refl)
 asked_place false places asked p some is has =
     let from = some_place places some in
@@ -148,7 +168,14 @@ module _ (every : Bool) (means : Means) (payload values : List ℕ) (content : C
             let here = content_leads means payload values content plain led.0 q led.2 in
             let reached = is_found_within content values led.0 payload reach from_is room_is here.0 here.1 in
             let at = origin_is (is_only content.fast) content.relative led.0 plain.1 in
-            f.complete q (cond content.relative led.0 0, here.0, asked_has content.relative places asked led.0 asks led.1, subst (λ (x : ℕ). IsWithin reach (length content.bytes) x here.0) at reached.0, reached.1, here.2);
+            f.complete q (
+              cond content.relative led.0 0,
+              here.0,
+              asked_has content.relative places asked led.0 asks led.1,
+              subst (λ (x : ℕ). IsWithin reach (length content.bytes) x here.0) at reached.0,
+              reached.1,
+              here.2,
+            );
       }
 
 -- a negated content that counts from a place holds there just where its bytes aren't within reach
@@ -171,13 +198,20 @@ module _ (means : Means) (payload values : List ℕ) (content : Content) (negate
 
   pub absent_leads : ¬ IsReached (folds_case content) payload content.bytes reach p → LeadsFrom means payload values (opt.Content content) p p
   unfolding Leads
-  absent_leads none = true_match content.negated _ _ negated
-      ((λ i here. let at = is_found_within content values p payload reach from_is room_is i here in none (i, subst (λ (x : ℕ). IsWithin reach (length content.bytes) x i) origin_here at.0, at.1)), refl)
+  absent_leads none = true_match content.negated _ _ negated (
+    (λ i here.
+        let at = is_found_within content values p payload reach from_is room_is i here in
+        none (i, subst (λ (x : ℕ). IsWithin reach (length content.bytes) x i) origin_here at.0, at.1)),
+    refl,
+  )
 
   pub leads_absent : LeadsFrom means payload values (opt.Content content) p p → ¬ IsReached (folds_case content) payload content.bytes reach p
   unfolding Leads
   leads_absent led = λ reached.
-      (match_true content.negated _ _ negated led).0 reached.0 (within_is_found content values p payload reach from_is room_is reached.0 (subst (λ (x : ℕ). IsWithin reach (length content.bytes) x reached.0) (sym origin_here) reached.1) reached.2)
+      (match_true content.negated _ _ negated led).0 reached.0
+      (within_is_found content values p payload reach from_is room_is reached.0
+      (subst (λ (x : ℕ). IsWithin reach (length content.bytes) x reached.0) (sym origin_here) reached.1)
+      reached.2)
 
 -- a negated content, where the places within whose reach it occurs nowhere were gathered
 module _ (every : Bool) (means : Means) (payload values : List ℕ) (content : Content) (negated : content.negated ≡ true) (relative : (not (is_only content.fast) && content.relative) ≡ true)
@@ -186,7 +220,10 @@ module _ (every : Bool) (means : Means) (payload values : List ℕ) (content : C
       → ((q : ℕ) → (Contains next q → Contains places q × ¬ IsReached nocase payload bytes reach q) × (Contains places q × ¬ IsReached nocase payload bytes reach q → Contains next q))
       → Gathers every (IsLedTo (LeadsFrom means payload values (opt.Content content)) places) next
   absent_gathers stays nocase bytes nocase_is bytes_is found =
-      let Found : Bool → List ℕ → Type 0 = λ nocase bytes. (q : ℕ) → (Contains next q → Contains places q × ¬ IsReached nocase payload bytes reach q) × (Contains places q × ¬ IsReached nocase payload bytes reach q → Contains next q) in
+      let Found : Bool → List ℕ → Type 0 = λ nocase bytes.
+      (q : ℕ)
+      → (Contains next q → Contains places q × ¬ IsReached nocase payload bytes reach q) ×
+      (Contains places q × ¬ IsReached nocase payload bytes reach q → Contains next q) in
       let f = subst (λ (b : Bool). Found b content.bytes) nocase_is (subst (λ (bs : List ℕ). Found nocase bs) bytes_is found) in
       record {
         sound = λ q has.
@@ -196,7 +233,8 @@ module _ (every : Bool) (means : Means) (payload values : List ℕ) (content : C
             let same = stays led.0 q led.2 in
             let here = subst (λ (p : ℕ). LeadsFrom means payload values (opt.Content content) p q) (sym same) led.2 in
             let in_places = subst (λ (p : ℕ). Contains places p) (sym same) led.1 in
-            got_of_contains every next q ((f q).1 (in_places, leads_absent means payload values content negated relative reach from_is room_is q here));
+            got_of_contains every next q
+            ((f q).1 (in_places, leads_absent means payload values content negated relative reach from_is room_is q here));
       }
 
 -- a relative content that is a test is negated

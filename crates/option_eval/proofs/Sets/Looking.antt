@@ -1,5 +1,7 @@
 -- One look more at a payload from left to right, and one place more that is asked with what was seen.
-use Rattle.std.proofs.Common.{◌≡◌, ℕ, ◌+◌, ◌-◌, ◌<◌, ◌≤◌, ◌⊎◌, inl, inr, ⊎_elim, max, ℤ, pos, ◌+ℤ◌, ◌≤ℤ◌, Bool, true, false, List, [], ◌∷◌, length, take, drop, get_or, Option, Some, None, IfSome, IsTrue, Contains, nat_le, refl, subst, arith}
+use Rattle.std.proofs.Common.{◌≡◌, ℕ, ◌+◌, ◌-◌, ◌<◌, ◌≤◌, ◌⊎◌, inl, inr, ⊎_elim, max, ℤ, pos, ◌+ℤ◌, ◌≤ℤ◌, Bool, true, false, List}
+use Rattle.std.proofs.Common.{[], ◌∷◌, length, take, drop, get_or, Option, Some, None, IfSome, IsTrue, Contains, nat_le, refl}
+use Rattle.std.proofs.Common.{subst, arith}
 use Rattle.std.proofs.lemmas.Bool.{cases_lt}
 use Rattle.std.proofs.lemmas.Bool.Decides.{nat_tests}
 use Rattle.std.proofs.lemmas.Int.{ints}
@@ -47,7 +49,10 @@ module _ (nocase : Bool) (payload bytes : List ℕ) (reach : Reach) where
   -- what is seen serves the places that are left
   pub record Serves (rest : List ℕ) (seen : Seen) : Type 0 where
     pub noted : (p i : ℕ) → Contains rest p → (pos p +ℤ reach.from) ≤ℤ pos i → Occurs nocase payload bytes i → IsNoted seen i
-    pub is_found : 0 < seen.last → Occurs nocase payload bytes (seen.last - 1) × ((p : ℕ) → Contains rest p → IfSome reach.room (λ room. pos (seen.last - 1 + length bytes) ≤ℤ ((pos p +ℤ reach.from) +ℤ room)))
+    pub is_found : 0 < seen.last
+        → Occurs nocase payload bytes (seen.last - 1) ×
+        ((p : ℕ) → Contains rest p →
+        IfSome reach.room (λ room. pos (seen.last - 1 + length bytes) ≤ℤ ((pos p +ℤ reach.from) +ℤ room)))
 
   pub serves_none : (rest : List ℕ) (seen : Seen) → seen.done ≡ 0 → seen.last ≡ 0 → Serves rest seen
   serves_none rest seen done_is last_is = record {
@@ -63,8 +68,11 @@ module _ (nocase : Bool) (payload bytes : List ℕ) (reach : Reach) where
   module _ (rest : List ℕ) (high bound low end : ℕ) (seen new : Seen) (some : 1 ≤ length rest)
       (least : (p : ℕ) → Contains rest p → get_or rest 0 0 ≤ p)
       (fits : (i : ℕ) → i + length bytes ≤ length payload → i < bound)
-      (low_is : (i : ℕ) → i < bound → ((pos (get_or rest 0 0) +ℤ reach.from) ≤ℤ pos i → low ≤ i) × (low ≤ i → (pos (get_or rest 0 0) +ℤ reach.from) ≤ℤ pos i))
-      (end_is : (i : ℕ) → i < bound → (IfSome reach.room (λ room. pos (i + length bytes) ≤ℤ ((pos (get_or rest 0 0) +ℤ reach.from) +ℤ room)) → i < end) × (i < end → IfSome reach.room (λ room. pos (i + length bytes) ≤ℤ ((pos (get_or rest 0 0) +ℤ reach.from) +ℤ room))))
+      (low_is : (i : ℕ) → i < bound →
+      ((pos (get_or rest 0 0) +ℤ reach.from) ≤ℤ pos i → low ≤ i) × (low ≤ i → (pos (get_or rest 0 0) +ℤ reach.from) ≤ℤ pos i))
+      (end_is : (i : ℕ) → i < bound →
+      (IfSome reach.room (λ room. pos (i + length bytes) ≤ℤ ((pos (get_or rest 0 0) +ℤ reach.from) +ℤ room)) → i < end) ×
+      (i < end → IfSome reach.room (λ room. pos (i + length bytes) ≤ℤ ((pos (get_or rest 0 0) +ℤ reach.from) +ℤ room))))
       (before : Serves rest seen) (looked : SeesOn (Occurs nocase payload bytes) low end seen new) where
     under_bound : (i : ℕ) → Occurs nocase payload bytes i → i < bound
     under_bound i here = fits i (occurs_fits nocase payload bytes i here)
@@ -76,19 +84,35 @@ module _ (nocase : Bool) (payload bytes : List ℕ) (reach : Reach) where
     last_is_found some_last = ⊎_elim
         (λ (same : new.last ≡ seen.last).
         let old = before.is_found (omega arith) in
-        let at : seen.last - 1 ≡ new.last - 1 = omega arith in
-        (subst (λ (i : ℕ). Occurs nocase payload bytes i) at old.0, subst (λ (i : ℕ). IfSome reach.room (λ room. pos (i + length bytes) ≤ℤ ((pos (get_or rest 0 0) +ℤ reach.from) +ℤ room))) at (old.1 (get_or rest 0 0) (contains_head rest some))))
-        (λ (fresh : Occurs nocase payload bytes (new.last - 1) × (new.last - 1 < end)). (fresh.0, (end_is (new.last - 1) (under_bound (new.last - 1) fresh.0)).1 fresh.1))
+        let at : seen.last - 1 ≡ new.last - 1 = omega arith in (
+          subst (λ (i : ℕ). Occurs nocase payload bytes i) at old.0,
+          subst (λ (i : ℕ). IfSome reach.room (λ room. pos (i + length bytes) ≤ℤ ((pos (get_or rest 0 0) +ℤ reach.from) +ℤ room)))
+              at
+              (old.1 (get_or rest 0 0) (contains_head rest some)),
+        ))
+        (λ (fresh : Occurs nocase payload bytes (new.last - 1) × (new.last - 1 < end)).
+        (fresh.0, (end_is (new.last - 1) (under_bound (new.last - 1) fresh.0)).1 fresh.1))
         (looked.is_found some_last)
 
     pub serves_next : Serves (take (length rest - 1) (drop 1 rest)) new
     serves_next = record {
-      noted = λ p i has over here. let had = contains_later rest p some has in looked.noted i (low_of p i had over here) here (before.noted p i had over here);
-      is_found = λ some_last. let last = last_is_found some_last in (last.0, λ p has. room_later reach.room (get_or rest 0 0) p (new.last - 1 + length bytes) (least p (contains_later rest p some has)) last.1);
+      noted = λ p i has over here.
+          let had = contains_later rest p some has in
+          looked.noted i (low_of p i had over here) here (before.noted p i had over here);
+      is_found = λ some_last.
+          let last = last_is_found some_last in (
+            last.0,
+            λ p has.
+                room_later reach.room (get_or rest 0 0) p (new.last - 1 + length bytes) (least p (contains_later rest p some has))
+                last.1,
+          );
     }
 
     -- what was seen tells whether the bytes are reached from the first of them
-    pub tells : (holds : Bool) → holds ≡ nat_le new.last low → (IsTrue holds → ¬ IsReached nocase payload bytes reach (get_or rest 0 0)) × (¬ IsReached nocase payload bytes reach (get_or rest 0 0) → IsTrue holds)
+    pub tells : (holds : Bool)
+        → holds ≡ nat_le new.last low
+        → (IsTrue holds → ¬ IsReached nocase payload bytes reach (get_or rest 0 0)) ×
+        (¬ IsReached nocase payload bytes reach (get_or rest 0 0) → IsTrue holds)
     tells true is = (
       λ yes. λ reached.
           let i = reached.0 in

@@ -1,5 +1,6 @@
 -- Where bytes occur in a part of a payload, and in the payload; with case folded, and as they are.
-use Rattle.std.proofs.Common.{◌≡◌, ℕ, ◌+◌, ◌-◌, ◌<◌, ◌≤◌, true, false, List, length, take, drop, get_or, Option, Some, None, option_map, sym, ap, subst, ◌∙◌, arith, length-drop, get_or-take, get_or-drop, ⊎_elim}
+use Rattle.std.proofs.Common.{◌≡◌, ℕ, ◌+◌, ◌-◌, ◌<◌, ◌≤◌, true, false, List, length, take, drop, get_or, Option, Some, None}
+use Rattle.std.proofs.Common.{option_map, sym, ap, subst, ◌∙◌, arith, length-drop, get_or-take, get_or-drop, ⊎_elim}
 use Rattle.std.specs.Char.{to_ascii_lowercase, to_ascii_uppercase}
 use Rattle.std.specs.Str.{str_to_ascii_lowercase}
 use Rattle.std.proofs.lemmas.List.{length-map, get_or-map, take-map, drop-map, length-take-le}
@@ -70,7 +71,11 @@ module _ (hay needle : List ℕ) (low stop : ℕ) (within : stop ≤ length hay)
       (omega arith) r h
 
 -- a search of a part for two bytes
-pub first_byte : (lower upper : ℕ) (hay : List ℕ) (low end : ℕ) → low ≤ end → end ≤ length hay → (r : Option ℕ) → IsFirst (Passes (is_byte2 lower upper) (take (end - low) (drop low hay))) 0 (length (take (end - low) (drop low hay))) r
+pub first_byte : (lower upper : ℕ) (hay : List ℕ) (low end : ℕ)
+    → low ≤ end
+    → end ≤ length hay
+    → (r : Option ℕ)
+    → IsFirst (Passes (is_byte2 lower upper) (take (end - low) (drop low hay))) 0 (length (take (end - low) (drop low hay))) r
     → IsFirst (Passes (is_byte2 lower upper) hay) low end (option_map (λ k. low + k) r)
 first_byte lower upper hay low end order within None h =
     let size = length-part hay low end within in
@@ -82,7 +87,11 @@ first_byte lower upper hay low end order within (Some k) h =
     let bare : NoneBefore (Passes (is_byte2 lower upper) hay) low end (low + k) = record {
       low = omega arith;
       high = omega arith;
-      before = λ i from under here. first.before (i - low) (omega arith) (omega arith) (ap (is_byte2 lower upper) (byte_of_part hay low end (i - low) (omega arith) ∙ ap (λ (n : ℕ). get_or hay n 0) (omega arith)) ∙ here);
+      before = λ i from under here.
+          first.before (i - low) (omega arith) (omega arith)
+          (ap (is_byte2 lower upper)
+          (byte_of_part hay low end (i - low) (omega arith) ∙ ap (λ (n : ℕ). get_or hay n 0) (omega arith)) ∙
+          here);
     } in
     (bare, ap (is_byte2 lower upper) (sym (byte_of_part hay low end k (omega arith))) ∙ h.1)
 
@@ -97,7 +106,9 @@ module _ (payload bytes : List ℕ) (at : ℕ) (fits : at + length bytes ≤ len
 
   pub folded_is_found : str_to_ascii_lowercase bytes ≡ str_to_ascii_lowercase (take (at + length bytes - at) (drop at payload)) → Occurs true payload bytes at
   folded_is_found same =
-      OccursAt-from_part (str_to_ascii_lowercase payload) (str_to_ascii_lowercase bytes) at (omega (arith, length-map bytes to_ascii_lowercase, length-map payload to_ascii_lowercase)) (same_part ∙ sym same)
+      OccursAt-from_part (str_to_ascii_lowercase payload) (str_to_ascii_lowercase bytes) at
+      (omega (arith, length-map bytes to_ascii_lowercase, length-map payload to_ascii_lowercase))
+      (same_part ∙ sym same)
 
   pub is_found_folded : Occurs true payload bytes at → str_to_ascii_lowercase bytes ≡ str_to_ascii_lowercase (take (at + length bytes - at) (drop at payload))
   is_found_folded here =
@@ -112,7 +123,10 @@ pub folded_first : (payload bytes : List ℕ) (i : ℕ) → 1 ≤ length bytes �
     → Passes (is_byte2 (to_ascii_lowercase (get_or bytes 0 0)) (to_ascii_uppercase (to_ascii_lowercase (get_or bytes 0 0)))) payload i
 folded_first payload bytes i some here =
     let fits = here.fits in
-    let sizes : (i < length payload) × (0 < length (str_to_ascii_lowercase bytes)) = (omega (arith, length-map bytes to_ascii_lowercase, length-map payload to_ascii_lowercase), omega (arith, length-map bytes to_ascii_lowercase)) in
+    let sizes : (i < length payload) × (0 < length (str_to_ascii_lowercase bytes)) = (
+      omega (arith, length-map bytes to_ascii_lowercase, length-map payload to_ascii_lowercase),
+      omega (arith, length-map bytes to_ascii_lowercase),
+    ) in
     let read : get_or (str_to_ascii_lowercase payload) i 0 ≡ get_or (str_to_ascii_lowercase bytes) 0 0 =
     ap (λ (n : ℕ). get_or (str_to_ascii_lowercase payload) n 0) (omega arith) ∙ here.reads 0 sizes.1 in
     folded_byte (get_or payload i 0) (get_or bytes 0 0)

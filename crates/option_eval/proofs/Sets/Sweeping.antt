@@ -1,5 +1,7 @@
 -- One window more of a sweep, and one place more within a window.
-use Rattle.std.proofs.Common.{◌≡◌, ℕ, ◌+◌, ◌-◌, ◌<◌, ◌≤◌, ◌⊎◌, inl, inr, ⊎_elim, max, min, pos, ◌+ℤ◌, ◌≤ℤ◌, Bool, true, false, cond, ◌||◌, ◌&&◌, nat_lt, List, [], ◌∷◌, ◌++◌, length, refl, sym, subst, ◌∙◌, arith, Contains, IfSome, MatchBool, take, drop, get_or, ◌==◌}
+use Rattle.std.proofs.Common.{◌≡◌, ℕ, ◌+◌, ◌-◌, ◌<◌, ◌≤◌, ◌⊎◌, inl, inr, ⊎_elim, max, min, pos, ◌+ℤ◌, ◌≤ℤ◌, Bool, true, false}
+use Rattle.std.proofs.Common.{cond, ◌||◌, ◌&&◌, nat_lt, List, [], ◌∷◌, ◌++◌, length, refl, sym, subst, ◌∙◌, arith, Contains}
+use Rattle.std.proofs.Common.{IfSome, MatchBool, take, drop, get_or, ◌==◌}
 use Rattle.std.proofs.lemmas.Bool.{cases_lt}
 use Rattle.std.proofs.lemmas.Bool.Decides.{nat_tests}
 use Rattle.std.proofs.lemmas.List.{length-map, take_all}
@@ -31,7 +33,9 @@ module _ (every nocase : Bool) (payload bytes : List ℕ) where
       → Adds every (IsHitIn nocase payload bytes low (on_from every start end)) old (new ++ (start + length bytes) ∷ [])
   adds_next low at start end old new order h first here = record {
     sound = λ q has. ⊎_elim
-        (λ (before : Contains new q). ⊎_elim (λ (o : Contains old q). inl o) (λ (hit : IsHitIn nocase payload bytes low at q). inr (hit.0, hit.1, earlier every hit.0 hit.2, hit.3, hit.4)) (h.sound q before))
+        (λ (before : Contains new q). ⊎_elim (λ (o : Contains old q). inl o)
+        (λ (hit : IsHitIn nocase payload bytes low at q). inr (hit.0, hit.1, earlier every hit.0 hit.2, hit.3, hit.4))
+        (h.sound q before))
         (λ (is : start + length bytes ≡ q). inr (start, omega (arith, first.low), start_in every, here, sym is))
         (Contains-push_cases new (start + length bytes) q has);
     kept = λ q has. Contains-append_left new _ q (h.kept q has);
@@ -45,7 +49,11 @@ module _ (every nocase : Bool) (payload bytes : List ℕ) where
     start_in true = omega arith
     start_in false = first.high
 
-    complete : (all : Bool) → ((q : ℕ) → IsHitIn nocase payload bytes low at q → IsGot all new q) → (q : ℕ) → IsHitIn nocase payload bytes low (on_from all start end) q → IsGot all (new ++ (start + length bytes) ∷ []) q
+    complete : (all : Bool)
+        → ((q : ℕ) → IsHitIn nocase payload bytes low at q → IsGot all new q)
+        → (q : ℕ)
+        → IsHitIn nocase payload bytes low (on_from all start end) q
+        → IsGot all (new ++ (start + length bytes) ∷ []) q
     complete false before q hit = omega (arith, (Contains-push new (start + length bytes)).1)
     complete true before q hit = ⊎_elim
         (λ (under : hit.0 < at). Contains-append_left new _ q (before q (hit.0, hit.1, under, hit.3, hit.4)))
@@ -78,12 +86,21 @@ module _ (every nocase : Bool) (payload bytes : List ℕ) where
   }
 
   -- a search of a window begins, at its end where nothing is wanted of it
-  pub begins : (low end : ℕ) (old : List ℕ) (none : Bool) → none ≡ (length old == 0) → low ≤ end → IsRising 0 old (low + length bytes)
-      → (low ≤ cond (every || none) low end) × (cond (every || none) low end ≤ end) × Adds every (IsHitIn nocase payload bytes low (cond (every || none) low end)) old old × IsRising 0 old (cond (every || none) low end + length bytes)
+  pub begins : (low end : ℕ) (old : List ℕ) (none : Bool)
+      → none ≡ (length old == 0)
+      → low ≤ end
+      → IsRising 0 old (low + length bytes)
+      → (low ≤ cond (every || none) low end) × (cond (every || none) low end ≤ end) ×
+      Adds every (IsHitIn nocase payload bytes low (cond (every || none) low end)) old old ×
+      IsRising 0 old (cond (every || none) low end + length bytes)
   begins low end old none empty order risen = from every none refl empty
     where
-      from : (all none : Bool) → all ≡ every → none ≡ (length old == 0)
-          → (low ≤ cond (all || none) low end) × (cond (all || none) low end ≤ end) × Adds every (IsHitIn nocase payload bytes low (cond (all || none) low end)) old old × IsRising 0 old (cond (all || none) low end + length bytes)
+      from : (all none : Bool)
+          → all ≡ every
+          → none ≡ (length old == 0)
+          → (low ≤ cond (all || none) low end) × (cond (all || none) low end ≤ end) ×
+          Adds every (IsHitIn nocase payload bytes low (cond (all || none) low end)) old old ×
+          IsRising 0 old (cond (all || none) low end + length bytes)
       from true none is empty = (omega arith, order, adds_none low old, risen)
       from false true is empty = (omega arith, order, adds_none low old, risen)
       from false false is empty =
@@ -131,8 +148,11 @@ module _ (every nocase : Bool) (payload bytes : List ℕ) where
         (rising : IsRising 0 (place ∷ later) high)
         (before : Swept (place ∷ later) from done next)
         (fits : (i : ℕ) → Occurs nocase payload bytes i → i < bound)
-        (least_is : (i : ℕ) → i < bound → ((pos place +ℤ reach.from) ≤ℤ pos i → least ≤ i) × (least ≤ i → (pos place +ℤ reach.from) ≤ℤ pos i))
-        (most_is : (i : ℕ) → i < bound → (IfSome reach.room (λ room. pos (i + length bytes) ≤ℤ ((pos place +ℤ reach.from) +ℤ room)) → i < most) × (i < most → IfSome reach.room (λ room. pos (i + length bytes) ≤ℤ ((pos place +ℤ reach.from) +ℤ room))))
+        (least_is : (i : ℕ) → i < bound →
+        ((pos place +ℤ reach.from) ≤ℤ pos i → least ≤ i) × (least ≤ i → (pos place +ℤ reach.from) ≤ℤ pos i))
+        (most_is : (i : ℕ) → i < bound →
+        (IfSome reach.room (λ room. pos (i + length bytes) ≤ℤ ((pos place +ℤ reach.from) +ℤ room)) → i < most) ×
+        (i < most → IfSome reach.room (λ room. pos (i + length bytes) ≤ℤ ((pos place +ℤ reach.from) +ℤ room))))
         (end_is : end ≡ max most done)
         (low_is : low ≡ min (max least done) end)
         (added : Adds every (IsHitIn nocase payload bytes from (cond (nat_lt done low) done from)) next new) where
@@ -170,7 +190,13 @@ module _ (every nocase : Bool) (payload bytes : List ℕ) where
       order_in true = omega arith
       order_in false = omega (arith, before.order)
 
-      reached_in : (apart : Bool) → apart ≡ nat_lt done low → (i : ℕ) → cond apart low from ≤ i → i < end → Occurs nocase payload bytes i → IsHitFrom nocase payload bytes reach places (i + length bytes)
+      reached_in : (apart : Bool)
+          → apart ≡ nat_lt done low
+          → (i : ℕ)
+          → cond apart low from ≤ i
+          → i < end
+          → Occurs nocase payload bytes i
+          → IsHitFrom nocase payload bytes reach places (i + length bytes)
       reached_in true is i over under here =
           let apart : done < low = grind (arith, nat_tests) in
           hit_within i over under (omega arith) here
@@ -188,9 +214,16 @@ module _ (every nocase : Bool) (payload bytes : List ℕ) where
       window_in true i over past = over
       window_in false i over past = omega (arith, before.order)
 
-      pub swept_more : (rest : List ℕ) → (rest ≡ later) ⊎ (((every ≡ false) × (0 < length new)) ⊎ (bound ≤ end)) → ((p : ℕ) → Contains rest p → Contains later p) → Swept rest (cond (nat_lt done low) low from) end new
+      pub swept_more : (rest : List ℕ)
+          → (rest ≡ later) ⊎ (((every ≡ false) × (0 < length new)) ⊎ (bound ≤ end))
+          → ((p : ℕ) → Contains rest p → Contains later p)
+          → Swept rest (cond (nat_lt done low) low from) end new
       swept_more rest asks fewer = record {
-        sound = λ q has. ⊎_elim (λ (old : Contains next q). before.sound q old) (λ (hit : IsHitIn nocase payload bytes from (cond (nat_lt done low) done from) q). sound_in (nat_lt done low) refl q hit) (added.sound q has);
+        sound = λ q has.
+            ⊎_elim (λ (old : Contains next q). before.sound q old)
+            (λ (hit : IsHitIn nocase payload bytes from (cond (nat_lt done low) done from) q). sound_in
+            (nat_lt done low) refl q hit)
+            (added.sound q has);
         within = λ p has. before.within p (contains_after place later p (fewer p has));
         order = order_in (nat_lt done low);
         reached = λ i over under here. reached_in (nat_lt done low) refl i over under here;
@@ -259,13 +292,21 @@ choice false false false rest taken new end bound empty left h = let whole : bou
 module _ (every nocase : Bool) (payload bytes : List ℕ) (reach : Reach) (places : List ℕ) where
   -- one turn of the sweep
   pub swept_next : (rest on : List ℕ) (high from done bound least most low end : ℕ) (next new : List ℕ) (none more : Bool)
-      → 1 ≤ length rest → IsRising 0 rest high → Swept every nocase payload bytes reach places rest from done next
+      → 1 ≤ length rest
+      → IsRising 0 rest high
+      → Swept every nocase payload bytes reach places rest from done next
       → ((i : ℕ) → i + length bytes ≤ length payload → i < bound)
-      → ((i : ℕ) → i < bound → ((pos (get_or rest 0 0) +ℤ reach.from) ≤ℤ pos i → least ≤ i) × (least ≤ i → (pos (get_or rest 0 0) +ℤ reach.from) ≤ℤ pos i))
-      → ((i : ℕ) → i < bound → (IfSome reach.room (λ room. pos (i + length bytes) ≤ℤ ((pos (get_or rest 0 0) +ℤ reach.from) +ℤ room)) → i < most) × (i < most → IfSome reach.room (λ room. pos (i + length bytes) ≤ℤ ((pos (get_or rest 0 0) +ℤ reach.from) +ℤ room))))
-      → end ≡ max most done → low ≡ min (max least done) end
+      → ((i : ℕ) → i < bound →
+      ((pos (get_or rest 0 0) +ℤ reach.from) ≤ℤ pos i → least ≤ i) × (least ≤ i → (pos (get_or rest 0 0) +ℤ reach.from) ≤ℤ pos i))
+      → ((i : ℕ) → i < bound →
+      (IfSome reach.room (λ room. pos (i + length bytes) ≤ℤ ((pos (get_or rest 0 0) +ℤ reach.from) +ℤ room)) → i < most) ×
+      (i < most → IfSome reach.room (λ room. pos (i + length bytes) ≤ℤ ((pos (get_or rest 0 0) +ℤ reach.from) +ℤ room))))
+      → end ≡ max most done
+      → low ≡ min (max least done) end
       → Adds every (IsHitIn nocase payload bytes from (cond (nat_lt done low) done from)) next new
-      → none ≡ (length new == 0) → more ≡ nat_lt end bound → MatchBool ((every || none) && more) (on ≡ take (length rest - 1) (drop 1 rest)) (on ≡ [])
+      → none ≡ (length new == 0)
+      → more ≡ nat_lt end bound
+      → MatchBool ((every || none) && more) (on ≡ take (length rest - 1) (drop 1 rest)) (on ≡ [])
       → Swept every nocase payload bytes reach places on (cond (nat_lt done low) low from) end new × IsRising 0 on high
   swept_next [] on high from done bound least most low end next new none more some rising before fits least_is most_is end_is low_is added empty left asks = absurd (omega arith)
   swept_next (place ∷ later) on high from done bound least most low end next new none more some rising before fits least_is most_is end_is low_is added empty left asks =

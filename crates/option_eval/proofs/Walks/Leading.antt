@@ -1,5 +1,6 @@
 -- Where an option leads from one place.
-use Rattle.std.proofs.Common.{◌≡◌, ℕ, ◌+◌, ℤ, pos, ◌+ℤ◌, ◌<ℤ◌, Bool, true, false, not, ◌||◌, cond, List, length, drop, Option, Some, None, is_some, IsTrue, MatchBool, refl, sym, ap, subst, ◌∙◌, option_map}
+use Rattle.std.proofs.Common.{◌≡◌, ℕ, ◌+◌, ℤ, pos, ◌+ℤ◌, ◌<ℤ◌, Bool, true, false, not, ◌||◌, cond, List, length, drop, Option}
+use Rattle.std.proofs.Common.{Some, None, is_some, IsTrue, MatchBool, refl, sym, ap, subst, ◌∙◌, option_map}
 use Rattle.std.proofs.lemmas.Bool.{false≢true}
 use Rattle.edge_io.specs.declared.pattern.PatternFlags.{PatternFlags}
 use Rattle.edge_io.specs.declared.pattern.Span.{Span}
@@ -16,7 +17,10 @@ use Rattle.option_eval.specs.Places.{Means, Leads, Compares, Unless, byte_jump_l
 use Rattle.option_eval.specs.Sets.{LeadsFrom, LeadsOnlyTo, PlaceIn, IsFoundFrom, point}
 
 -- a fact or its opposite
-unless_same : (negated holds answer : Bool) (P : Type 0) → answer ≡ cond negated (not holds) holds → (IsTrue holds → P) × (P → IsTrue holds) → (IsTrue answer → Unless negated P) × (Unless negated P → IsTrue answer)
+unless_same : (negated holds answer : Bool) (P : Type 0)
+    → answer ≡ cond negated (not holds) holds
+    → (IsTrue holds → P) × (P → IsTrue holds)
+    → (IsTrue answer → Unless negated P) × (Unless negated P → IsTrue answer)
 unless_same true true answer P is h = (λ yes. absurd (false≢true (sym is ∙ yes)), λ none. absurd (none (h.0 refl)))
 unless_same true false answer P is h = (λ yes. λ p. false≢true (h.1 p), λ none. is)
 unless_same false holds answer P is h = (λ yes. h.0 (sym is ∙ yes), λ p. is ∙ h.1 p)
@@ -27,9 +31,13 @@ module _ (means : Means) (payload values : List ℕ) (place : ℕ) where
     unfolding Leads
     byte_test_none q none h = let e = h.1 in cc
 
-    pub byte_test_some : (read : Fetched) (holds answer : Bool) → Some read ≡ fetched payload fetch (point values place) → answer ≡ cond negated (not holds) holds
-        → (IsTrue holds → Compares how read.number (number_of values value)) × (Compares how read.number (number_of values value) → IsTrue holds)
-        → (IsTrue answer → LeadsFrom means payload values (opt.ByteTest fetch negated how value) place place) × (LeadsFrom means payload values (opt.ByteTest fetch negated how value) place place → IsTrue answer)
+    pub byte_test_some : (read : Fetched) (holds answer : Bool)
+        → Some read ≡ fetched payload fetch (point values place)
+        → answer ≡ cond negated (not holds) holds
+        → (IsTrue holds → Compares how read.number (number_of values value)) ×
+        (Compares how read.number (number_of values value) → IsTrue holds)
+        → (IsTrue answer → LeadsFrom means payload values (opt.ByteTest fetch negated how value) place place) ×
+        (LeadsFrom means payload values (opt.ByteTest fetch negated how value) place place → IsTrue answer)
     unfolding Leads
     byte_test_some read holds answer some is h =
         let both = unless_same negated holds answer (Compares how read.number (number_of values value)) is h in (
@@ -40,9 +48,12 @@ module _ (means : Means) (payload values : List ℕ) (place : ℕ) where
               both.1 (subst (λ (r : Fetched). Unless negated (Compares how r.number (number_of values value))) same led.2),
         )
 
-  pub isdataat : (at : Num) (relative negated holds answer : Bool) → answer ≡ cond negated (not holds) holds
-      → (IsTrue holds → (pos (cond relative place 0) +ℤ number_of values at) <ℤ pos (length payload)) × ((pos (cond relative place 0) +ℤ number_of values at) <ℤ pos (length payload) → IsTrue holds)
-      → (IsTrue answer → LeadsFrom means payload values (opt.IsDataAt at relative negated) place place) × (LeadsFrom means payload values (opt.IsDataAt at relative negated) place place → IsTrue answer)
+  pub isdataat : (at : Num) (relative negated holds answer : Bool)
+      → answer ≡ cond negated (not holds) holds
+      → (IsTrue holds → (pos (cond relative place 0) +ℤ number_of values at) <ℤ pos (length payload)) ×
+      ((pos (cond relative place 0) +ℤ number_of values at) <ℤ pos (length payload) → IsTrue holds)
+      → (IsTrue answer → LeadsFrom means payload values (opt.IsDataAt at relative negated) place place) ×
+      (LeadsFrom means payload values (opt.IsDataAt at relative negated) place place → IsTrue answer)
   unfolding Leads
   isdataat at relative negated holds answer is h =
       let both = unless_same negated holds answer ((pos (cond relative place 0) +ℤ number_of values at) <ℤ pos (length payload)) is h in
@@ -52,8 +63,10 @@ module _ (means : Means) (payload values : List ℕ) (place : ℕ) where
     -- a content that is negated, or sought by the fast pattern alone
     abbrev Stays : Bool → Bool → Type 0
     Stays negated only = MatchBool negated
-        (((i : ℕ) → ¬ IsFoundAt content.bytes payload (sought content (point values place)) i) × (point values place ≡ point values place))
-        ((i : ℕ) × IsFoundAt content.bytes payload (sought content (point values place)) i × (point values place ≡ cond only (point values place) (at_place (point values place) (i + length content.bytes))))
+        (((i : ℕ) → ¬ IsFoundAt content.bytes payload (sought content (point values place)) i) ×
+        (point values place ≡ point values place))
+        ((i : ℕ) × IsFoundAt content.bytes payload (sought content (point values place)) i ×
+        (point values place ≡ cond only (point values place) (at_place (point values place) (i + length content.bytes))))
 
     stays : (negated only holds answer : Bool) → (negated || only) ≡ true → answer ≡ cond negated (not holds) holds
         → (IsTrue holds → IsFoundFrom payload content values place) × (IsFoundFrom payload content values place → IsTrue holds)
@@ -94,8 +107,11 @@ module _ (means : Means) (payload values : List ℕ) (place : ℕ) where
 
   module _ (text : List ℕ) (flags : PatternFlags) (relative : Bool) where
     -- a negated pattern holds where nothing is found
-    pub pcre_absent : (found : Option Span) (answer : Bool) → found ≡ means text flags (drop (cond relative place 0) payload) → is_some found ≡ not answer
-        → (IsTrue answer → LeadsFrom means payload values (opt.Pcre text flags relative true) place place) × (LeadsFrom means payload values (opt.Pcre text flags relative true) place place → IsTrue answer)
+    pub pcre_absent : (found : Option Span) (answer : Bool)
+        → found ≡ means text flags (drop (cond relative place 0) payload)
+        → is_some found ≡ not answer
+        → (IsTrue answer → LeadsFrom means payload values (opt.Pcre text flags relative true) place place) ×
+        (LeadsFrom means payload values (opt.Pcre text flags relative true) place place → IsTrue answer)
     unfolding Leads
     pcre_absent None true is none = (λ yes. (sym is, refl), λ led. refl)
     pcre_absent None false is none = absurd (false≢true none)

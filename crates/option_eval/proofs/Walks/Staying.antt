@@ -1,5 +1,6 @@
 -- What the kinds of options lead to.
-use Rattle.std.proofs.Common.{◌≡◌, ℕ, ◌+◌, ℤ, pos, ◌+ℤ◌, ◌<ℤ◌, Bool, true, false, not, ◌&&◌, ◌||◌, cond, List, length, drop, MatchBool, refl, sym, ap, subst, ◌∙◌, Option, Some, None, option_map, unwrap_or}
+use Rattle.std.proofs.Common.{◌≡◌, ℕ, ◌+◌, ℤ, pos, ◌+ℤ◌, ◌<ℤ◌, Bool, true, false, not, ◌&&◌, ◌||◌, cond, List, length, drop}
+use Rattle.std.proofs.Common.{MatchBool, refl, sym, ap, subst, ◌∙◌, Option, Some, None, option_map, unwrap_or}
 use Rattle.std.proofs.lemmas.Bool.{false≢true}
 use Rattle.edge_io.specs.declared.pattern.Span.{Span}
 use Rattle.rule_types.specs.declared.option.Content.{Content}
@@ -12,7 +13,10 @@ use Rattle.option_eval.specs.Places.{Means, Leads, IsFoundAt, Sought, Unless, is
 use Rattle.option_eval.specs.Sets.{LeadsFrom, point}
 
 -- a content that is negated, or sought by the fast pattern alone
-content_stay : (negated only : Bool) (A : Type 0) (B : ℕ → Type 0) (s t : Point) (far : ℕ → Point) → (negated || only) ≡ true → MatchBool negated (A × (t ≡ s)) ((i : ℕ) × B i × (t ≡ cond only s (far i))) → t ≡ s
+content_stay : (negated only : Bool) (A : Type 0) (B : ℕ → Type 0) (s t : Point) (far : ℕ → Point)
+    → (negated || only) ≡ true
+    → MatchBool negated (A × (t ≡ s)) ((i : ℕ) × B i × (t ≡ cond only s (far i)))
+    → t ≡ s
 content_stay true only A B s t far test h = h.1
 content_stay false true A B s t far test h = h.2
 content_stay false false A B s t far test h = absurd (false≢true test)
@@ -28,7 +32,12 @@ place_is values p q h = ap (λ (s : Point). s.place) h
 pub test_stays : (means : Means) (payload values : List ℕ) (option : Opt) → is_test option ≡ true → (p q : ℕ) → LeadsFrom means payload values option p q → q ≡ p
 unfolding Leads
 test_stays means payload values (opt.Content content) test p q led =
-    place_is values p q (content_stay content.negated (is_only content.fast) ((i : ℕ) → ¬ IsFoundAt content.bytes payload (sought content (point values p)) i) (λ i. IsFoundAt content.bytes payload (sought content (point values p)) i) (point values p) (point values q) (λ i. at_place (point values p) (i + length content.bytes)) test led)
+    place_is values p q
+    (content_stay content.negated (is_only content.fast)
+    ((i : ℕ) → ¬ IsFoundAt content.bytes payload (sought content (point values p)) i)
+    (λ i. IsFoundAt content.bytes payload (sought content (point values p)) i)
+    (point values p) (point values q)
+    (λ i. at_place (point values p) (i + length content.bytes)) test led)
 test_stays means payload values (opt.Pcre text flags relative negated) test p q led = place_is values p q (pattern_stay negated _ _ (point values p) (point values q) test led)
 test_stays means payload values (opt.ByteTest fetch negated how value) test p q led = place_is values p q led.3
 test_stays means payload values (opt.IsDataAt at relative negated) test p q led = place_is values p q led.1
@@ -70,7 +79,9 @@ sought_of only nocase origin from room =
     cond only (record { nocase = true; from = pos 0; until = None })
     (record { nocase = nocase; from = pos origin +ℤ from; until = option_map (λ (room : ℤ). (pos origin +ℤ from) +ℤ room) room })
 
-sought_parts : (only relative nocase : Bool) (p p' : ℕ) (from : ℤ) (room : Option ℤ) → (not only && relative) ≡ false → sought_of only nocase (cond relative p 0) from room ≡ sought_of only nocase (cond relative p' 0) from room
+sought_parts : (only relative nocase : Bool) (p p' : ℕ) (from : ℤ) (room : Option ℤ)
+    → (not only && relative) ≡ false
+    → sought_of only nocase (cond relative p 0) from room ≡ sought_of only nocase (cond relative p' 0) from room
 sought_parts true relative nocase p p' from room free = refl
 sought_parts false true nocase p p' from room free = absurd (false≢true (sym free))
 sought_parts false false nocase p p' from room free = refl
@@ -93,11 +104,18 @@ pattern_free finds true true payload values p p' B C test free h = absurd (false
 pattern_free finds false true payload values p p' B C test free h = (h.0, refl)
 
 -- a test that isn't relative holds at each place or at none
-pub test_free : (means : Means) (payload values : List ℕ) (option : Opt) → is_test option ≡ true → is_relative option ≡ false → (p p' : ℕ) → LeadsFrom means payload values option p p → LeadsFrom means payload values option p' p'
+pub test_free : (means : Means) (payload values : List ℕ) (option : Opt)
+    → is_test option ≡ true
+    → is_relative option ≡ false
+    → (p p' : ℕ)
+    → LeadsFrom means payload values option p p
+    → LeadsFrom means payload values option p' p'
 unfolding Leads
 test_free means payload values (opt.Content content) test free p p' led =
-    content_free content.negated (is_only content.fast) (λ i. IsFoundAt content.bytes payload (sought content (point values p)) i) (λ i. IsFoundAt content.bytes payload (sought content (point values p')) i)
-    (point values p) (point values p') (λ i. at_place (point values p) (i + length content.bytes)) (λ i. at_place (point values p') (i + length content.bytes))
+    content_free content.negated (is_only content.fast) (λ i. IsFoundAt content.bytes payload (sought content (point values p)) i)
+    (λ i. IsFoundAt content.bytes payload (sought content (point values p')) i)
+    (point values p) (point values p') (λ i. at_place (point values p) (i + length content.bytes))
+    (λ i. at_place (point values p') (i + length content.bytes))
     (λ i here. subst (λ (how : Sought). IsFoundAt content.bytes payload how i) (sought_free content values p p' free) here)
     (λ i here. subst (λ (how : Sought). IsFoundAt content.bytes payload how i) (sought_free content values p' p free) here)
     test led
@@ -117,7 +135,12 @@ jump_pattern finds true false payload values p p' q B C plain free h = absurd (f
 jump_pattern finds false false payload values p p' q B C plain free h = (h.0, h.1, h.2)
 
 -- a jump that isn't relative leads from each place to the same
-pub jump_free : (means : Means) (payload values : List ℕ) (option : Opt) → IsJump option → is_relative option ≡ false → (p p' q : ℕ) → LeadsFrom means payload values option p q → LeadsFrom means payload values option p' q
+pub jump_free : (means : Means) (payload values : List ℕ) (option : Opt)
+    → IsJump option
+    → is_relative option ≡ false
+    → (p p' q : ℕ)
+    → LeadsFrom means payload values option p q
+    → LeadsFrom means payload values option p' q
 unfolding Leads
 jump_free means payload values (opt.Pcre text flags relative negated) jumps free p p' q led = jump_pattern (means text flags) relative negated payload values p p' q _ _ jumps free led
 jump_free means payload values (opt.ByteJump fetch times align beginning post) jumps free p p' q led = (led.0, fetched_free payload values fetch p' p free ∙ led.1, led.2, led.3, led.4)

@@ -1,5 +1,7 @@
 -- Ways through options, one option at a time.
-use Rattle.std.proofs.Common.{◌≡◌, ℕ, zero, suc, ◌+◌, ◌-◌, ◌*◌, ◌<◌, ◌≤◌, ⊎_elim, Bool, true, false, ◌&&◌, ◌||◌, cond, List, [], ◌∷◌, length, take, drop, get_or, slice_set, Option, Some, None, IsTrue, IfOk, Result, ◌==◌, MatchBool, Contains, refl, sym, ap, subst, ◌∙◌, arith}
+use Rattle.std.proofs.Common.{◌≡◌, ℕ, zero, suc, ◌+◌, ◌-◌, ◌*◌, ◌<◌, ◌≤◌, ⊎_elim, Bool, true, false, ◌&&◌, ◌||◌, cond, List, []}
+use Rattle.std.proofs.Common.{◌∷◌, length, take, drop, get_or, slice_set, Option, Some, None, IsTrue, IfOk, Result, ◌==◌}
+use Rattle.std.proofs.Common.{MatchBool, Contains, refl, sym, ap, subst, ◌∙◌, arith}
 use Rattle.std.specs.List.{AllZip, count_by}
 use Rattle.std.proofs.lemmas.Bool.{false≢true}
 use Rattle.std.proofs.lemmas.List.{take_all}
@@ -38,21 +40,30 @@ module _ (means : Means) (payload : List ℕ) where
   pub next_way : (o : Opt) (os : List Opt) (s t : Point) → Leads means payload o s t → MatchesFrom means payload os t → MatchesFrom means payload (o ∷ os) s
   next_way o os s t leads m = (t ∷ m.0, (leads, m.1))
 
-  content_values : (negated only : Bool) (A : Type 0) (B : ℕ → Type 0) (s t : Point) (size : ℕ) → MatchBool negated (A × (t ≡ s)) ((i : ℕ) × B i × (t ≡ cond only s (at_place s (i + size)))) → t.values ≡ s.values
+  content_values : (negated only : Bool) (A : Type 0) (B : ℕ → Type 0) (s t : Point) (size : ℕ)
+      → MatchBool negated (A × (t ≡ s)) ((i : ℕ) × B i × (t ≡ cond only s (at_place s (i + size))))
+      → t.values ≡ s.values
   content_values true only A B s t size h = ap (λ (x : Point). x.values) h.1
   content_values false true A B s t size h = ap (λ (x : Point). x.values) h.2
   content_values false false A B s t size h = ap (λ (x : Point). x.values) h.2
 
-  pattern_values : (negated : Bool) (A : Type 0) (B : Span → Type 0) (s t : Point) (from : ℕ) → MatchBool negated (A × (t ≡ s)) ((span : Span) × B span × (t ≡ at_place s (from + span.end))) → t.values ≡ s.values
+  pattern_values : (negated : Bool) (A : Type 0) (B : Span → Type 0) (s t : Point) (from : ℕ)
+      → MatchBool negated (A × (t ≡ s)) ((span : Span) × B span × (t ≡ at_place s (from + span.end)))
+      → t.values ≡ s.values
   pattern_values true A B s t from h = ap (λ (x : Point). x.values) h.1
   pattern_values false A B s t from h = ap (λ (x : Point). x.values) h.2
 
   -- an option other than an extraction leaves the values
   pub values_kept : (o : Opt) (s t : Point) → is_extract o ≡ false → Leads means payload o s t → t.values ≡ s.values
   unfolding Leads
-  values_kept (opt.Content content) s t plain h = content_values content.negated (is_only content.fast) ((i : ℕ) → ¬ IsFoundAt content.bytes payload (sought content s) i) (λ i. IsFoundAt content.bytes payload (sought content s) i) s t (length content.bytes) h
+  values_kept (opt.Content content) s t plain h =
+      content_values content.negated (is_only content.fast) ((i : ℕ) → ¬ IsFoundAt content.bytes payload (sought content s) i)
+      (λ i. IsFoundAt content.bytes payload (sought content s) i) s t
+      (length content.bytes) h
   values_kept (opt.Pcre text flags relative negated) s t plain h =
-      pattern_values negated (means text flags (drop (cond relative s.place 0) payload) ≡ None) (λ span. means text flags (drop (cond relative s.place 0) payload) ≡ Some span) s t (cond relative s.place 0) h
+      pattern_values negated (means text flags (drop (cond relative s.place 0) payload) ≡ None)
+      (λ span. means text flags (drop (cond relative s.place 0) payload) ≡ Some span) s t
+      (cond relative s.place 0) h
   values_kept (opt.ByteTest fetch negated how value) s t plain h = ap (λ (x : Point). x.values) h.3
   values_kept (opt.ByteJump fetch times align beginning post) s t plain h = h.2
   values_kept (opt.ByteExtract fetch name times align) s t plain h = absurd (false≢true (sym plain))
@@ -80,8 +91,12 @@ module _ (means : Means) (payload : List ℕ) where
   pub move_free : (o : Opt) (values : List ℕ) (p p' : ℕ) (t : Point) → is_test o ≡ false → is_relative o ≡ false → Leads means payload o (point values p) t → Leads means payload o (point values p') t
   unfolding Leads
   move_free (opt.Content content) values p p' t moves free h =
-      content_move content.negated (is_only content.fast) _ _ (λ i. IsFoundAt content.bytes payload (sought content (point values p)) i) (λ i. IsFoundAt content.bytes payload (sought content (point values p')) i) values p p' (length content.bytes) t
-      (λ i here. subst (λ (how : Sought). IsFoundAt content.bytes payload how i) (sought_free content values p p' free) here) moves h
+      content_move content.negated (is_only content.fast) _ _
+      (λ i. IsFoundAt content.bytes payload (sought content (point values p)) i)
+      (λ i. IsFoundAt content.bytes payload (sought content (point values p')) i) values p p'
+      (length content.bytes) t
+      (λ i here. subst (λ (how : Sought). IsFoundAt content.bytes payload how i) (sought_free content values p p' free) here)
+      moves h
   move_free (opt.Pcre text flags relative negated) values p p' t moves free h = pattern_move (means text flags) relative negated _ _ values p p' t moves free h
   move_free (opt.ByteJump fetch times align beginning post) values p p' t moves free h = (h.0, fetched_free payload values fetch p' p free ∙ h.1, h.2, h.3, h.4)
   move_free (opt.ByteExtract fetch name times align) values p p' t moves free h = (h.0, fetched_free payload values fetch p' p free ∙ h.1, h.2)
@@ -117,7 +132,8 @@ module _ (means : Means) (payload : List ℕ) where
   module _ (o : Opt) (os : List Opt) (values places next : List ℕ) (plain : is_extract o ≡ false) where
     -- the places after an option serve in its stead
     pub walk_step : Gathers (needs_place os) (IsLedTo (LeadsFrom means payload values o) places) next
-        → (MatchesFromOne means payload (o ∷ os) values places → MatchesFromOne means payload os values next) × (MatchesFromOne means payload os values next → MatchesFromOne means payload (o ∷ os) values places)
+        → (MatchesFromOne means payload (o ∷ os) values places → MatchesFromOne means payload os values next) ×
+        (MatchesFromOne means payload os values next → MatchesFromOne means payload (o ∷ os) values places)
     walk_step found = (
       λ m.
           let next_t = way_next o os (point values m.0) m.2 in

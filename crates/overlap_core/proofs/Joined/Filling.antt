@@ -1,5 +1,6 @@
 -- Bytes that are copied from one piece after another.
-use Rattle.std.proofs.Common.{◌≡◌, ℕ, ◌+◌, ◌-◌, ◌<◌, ◌≤◌, ◌↔◌, inl, inr, List, [], ◌∷◌, ◌++◌, Option, Some, None, true, false, IsSome, IsTrue, length, min, take, get_or, refl, ap, sym, subst, ◌∙◌, arith}
+use Rattle.std.proofs.Common.{◌≡◌, ℕ, ◌+◌, ◌-◌, ◌<◌, ◌≤◌, ◌↔◌, inl, inr, List, [], ◌∷◌, ◌++◌, Option, Some, None, true, false}
+use Rattle.std.proofs.Common.{IsSome, IsTrue, length, min, take, get_or, refl, ap, sym, subst, ◌∙◌, arith}
 use Rattle.std.specs.Option.{option_map}
 use borrow.Rule.Slice.PartMut.{post_of, put_mid}
 use Rattle.std.proofs.lemmas.Bool.{cases_lt}
@@ -21,13 +22,30 @@ byte_of_kept = option_map (λ (k : Kept). k.byte)
 pub some_missing : (whole : List Piece) (floor len k : ℕ) → k < len → byte_in whole (floor + k) ≡ None → IsTrue false ↔ ((k : ℕ) → k < len → IsSome (byte_in whole (floor + k)))
 some_missing whole floor len k below none = (λ is. cc, λ all. subst (λ (o : Option ℕ). IsSome o) none (all k below))
 
-pub none_here : (whole rest : List Piece) (piece : Piece) (floor done len : ℕ) (out : List ℕ) (top : ℕ) → IsFilling whole (piece ∷ rest) floor done len out top → done < len → (piece.start ≡ floor + done → ⊥) → byte_in whole (floor + done) ≡ None
+pub none_here : (whole rest : List Piece) (piece : Piece) (floor done len : ℕ) (out : List ℕ) (top : ℕ)
+    → IsFilling whole (piece ∷ rest) floor done len out top
+    → done < len
+    → (piece.start ≡ floor + done → ⊥)
+    → byte_in whole (floor + done) ≡ None
 none_here whole rest piece floor done len out top now more apart =
-    let ahead : floor + done < piece.start = elim (cases_lt (floor + done) piece.start) as (λ _. floor + done < piece.start) [ inl here ↦ here | inr there ↦ absurd (apart (omega (arith, there, now.row.0))) ] in
-    ap byte_of_kept (sym (now.same more (floor + done) (omega arith)) ∙ kept_in-ahead piece rest (floor + done) ahead ∙ kept_in-before_row (piece_end piece) top rest (floor + done) now.row.2 (omega (arith, ahead)))
+    let ahead : floor + done < piece.start = elim (cases_lt (floor + done) piece.start) as (λ _. floor + done < piece.start) [
+      | inl here ↦ here
+      | inr there ↦ absurd (apart (omega (arith, there, now.row.0)))
+    ] in
+    ap byte_of_kept
+    (sym (now.same more (floor + done) (omega arith)) ∙ kept_in-ahead piece rest (floor + done) ahead ∙
+    kept_in-before_row (piece_end piece) top rest (floor + done) now.row.2 (omega (arith, ahead)))
 
-pub filling_more : (whole rest : List Piece) (piece : Piece) (floor done len count later : ℕ) (out more : List ℕ) (top : ℕ) → IsFilling whole (piece ∷ rest) floor done len out top → done < len → piece.start ≡ floor + done → count ≡ min (length piece.bytes) (len - done)
-    → later ≡ len → ((k : ℕ) → k < done → get_or more k 0 ≡ get_or out k 0) → ((k : ℕ) → k < count → get_or more (done + k) 0 ≡ get_or piece.bytes k 0) → IsFilling whole rest floor (done + count) later more top
+pub filling_more : (whole rest : List Piece) (piece : Piece) (floor done len count later : ℕ) (out more : List ℕ) (top : ℕ)
+    → IsFilling whole (piece ∷ rest) floor done len out top
+    → done < len
+    → piece.start ≡ floor + done
+    → count ≡ min (length piece.bytes) (len - done)
+    → later ≡ len
+    → ((k : ℕ) → k < done → get_or more k 0 ≡ get_or out k 0)
+    → ((k : ℕ) → k < count →
+    get_or more (done + k) 0 ≡ get_or piece.bytes k 0)
+    → IsFilling whole rest floor (done + count) later more top
 filling_more whole rest piece floor done len count later out more top now within here counted long old new = record {
   row = IsRow-lower (piece_end piece) (floor + (done + count)) top rest (omega (arith, here, counted)) now.row.2;
   same = λ inside place from.
@@ -44,7 +62,12 @@ filling_more whole rest piece floor done len count later out more top now within
 }
 
 -- filling goes on where the bytes of the next piece are appended
-pub filling_appended : (whole rest : List Piece) (piece : Piece) (floor done len count : ℕ) (bytes : List ℕ) (top : ℕ) → IsFilling whole (piece ∷ rest) floor done len bytes top → done ≡ length bytes → done < len → piece.start ≡ floor + done → count ≡ min (length piece.bytes) (len - done)
+pub filling_appended : (whole rest : List Piece) (piece : Piece) (floor done len count : ℕ) (bytes : List ℕ) (top : ℕ)
+    → IsFilling whole (piece ∷ rest) floor done len bytes top
+    → done ≡ length bytes
+    → done < len
+    → piece.start ≡ floor + done
+    → count ≡ min (length piece.bytes) (len - done)
     → IsFilling whole rest floor (done + count) len (bytes ++ take count piece.bytes) top
 filling_appended whole rest piece floor done len count bytes top now passed within here counted =
     let more = take count piece.bytes in
@@ -59,4 +82,6 @@ put_old done n out mid k below within =
 
 pub put_new : (done n : ℕ) (out mid : List ℕ) (k : ℕ) → done ≤ length out → k < length mid → get_or (put_mid done n out mid) (done + k) 0 ≡ get_or mid k 0
 put_new done n out mid k within below =
-    ap (λ m. get_or (put_mid done n out mid) (m + k) 0) (sym (length-take-le done out within)) ∙ get_or-append-add (take done out) (mid ++ post_of done n out) k 0 ∙ get_or_append_left mid (post_of done n out) 0 k below
+    ap (λ m. get_or (put_mid done n out mid) (m + k) 0) (sym (length-take-le done out within))
+    ∙ get_or-append-add (take done out) (mid ++ post_of done n out) k 0
+    ∙ get_or_append_left mid (post_of done n out) 0 k below

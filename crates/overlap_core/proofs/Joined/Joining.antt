@@ -1,5 +1,6 @@
 -- The bytes of pieces joined to runs are the maximal runs.
-use Rattle.std.proofs.Common.{◌≡◌, ℕ, ◌+◌, ◌-◌, ◌<◌, ◌≤◌, ◌⊎◌, inl, inr, List, [], ◌∷◌, ◌++◌, Option, Some, None, Bool, true, false, cond, nat_eq, length, min, take, get_or, refl, ap, sym, subst, ◌∙◌, length-append, arith}
+use Rattle.std.proofs.Common.{◌≡◌, ℕ, ◌+◌, ◌-◌, ◌<◌, ◌≤◌, ◌⊎◌, inl, inr, List, [], ◌∷◌, ◌++◌, Option, Some, None, Bool, true}
+use Rattle.std.proofs.Common.{false, cond, nat_eq, length, min, take, get_or, refl, ap, sym, subst, ◌∙◌, length-append, arith}
 use Rattle.std.specs.Option.{option_map}
 use Rattle.std.proofs.lemmas.Bool.{cases_lt}
 use Rattle.std.proofs.lemmas.Bool.Decides.{nat_tests}
@@ -30,13 +31,22 @@ later_limit byte low from high run is order none = record {
   ends = inr none;
 }
 
-new_run : (byte : ℕ → Option ℕ) (low start : ℕ) (bytes : List ℕ) → low ≤ start → NoByte byte low start → 0 < length bytes → AreBytes byte start bytes → IsFirstRun byte low (start + length bytes) (make_run start bytes)
+new_run : (byte : ℕ → Option ℕ) (low start : ℕ) (bytes : List ℕ)
+    → low ≤ start
+    → NoByte byte low start
+    → 0 < length bytes
+    → AreBytes byte start bytes
+    → IsFirstRun byte low (start + length bytes) (make_run start bytes)
 new_run byte low start bytes order none some holds = record { begins = order; nothing_before = none; some = some; holds = holds; within = omega arith; ends = inl refl }
 
 no_more : (byte : ℕ → Option ℕ) (here end_at : ℕ) → end_at ≤ here → NoByte byte here end_at
 no_more byte here end_at order = λ place from below. absurd (omega (arith, order, from, below))
 
-joined_run : (byte : ℕ → Option ℕ) (low from start : ℕ) (bytes : List ℕ) (run : Run) → IsFirstRun byte low from run → end_of_run run ≡ start → AreBytes byte start bytes → IsFirstRun byte low (start + length bytes) (make_run run.start (run.bytes ++ bytes))
+joined_run : (byte : ℕ → Option ℕ) (low from start : ℕ) (bytes : List ℕ) (run : Run)
+    → IsFirstRun byte low from run
+    → end_of_run run ≡ start
+    → AreBytes byte start bytes
+    → IsFirstRun byte low (start + length bytes) (make_run run.start (run.bytes ++ bytes))
 joined_run byte low from start bytes run is meets holds = record {
   begins = is.begins;
   nothing_before = is.nothing_before;
@@ -52,7 +62,13 @@ joined_run byte low from start bytes run is meets holds = record {
 }
 
 -- where a run of its own begins after the last
-apart_none : (byte : ℕ → Option ℕ) (low from start : ℕ) (run : Run) → IsFirstRun byte low from run → from ≤ start → NoByte byte from start → NoByte byte (end_of_run run) from → (end_of_run run ≡ start → ⊥) → byte (end_of_run run) ≡ None
+apart_none : (byte : ℕ → Option ℕ) (low from start : ℕ) (run : Run)
+    → IsFirstRun byte low from run
+    → from ≤ start
+    → NoByte byte from start
+    → NoByte byte (end_of_run run) from
+    → (end_of_run run ≡ start → ⊥)
+    → byte (end_of_run run) ≡ None
 apart_none byte low from start run is order none after apart = elim (cases_lt (end_of_run run) from) as (λ _. byte (end_of_run run) ≡ None) [
   | inl before ↦ after (end_of_run run) (omega arith) before
   | inr at ↦ elim (cases_lt (end_of_run run) start) as (λ _. byte (end_of_run run) ≡ None) [
@@ -61,8 +77,16 @@ apart_none byte low from start run is order none after apart = elim (cases_lt (e
   ]
 ]
 
-last_by : (byte : ℕ → Option ℕ) (low from start : ℕ) (bytes : List ℕ) (run : Run) (b : Bool) → nat_eq (end_of_run run) start ≡ b → IsFirstRun byte low from run → NoByte byte (end_of_run run) from → from ≤ start → NoByte byte from start → 0 < length bytes → AreBytes byte start bytes
-    → AreRuns byte low (start + length bytes) (cond b (make_run run.start (run.bytes ++ bytes) ∷ []) (run ∷ make_run start bytes ∷ []))
+last_by : (byte : ℕ → Option ℕ) (low from start : ℕ) (bytes : List ℕ) (run : Run) (b : Bool)
+    → nat_eq (end_of_run run) start ≡ b
+    → IsFirstRun byte low from run
+    → NoByte byte (end_of_run run) from
+    → from ≤ start
+    → NoByte byte from start
+    → 0 < length bytes
+    → AreBytes byte start bytes
+    → AreRuns byte low (start + length bytes)
+    (cond b (make_run run.start (run.bytes ++ bytes) ∷ []) (run ∷ make_run start bytes ∷ []))
 last_by byte low from start bytes run true is first after order none some holds =
     let meets : end_of_run run ≡ start = grind (arith, nat_tests) in
     (joined_run byte low from start bytes run first meets holds, no_more byte (run.start + length (run.bytes ++ bytes)) (start + length bytes) (omega (arith, meets, length-append run.bytes bytes)))
@@ -73,7 +97,13 @@ last_by byte low from start bytes run false is first after order none some holds
       (new_run byte (end_of_run run) start bytes (omega (arith, first.within, order)) gap some holds, no_more byte (start + length bytes) (start + length bytes) (omega arith)),
     )
 
-pub with_run-are : (byte : ℕ → Option ℕ) (low from start : ℕ) (bytes : List ℕ) (runs : List Run) → low ≤ start → AreRuns byte low from runs → from ≤ start → NoByte byte from start → 0 < length bytes → AreBytes byte start bytes
+pub with_run-are : (byte : ℕ → Option ℕ) (low from start : ℕ) (bytes : List ℕ) (runs : List Run)
+    → low ≤ start
+    → AreRuns byte low from runs
+    → from ≤ start
+    → NoByte byte from start
+    → 0 < length bytes
+    → AreBytes byte start bytes
     → AreRuns byte low (start + length bytes) (with_run runs start bytes)
 with_run-are byte low from start bytes [] begins are order none some holds =
     (new_run byte low start bytes begins (NoByte-join byte low from start are none) some holds, no_more byte (start + length bytes) (start + length bytes) (omega arith))
@@ -128,14 +158,21 @@ AreRuns-along f g low high (run ∷ runs) same are = (
 )
 
 -- the last of some runs
-pub with_run-meets : (front : List Run) (last : Run) (start : ℕ) (bytes : List ℕ) → end_of_run last ≡ start → with_run (front ++ last ∷ []) start bytes ≡ front ++ make_run last.start (last.bytes ++ bytes) ∷ []
-with_run-meets [] last start bytes meets = let test : nat_eq (end_of_run last) start ≡ true = grind (arith, nat_tests) in ap (λ b. cond b (make_run last.start (last.bytes ++ bytes) ∷ []) (last ∷ make_run start bytes ∷ [])) test
+pub with_run-meets : (front : List Run) (last : Run) (start : ℕ) (bytes : List ℕ)
+    → end_of_run last ≡ start
+    → with_run (front ++ last ∷ []) start bytes ≡ front ++ make_run last.start (last.bytes ++ bytes) ∷ []
+with_run-meets [] last start bytes meets =
+    let test : nat_eq (end_of_run last) start ≡ true = grind (arith, nat_tests) in
+    ap (λ b. cond b (make_run last.start (last.bytes ++ bytes) ∷ []) (last ∷ make_run start bytes ∷ [])) test
 with_run-meets (run ∷ []) last start bytes meets = ap (λ rs. run ∷ rs) (with_run-meets [] last start bytes meets)
 with_run-meets (run ∷ next ∷ front) last start bytes meets = ap (λ rs. run ∷ rs) (with_run-meets (next ∷ front) last start bytes meets)
 
-pub with_run-apart : (front : List Run) (last : Run) (start : ℕ) (bytes : List ℕ) → (end_of_run last ≡ start → ⊥) → with_run (front ++ last ∷ []) start bytes ≡ (front ++ last ∷ []) ++ make_run start bytes ∷ []
+pub with_run-apart : (front : List Run) (last : Run) (start : ℕ) (bytes : List ℕ)
+    → (end_of_run last ≡ start → ⊥)
+    → with_run (front ++ last ∷ []) start bytes ≡ (front ++ last ∷ []) ++ make_run start bytes ∷ []
 with_run-apart [] last start bytes apart =
-    let test : nat_eq (end_of_run last) start ≡ false = not_equal (nat_eq (end_of_run last) start) refl in ap (λ b. cond b (make_run last.start (last.bytes ++ bytes) ∷ []) (last ∷ make_run start bytes ∷ [])) test
+    let test : nat_eq (end_of_run last) start ≡ false = not_equal (nat_eq (end_of_run last) start) refl in
+    ap (λ b. cond b (make_run last.start (last.bytes ++ bytes) ∷ []) (last ∷ make_run start bytes ∷ [])) test
   where
     not_equal : (b : Bool) → nat_eq (end_of_run last) start ≡ b → b ≡ false
     not_equal true is = absurd (apart (grind (arith, nat_tests)))
@@ -165,24 +202,36 @@ joining-begins whole floor below top row order = record {
   are = no_more (byte_in whole) floor floor (omega arith);
 }
 
-pub joining_ends : (whole rest : List Piece) (runs : List Run) (floor below top : ℕ) → IsJoining whole rest runs floor below top → ((place : ℕ) → place < below → (low : ℕ) → IsRow low rest top → low ≤ place → kept_in rest place ≡ None) → AreRuns (byte_in whole) floor below runs
+pub joining_ends : (whole rest : List Piece) (runs : List Run) (floor below top : ℕ)
+    → IsJoining whole rest runs floor below top
+    → ((place : ℕ) → place < below → (low : ℕ) → IsRow low rest top → low ≤ place → kept_in rest place ≡ None)
+    → AreRuns (byte_in whole) floor below runs
 joining_ends whole rest runs floor below top now none =
     AreRuns-wider (byte_in whole) floor now.from below runs now.within
     (λ place from under. ap byte_of_kept (sym (now.same (omega (arith, from, under)) place from) ∙ none place under now.from now.row from)) now.are
 
-pub joining_more : (whole rest : List Piece) (piece : Piece) (runs more : List Run) (floor below top : ℕ) → IsJoining whole (piece ∷ rest) runs floor below top → piece.start < below → more ≡ with_run runs piece.start (take (below - piece.start) piece.bytes)
+pub joining_more : (whole rest : List Piece) (piece : Piece) (runs more : List Run) (floor below top : ℕ)
+    → IsJoining whole (piece ∷ rest) runs floor below top
+    → piece.start < below
+    → more ≡ with_run runs piece.start (take (below - piece.start) piece.bytes)
     → IsJoining whole rest more floor below top
 joining_more whole rest piece runs more floor below top now under is =
     let before : now.from < below = omega (arith, now.row.0, under) in
     let bytes = take (below - piece.start) piece.bytes in
     let long : length bytes ≡ min (below - piece.start) (length piece.bytes) = length-take (below - piece.start) piece.bytes in
     let none : NoByte (byte_in whole) now.from piece.start =
-    λ place from ahead. ap byte_of_kept (sym (now.same before place from) ∙ kept_in-ahead piece rest place ahead ∙ kept_in-before_row (piece_end piece) top rest place now.row.2 (omega (arith, ahead))) in
+    λ place from ahead.
+    ap byte_of_kept
+    (sym (now.same before place from) ∙ kept_in-ahead piece rest place ahead ∙
+    kept_in-before_row (piece_end piece) top rest place now.row.2 (omega (arith, ahead))) in
     let holds : AreBytes (byte_in whole) piece.start bytes =
     λ k inside.
     let same : piece.start + k - piece.start ≡ k = omega arith in
-    ap byte_of_kept (sym (now.same before (piece.start + k) (omega (arith, now.row.0))) ∙ kept_in-here piece rest (piece.start + k) (omega arith) (omega (arith, inside, long)))
-    ∙ ap (λ n. Some (get_or piece.bytes n 0)) same ∙ ap Some (sym (get_or-take (below - piece.start) piece.bytes k 0 (omega (arith, inside, long)))) in
+    ap byte_of_kept
+    (sym (now.same before (piece.start + k) (omega (arith, now.row.0))) ∙
+    kept_in-here piece rest (piece.start + k) (omega arith) (omega (arith, inside, long)))
+    ∙ ap (λ n. Some (get_or piece.bytes n 0)) same
+    ∙ ap Some (sym (get_or-take (below - piece.start) piece.bytes k 0 (omega (arith, inside, long)))) in
     record {
       from = piece.start + length bytes;
       order = omega (arith, now.order, now.row.0);
@@ -190,9 +239,11 @@ joining_more whole rest piece runs more floor below top now under is =
       row = IsRow-lower (piece_end piece) (piece.start + length bytes) top rest (omega (arith, long)) now.row.2;
       same = λ inside place from.
           let whole_piece : length bytes ≡ length piece.bytes = omega (arith, long, inside) in
-          sym (kept_in-after piece rest place (omega (arith, whole_piece, from))) ∙ now.same before place (omega (arith, now.row.0, from));
+          sym (kept_in-after piece rest place (omega (arith, whole_piece, from)))
+          ∙ now.same before place (omega (arith, now.row.0, from));
       are = subst (AreRuns (byte_in whole) floor (piece.start + length bytes)) (sym is)
-          (with_run-are (byte_in whole) floor now.from piece.start bytes runs (omega (arith, now.order, now.row.0)) now.are now.row.0 none (omega (arith, long, now.row.1, under)) holds);
+          (with_run-are (byte_in whole) floor now.from piece.start bytes runs (omega (arith, now.order, now.row.0)) now.are
+          now.row.0 none (omega (arith, long, now.row.1, under)) holds);
     }
 
 -- where no run was
@@ -204,7 +255,11 @@ with_run-first runs (run ∷ left) start bytes is none = absurd (omega (arith, n
 pub joining_out : (whole rest : List Piece) (runs : List Run) (floor below top : ℕ) → IsJoining whole rest runs floor below top → rest ≡ [] → AreRuns (byte_in whole) floor below runs
 joining_out whole rest runs floor below top now none = joining_ends whole rest runs floor below top now (λ place under low row from. ap (λ ps. kept_in ps place) none)
 
-pub joining_past : (whole rest later : List Piece) (piece : Piece) (runs : List Run) (floor below top : ℕ) → IsJoining whole rest runs floor below top → rest ≡ piece ∷ later → below ≤ piece.start → AreRuns (byte_in whole) floor below runs
+pub joining_past : (whole rest later : List Piece) (piece : Piece) (runs : List Run) (floor below top : ℕ)
+    → IsJoining whole rest runs floor below top
+    → rest ≡ piece ∷ later
+    → below ≤ piece.start
+    → AreRuns (byte_in whole) floor below runs
 joining_past whole rest later piece runs floor below top now is past =
     joining_ends whole rest runs floor below top now
     (λ place under low row from.

@@ -25,7 +25,12 @@ not_before byte low high run other is that before =
     cc
 
 -- nor is it shorter
-not_shorter : (byte : ℕ → Option ℕ) (low high : ℕ) (run other : Run) → IsFirstRun byte low high run → IsFirstRun byte low high other → run.start ≡ other.start → length run.bytes < length other.bytes → ⊥
+not_shorter : (byte : ℕ → Option ℕ) (low high : ℕ) (run other : Run)
+    → IsFirstRun byte low high run
+    → IsFirstRun byte low high other
+    → run.start ≡ other.start
+    → length run.bytes < length other.bytes
+    → ⊥
 not_shorter byte low high run other is that same shorter =
     elim is.ends as (λ _. ⊥) [
       | inl end ↦ omega (arith, end, that.within, same, shorter)
@@ -59,7 +64,14 @@ one_length byte low high run other is that same =
     ]
 
 -- two first runs that begin at one place hold the same bytes
-one_byte : (byte : ℕ → Option ℕ) (low high : ℕ) (run other : Run) → IsFirstRun byte low high run → IsFirstRun byte low high other → run.start ≡ other.start → (k : ℕ) → k < length run.bytes → k < length other.bytes → get_or run.bytes k 0 ≡ get_or other.bytes k 0
+one_byte : (byte : ℕ → Option ℕ) (low high : ℕ) (run other : Run)
+    → IsFirstRun byte low high run
+    → IsFirstRun byte low high other
+    → run.start ≡ other.start
+    → (k : ℕ)
+    → k < length run.bytes
+    → k < length other.bytes
+    → get_or run.bytes k 0 ≡ get_or other.bytes k 0
 one_byte byte low high run other is that same k within beyond =
     let place : run.start + k ≡ other.start + k = ap (λ n. n + k) same in
     let both : Some (get_or run.bytes k 0) ≡ Some (get_or other.bytes k 0) = sym (is.holds k within) ∙ ap byte place ∙ that.holds k beyond in

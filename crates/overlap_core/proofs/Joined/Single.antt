@@ -15,16 +15,33 @@ joining_stops : (whole rest : List Piece) (runs : List Run) (floor below top : �
 joining_stops whole [] runs floor below top now from = joining_out whole [] runs floor below top now refl
 joining_stops whole (piece ∷ rest) runs floor below top now from = joining_past whole (piece ∷ rest) rest piece runs floor below top now refl from
 
-first-run : (piece : Piece) (rest : List Piece) (floor below top : ℕ) → IsRow floor (piece ∷ rest) top → floor ≤ below → piece_end piece ≤ below → FirstFrom below rest → AreRuns (byte_in (piece ∷ rest)) floor below (run_of piece ∷ [])
+first-run : (piece : Piece) (rest : List Piece) (floor below top : ℕ)
+    → IsRow floor (piece ∷ rest) top
+    → floor ≤ below
+    → piece_end piece ≤ below
+    → FirstFrom below rest
+    → AreRuns (byte_in (piece ∷ rest)) floor below (run_of piece ∷ [])
 first-run piece rest floor below top row order ends from =
     let under : piece.start < below = omega (arith, row.1, ends) in
-    let whole : take (below - piece.start) piece.bytes ≡ piece.bytes = take_all (below - piece.start) piece.bytes (omega (arith, ends)) in
-    let added : run_of piece ∷ [] ≡ with_run [] piece.start (take (below - piece.start) piece.bytes) = ap (λ bs. make_run piece.start bs ∷ []) (sym whole) in
-    joining_stops (piece ∷ rest) rest (run_of piece ∷ []) floor below top (joining_more (piece ∷ rest) rest piece [] (run_of piece ∷ []) floor below top (joining-begins (piece ∷ rest) floor below top row order) under added) from
+    let whole : take (below - piece.start) piece.bytes ≡ piece.bytes =
+    take_all (below - piece.start) piece.bytes (omega (arith, ends)) in
+    let added : run_of piece ∷ [] ≡ with_run [] piece.start (take (below - piece.start) piece.bytes) =
+    ap (λ bs. make_run piece.start bs ∷ []) (sym whole) in
+    joining_stops (piece ∷ rest) rest (run_of piece ∷ []) floor below top
+    (joining_more (piece ∷ rest) rest piece [] (run_of piece ∷ []) floor below top
+    (joining-begins (piece ∷ rest) floor below top row order) under added)
+    from
 
 -- the runs, where the first piece ends at the limit or before it and the next begins there or after
-pub first-runs : (pieces : List Piece) (piece : Piece) (rest : List Piece) (below : ℕ) (old new : List Run) → pieces ≡ piece ∷ rest → piece_end piece ≤ below → FirstFrom below rest → new ≡ old ++ run_of piece ∷ []
-    → (floor top : ℕ) → IsRow floor pieces top → floor ≤ below → AppendsRuns (byte_in pieces) floor below old new
+pub first-runs : (pieces : List Piece) (piece : Piece) (rest : List Piece) (below : ℕ) (old new : List Run)
+    → pieces ≡ piece ∷ rest
+    → piece_end piece ≤ below
+    → FirstFrom below rest
+    → new ≡ old ++ run_of piece ∷ []
+    → (floor top : ℕ)
+    → IsRow floor pieces top
+    → floor ≤ below
+    → AppendsRuns (byte_in pieces) floor below old new
 first-runs pieces piece rest below old new is ends from added floor top row order = (
   run_of piece ∷ [],
   added,
@@ -38,7 +55,11 @@ first-raised below pieces piece rest is ends =
     ap (raised below) is ∙ ap (λ b. cond b (raised below rest) (cond (nat_lt piece.start below) (right_part below piece ∷ rest) (piece ∷ rest))) test
 
 -- the first piece is taken out
-pub first-out : (pieces front left : Pieces Piece) (taken piece : Piece) (rest : List Piece) (n m : ℕ) → pieces.list ≡ piece ∷ rest → front ≡ listed pieces.list 0 n → Some taken ≡ slice_get front.list front.place → left ≡ listed (remove front.list front.place) front.place m
+pub first-out : (pieces front left : Pieces Piece) (taken piece : Piece) (rest : List Piece) (n m : ℕ)
+    → pieces.list ≡ piece ∷ rest
+    → front ≡ listed pieces.list 0 n
+    → Some taken ≡ slice_get front.list front.place
+    → left ≡ listed (remove front.list front.place) front.place m
     → (taken ≡ piece) × (left.list ≡ rest)
 first-out pieces front left taken piece rest n m is at found out =
     let list : front.list ≡ piece ∷ rest = ap (λ (p : Pieces Piece). p.list) at ∙ is in

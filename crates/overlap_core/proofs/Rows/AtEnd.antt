@@ -37,7 +37,11 @@ filled new low here some =
     ap (λ n. gap_piece new n (end_of new)) here ∙ ap (λ b. cond b (part_of new new.start (end_of new) ∷ []) []) (less new.start (end_of new) (omega (arith, some)))
 
 -- laying a segment after all pieces appends it
-pub laid_after : (preference : Preference) (new : Segment) (floor top : ℕ) (old laid_over : List Piece) → IsRow floor old top → top ≤ new.start → 0 < length new.bytes → laid_over ≡ old ++ part_of new new.start (end_of new) ∷ []
+pub laid_after : (preference : Preference) (new : Segment) (floor top : ℕ) (old laid_over : List Piece)
+    → IsRow floor old top
+    → top ≤ new.start
+    → 0 < length new.bytes
+    → laid_over ≡ old ++ part_of new new.start (end_of new) ∷ []
     → IsLaidOver preference new floor old laid_over
 laid_after preference new floor top old laid_over row after some is =
     let order = end-below floor top old row in
@@ -54,7 +58,10 @@ laid_after preference new floor top old laid_over row after some is =
     }
 
 -- what room there is, by its buffers
-pub room_after : (floor top : ℕ) (bounds : Bounds) (pieces : Pieces Piece) (buffers : Buffers) (buffer : List ℕ) → buffers ≡ AfterAll buffer → IsRoomFor floor top bounds pieces buffers → IsRoomAfter top bounds pieces buffer
+pub room_after : (floor top : ℕ) (bounds : Bounds) (pieces : Pieces Piece) (buffers : Buffers) (buffer : List ℕ)
+    → buffers ≡ AfterAll buffer
+    → IsRoomFor floor top bounds pieces buffers
+    → IsRoomAfter top bounds pieces buffer
 room_after floor top bounds pieces buffers buffer is room = subst (λ (b : Buffers). IsRoomFor floor top bounds pieces b) is room
 
 -- the room that there is was made for the segment that comes

@@ -1,5 +1,7 @@
 -- What pieces tell once a segment is laid over them.
-use Rattle.std.proofs.Common.{◌≡◌, ℕ, ◌+◌, ◌-◌, ◌<◌, ◌≤◌, List, [], ◌∷◌, ◌++◌, Option, Some, None, Bool, true, false, ◌&&◌, cond, nat_lt, nat_le, length, max, min, drop, get_or, refl, ap, sym, subst, ◌∙◌, arith, length-drop, inl, inr}
+use Rattle.std.proofs.Common.{◌≡◌, ℕ, ◌+◌, ◌-◌, ◌<◌, ◌≤◌, List, [], ◌∷◌, ◌++◌, Option, Some, None, Bool, true, false, ◌&&◌, cond}
+use Rattle.std.proofs.Common.{nat_lt, nat_le, length, max, min, drop, get_or, refl, ap, sym, subst, ◌∙◌, arith, length-drop, inl}
+use Rattle.std.proofs.Common.{inr}
 use Rattle.std.proofs.lemmas.Bool.{cases_lt}
 use Rattle.std.proofs.lemmas.Bool.Decides.{nat_tests}
 use Rattle.std.proofs.lemmas.List.{length-take-le, get_or-take, get_or-drop}
@@ -10,7 +12,9 @@ use Rattle.overlap_core.specs.Overlap.{bounds_of, covers, end_of, wins}
 use Rattle.overlap_core.specs.Pieces.{HoldChosen, IsRow, Kept, kept_at, kept_in, kept_of, Piece, piece_end}
 use Rattle.overlap_core.specs.Rows.{BeginBelow, BeginFrom, gap_piece, IsCutAt, laid, overlaid, part_of}
 use Rattle.overlap_core.proofs.Segments.Arrivals.{kept_after, kept_after-snoc, stronger_kept}
-use Rattle.overlap_core.proofs.Rows.Telling.{end-below, front-row, IsRow-append, IsRow-higher, IsRow-lower, kept_in-ahead, kept_in-before_row, kept_in-after, kept_in-after_row, kept_in-front, kept_in-here, kept_in-rest, rest-cut, rest-row}
+use Rattle.overlap_core.proofs.Rows.Telling.{end-below, front-row, IsRow-append, IsRow-higher, IsRow-lower, kept_in-ahead}
+use Rattle.overlap_core.proofs.Rows.Telling.{kept_in-before_row, kept_in-after, kept_in-after_row, kept_in-front, kept_in-here}
+use Rattle.overlap_core.proofs.Rows.Telling.{kept_in-rest, rest-cut, rest-row}
 
 length-part : (new : Segment) (low high : ℕ) → new.start ≤ low → low ≤ high → high ≤ end_of new → length (part_of new low high).bytes ≡ high - low
 length-part new low high from order to = length-take-le (high - low) (drop (low - new.start) new.bytes) (omega (arith, length-drop (low - new.start) new.bytes))
@@ -27,7 +31,12 @@ kept_of-part new low high place from here below =
     (get_or-take (high - low) (drop (low - new.start) new.bytes) (place - low) 0 within ∙ get_or-drop (low - new.start) new.bytes (place - low) 0 ∙ ap (λ n. get_or new.bytes n 0) same)
 
 -- a gap that is filled, before other pieces
-gap-in : (new : Segment) (low high place : ℕ) (pieces : List Piece) → new.start ≤ low → high ≤ end_of new → low ≤ place → place < high → kept_in (gap_piece new low high ++ pieces) place ≡ Some (kept_at place new)
+gap-in : (new : Segment) (low high place : ℕ) (pieces : List Piece)
+    → new.start ≤ low
+    → high ≤ end_of new
+    → low ≤ place
+    → place < high
+    → kept_in (gap_piece new low high ++ pieces) place ≡ Some (kept_at place new)
 gap-in new low high place pieces from to here below =
     let some : nat_lt low high ≡ true = grind (arith, nat_tests) in
     let long = length-part new low high from (omega arith) to in
@@ -66,7 +75,10 @@ IsOverlaid preference new piece over = (over.start ≡ piece.start) × (length o
 stronger-by : (preference : Preference) (new : Segment) (piece : Piece) (place : ℕ) (b : Bool) → wins preference piece.whole (bounds_of new) ≡ b → covers new place ≡ true
     → kept_after preference place (Some (kept_of place piece)) new ≡ Some (cond b (kept_at place new) (kept_of place piece))
 stronger-by preference new piece place b is covered =
-    ap (λ t. cond t (Some (stronger_kept preference (Some (kept_of place piece)) (kept_at place new))) (Some (kept_of place piece))) covered ∙ ap (λ t. Some (cond t (kept_at place new) (kept_of place piece))) is
+    ap
+    (λ t. cond t (Some (stronger_kept preference (Some (kept_of place piece)) (kept_at place new))) (Some (kept_of place piece)))
+    covered
+    ∙ ap (λ t. Some (cond t (kept_at place new) (kept_of place piece))) is
 
 uncovered-kept : (preference : Preference) (new : Segment) (kept : Option Kept) (place : ℕ) → covers new place ≡ false → kept_after preference place kept new ≡ kept
 uncovered-kept preference new kept place uncovered = ap (λ t. cond t (Some (stronger_kept preference kept (kept_at place new))) kept) uncovered
@@ -88,9 +100,15 @@ overlaid-within preference new piece b from to is =
     ap (λ t. cond t (part_of new piece.start (piece_end piece)) piece) (and_true (within_new new piece) (wins preference piece.whole (bounds_of new)) inside ∙ is)
 
 overlaid-outside : (preference : Preference) (new : Segment) (piece : Piece) → end_of new < piece_end piece → overlaid preference new piece ≡ piece
-overlaid-outside preference new piece past = let fails : within_new new piece ≡ false = grind (arith, nat_tests) in ap (λ t. cond (t && wins preference piece.whole (bounds_of new)) (part_of new piece.start (piece_end piece)) piece) fails
+overlaid-outside preference new piece past =
+    let fails : within_new new piece ≡ false = grind (arith, nat_tests) in
+    ap (λ t. cond (t && wins preference piece.whole (bounds_of new)) (part_of new piece.start (piece_end piece)) piece) fails
 
-overlaid_by : (preference : Preference) (new : Segment) (piece : Piece) (b : Bool) → new.start ≤ piece.start → 0 < length piece.bytes → piece_end piece ≤ end_of new → wins preference piece.whole (bounds_of new) ≡ b
+overlaid_by : (preference : Preference) (new : Segment) (piece : Piece) (b : Bool)
+    → new.start ≤ piece.start
+    → 0 < length piece.bytes
+    → piece_end piece ≤ end_of new
+    → wins preference piece.whole (bounds_of new) ≡ b
     → IsOverlaid preference new piece (cond b (part_of new piece.start (piece_end piece)) piece)
 overlaid_by preference new piece true from some to is =
     let long = length-part new piece.start (piece_end piece) from (omega arith) to in (
@@ -103,7 +121,11 @@ overlaid_by preference new piece true from some to is =
 overlaid_by preference new piece false from some to is =
     (refl, refl, λ place here below. let covered : covers new place ≡ true = grind (arith, nat_tests) in sym (stronger-by preference new piece place false is covered))
 
-overlaid-is : (preference : Preference) (new : Segment) (piece : Piece) → new.start ≤ piece.start → 0 < length piece.bytes → (piece.start < end_of new → piece_end piece ≤ end_of new) → IsOverlaid preference new piece (overlaid preference new piece)
+overlaid-is : (preference : Preference) (new : Segment) (piece : Piece)
+    → new.start ≤ piece.start
+    → 0 < length piece.bytes
+    → (piece.start < end_of new → piece_end piece ≤ end_of new)
+    → IsOverlaid preference new piece (overlaid preference new piece)
 overlaid-is preference new piece from some cut = elim (cases_lt piece.start (end_of new)) as (λ _. IsOverlaid preference new piece (overlaid preference new piece)) [
   | inl below ↦
       subst (IsOverlaid preference new piece) (sym (overlaid-within preference new piece (wins preference piece.whole (bounds_of new)) from (cut below) refl))
@@ -115,8 +137,15 @@ overlaid-is preference new piece from some cut = elim (cases_lt piece.start (end
 ]
 
 -- the laid pieces are a row
-pub laid-row : (preference : Preference) (new : Segment) (low top : ℕ) (rest : List Piece) → new.start ≤ low → IsRow low rest top → IsCutAt (end_of new) rest → IsRow low (laid preference new low rest) (max top (end_of new))
-laid-row preference new low top [] from row cut = subst (λ ps. IsRow low ps (max top (end_of new))) (append_none (gap_piece new low (end_of new))) (gap-row new low (end_of new) (max top (end_of new)) [] from (omega arith) (omega (arith, row)))
+pub laid-row : (preference : Preference) (new : Segment) (low top : ℕ) (rest : List Piece)
+    → new.start ≤ low
+    → IsRow low rest top
+    → IsCutAt (end_of new) rest
+    → IsRow low (laid preference new low rest) (max top (end_of new))
+laid-row preference new low top [] from row cut =
+    subst (λ ps. IsRow low ps (max top (end_of new)))
+    (append_none (gap_piece new low (end_of new)))
+    (gap-row new low (end_of new) (max top (end_of new)) [] from (omega arith) (omega (arith, row)))
   where
     append_none : (ps : List Piece) → ps ++ [] ≡ ps
     append_none [] = refl
@@ -134,9 +163,15 @@ pub laid-tells : (preference : Preference) (new : Segment) (low top : ℕ) (rest
     → kept_in (laid preference new low rest) place ≡ kept_after preference place (kept_in rest place) new
 laid-tells preference new low top [] place from row cut here =
     ap (λ ps. kept_in ps place) (sym (append_none (gap_piece new low (end_of new))))
-    ∙ (elim (cases_lt place (end_of new)) as (λ _. kept_in (gap_piece new low (end_of new) ++ []) place ≡ kept_after preference place None new) [
-      | inl below ↦ let covered : covers new place ≡ true = grind (arith, nat_tests) in gap-in new low (end_of new) place [] from (omega arith) here below ∙ sym (covered_new preference new place covered)
-      | inr beyond ↦ let uncovered : covers new place ≡ false = grind (arith, nat_tests) in gap-out new low (end_of new) place [] from (omega arith) beyond ∙ sym (uncovered-kept preference new None place uncovered)
+    ∙ (elim (cases_lt place (end_of new)) as
+    (λ _. kept_in (gap_piece new low (end_of new) ++ []) place ≡ kept_after preference place None new) [
+      | inl below ↦
+          let covered : covers new place ≡ true = grind (arith, nat_tests) in
+          gap-in new low (end_of new) place [] from (omega arith) here below ∙ sym (covered_new preference new place covered)
+      | inr beyond ↦
+          let uncovered : covers new place ≡ false = grind (arith, nat_tests) in
+          gap-out new low (end_of new) place [] from (omega arith) beyond
+          ∙ sym (uncovered-kept preference new None place uncovered)
     ])
   where
     append_none : (ps : List Piece) → ps ++ [] ≡ ps
@@ -147,55 +182,90 @@ laid-tells preference new low top (piece ∷ rest) place from row cut here =
     let is = overlaid-is preference new piece (omega (arith, from, row.0)) row.1 cut.0 in
     let later = laid preference new (piece_end piece) rest in
     let until = min piece.start (end_of new) in
-    elim (cases_lt place piece.start) as (λ _. kept_in (gap_piece new low until ++ (over ∷ later)) place ≡ kept_after preference place (kept_in (piece ∷ rest) place) new) [
+    elim (cases_lt place piece.start) as
+    (λ _. kept_in (gap_piece new low until ++ (over ∷ later)) place ≡
+    kept_after preference place (kept_in (piece ∷ rest) place) new) [
       | inl ahead ↦
-          let none : kept_in (piece ∷ rest) place ≡ None = kept_in-ahead piece rest place ahead ∙ kept_in-before_row (piece_end piece) top rest place row.2 (omega (arith, ahead)) in
-          elim (cases_lt place (end_of new)) as (λ _. kept_in (gap_piece new low until ++ (over ∷ later)) place ≡ kept_after preference place (kept_in (piece ∷ rest) place) new) [
+          let none : kept_in (piece ∷ rest) place ≡ None =
+          kept_in-ahead piece rest place ahead
+          ∙ kept_in-before_row (piece_end piece) top rest place row.2 (omega (arith, ahead)) in
+          elim (cases_lt place (end_of new)) as
+          (λ _. kept_in (gap_piece new low until ++ (over ∷ later)) place ≡
+          kept_after preference place (kept_in (piece ∷ rest) place) new) [
             | inl below ↦
                 let covered : covers new place ≡ true = grind (arith, nat_tests) in
-                gap-in new low until place (over ∷ later) from (omega arith) here (omega (arith, ahead, below)) ∙ sym (covered_new preference new place covered) ∙ ap (λ k. kept_after preference place k new) (sym none)
+                gap-in new low until place (over ∷ later) from (omega arith) here (omega (arith, ahead, below))
+                ∙ sym (covered_new preference new place covered)
+                ∙ ap (λ k. kept_after preference place k new) (sym none)
             | inr beyond ↦
                 let uncovered : covers new place ≡ false = grind (arith, nat_tests) in
                 let later_row = laid-row preference new (piece_end piece) top rest (omega (arith, from, row.0)) row.2 cut.1 in
                 gap-out new low until place (over ∷ later) from (omega arith) (omega (arith, beyond))
-                ∙ kept_in-ahead over later place (omega (arith, is.0, ahead)) ∙ kept_in-before_row (piece_end piece) (max top (end_of new)) later place later_row (omega (arith, ahead))
-                ∙ sym (uncovered-kept preference new None place uncovered) ∙ ap (λ k. kept_after preference place k new) (sym none)
+                ∙ kept_in-ahead over later place (omega (arith, is.0, ahead))
+                ∙ kept_in-before_row (piece_end piece) (max top (end_of new)) later place later_row (omega (arith, ahead))
+                ∙ sym (uncovered-kept preference new None place uncovered)
+                ∙ ap (λ k. kept_after preference place k new) (sym none)
           ]
       | inr after ↦
           let out = gap-out new low until place (over ∷ later) from (omega arith) (omega (arith, after)) in
-          elim (cases_lt place (piece_end piece)) as (λ _. kept_in (gap_piece new low until ++ (over ∷ later)) place ≡ kept_after preference place (kept_in (piece ∷ rest) place) new) [
+          elim (cases_lt place (piece_end piece)) as
+          (λ _. kept_in (gap_piece new low until ++ (over ∷ later)) place ≡
+          kept_after preference place (kept_in (piece ∷ rest) place) new) [
             | inl within ↦
-                out ∙ kept_in-here over later place (omega (arith, is.0, after)) (omega (arith, is.0, is.1, within)) ∙ is.2 place after within ∙ ap (λ k. kept_after preference place k new) (sym (kept_in-here piece rest place after within))
+                out
+                ∙ kept_in-here over later place (omega (arith, is.0, after)) (omega (arith, is.0, is.1, within))
+                ∙ is.2 place after within
+                ∙ ap (λ k. kept_after preference place k new) (sym (kept_in-here piece rest place after within))
             | inr beyond ↦
-                out ∙ kept_in-after over later place (omega (arith, is.0, is.1, beyond)) ∙ laid-tells preference new (piece_end piece) top rest place (omega (arith, from, row.0)) row.2 cut.1 beyond
+                out
+                ∙ kept_in-after over later place (omega (arith, is.0, is.1, beyond))
+                ∙ laid-tells preference new (piece_end piece) top rest place (omega (arith, from, row.0)) row.2 cut.1 beyond
                 ∙ ap (λ k. kept_after preference place k new) (sym (kept_in-after piece rest place beyond))
           ]
     ]
 
 -- the whole row, from a floor on
-pub whole-row : (preference : Preference) (new : Segment) (floor top : ℕ) (front rest : List Piece) → IsRow floor (front ++ rest) top → BeginBelow (max floor new.start) front → BeginFrom (max floor new.start) rest → IsCutAt (max floor new.start) (front ++ rest) → IsCutAt (end_of new) (front ++ rest)
+pub whole-row : (preference : Preference) (new : Segment) (floor top : ℕ) (front rest : List Piece)
+    → IsRow floor (front ++ rest) top
+    → BeginBelow (max floor new.start) front
+    → BeginFrom (max floor new.start) rest
+    → IsCutAt (max floor new.start) (front ++ rest)
+    → IsCutAt (end_of new) (front ++ rest)
     → IsRow floor (front ++ laid preference new (max floor new.start) rest) (max (max (max floor new.start) top) (end_of new))
 whole-row preference new floor top front rest row below from begins ends =
     let low = max floor new.start in
     IsRow-append floor low (max (max low top) (end_of new)) front (laid preference new low rest) (front-row low floor top front rest row below begins (omega arith))
     (laid-row preference new low (max low top) rest (omega arith) (rest-row low floor top front rest row from) (rest-cut (end_of new) front rest ends))
 
-pub whole-tells : (preference : Preference) (new : Segment) (floor top : ℕ) (front rest : List Piece) (place : ℕ) → IsRow floor (front ++ rest) top → BeginBelow (max floor new.start) front → BeginFrom (max floor new.start) rest → IsCutAt (max floor new.start) (front ++ rest)
-    → IsCutAt (end_of new) (front ++ rest) → floor ≤ place → kept_in (front ++ laid preference new (max floor new.start) rest) place ≡ kept_after preference place (kept_in (front ++ rest) place) new
+pub whole-tells : (preference : Preference) (new : Segment) (floor top : ℕ) (front rest : List Piece) (place : ℕ)
+    → IsRow floor (front ++ rest) top
+    → BeginBelow (max floor new.start) front
+    → BeginFrom (max floor new.start) rest
+    → IsCutAt (max floor new.start) (front ++ rest)
+    → IsCutAt (end_of new) (front ++ rest)
+    → floor ≤ place
+    → kept_in (front ++ laid preference new (max floor new.start) rest) place ≡
+    kept_after preference place (kept_in (front ++ rest) place) new
 whole-tells preference new floor top front rest place row below from begins ends here =
     let low = max floor new.start in
     let before = front-row low floor top front rest row below begins (omega arith) in
     let beyond = rest-row low floor top front rest row from in
     let cut = rest-cut (end_of new) front rest ends in
-    elim (cases_lt place low) as (λ _. kept_in (front ++ laid preference new low rest) place ≡ kept_after preference place (kept_in (front ++ rest) place) new) [
+    elim (cases_lt place low) as
+    (λ _. kept_in (front ++ laid preference new low rest) place ≡
+    kept_after preference place (kept_in (front ++ rest) place) new) [
       | inl ahead ↦
           let uncovered : covers new place ≡ false = grind (arith, nat_tests) in
           let laid_row = laid-row preference new low (max low top) rest (omega arith) beyond cut in
-          kept_in-front front (laid preference new low rest) place (kept_in-before_row low (max (max low top) (end_of new)) (laid preference new low rest) place laid_row ahead)
-          ∙ sym (kept_in-front front rest place (kept_in-before_row low (max low top) rest place beyond ahead)) ∙ sym (uncovered-kept preference new (kept_in (front ++ rest) place) place uncovered)
+          kept_in-front front (laid preference new low rest) place
+          (kept_in-before_row low (max (max low top) (end_of new)) (laid preference new low rest) place laid_row ahead)
+          ∙ sym (kept_in-front front rest place (kept_in-before_row low (max low top) rest place beyond ahead))
+          ∙ sym (uncovered-kept preference new (kept_in (front ++ rest) place) place uncovered)
       | inr after ↦
           let none = kept_in-after_row floor low front place before after in
-          kept_in-rest front (laid preference new low rest) place none ∙ laid-tells preference new low (max low top) rest place (omega arith) beyond cut after ∙ ap (λ k. kept_after preference place k new) (sym (kept_in-rest front rest place none))
+          kept_in-rest front (laid preference new low rest) place none
+          ∙ laid-tells preference new low (max low top) rest place (omega arith) beyond cut after
+          ∙ ap (λ k. kept_after preference place k new) (sym (kept_in-rest front rest place none))
     ]
 
 pub whole-holds : (preference : Preference) (new : Segment) (segments : List Segment) (floor : ℕ) (old laid_over : List Piece) → HoldChosen preference segments floor old
@@ -214,17 +284,34 @@ pub record IsLaidOver (preference : Preference) (new : Segment) (floor : ℕ) (o
   pub ends : IsCutAt (end_of new) old
   pub is : laid_over ≡ front ++ laid preference new (max floor new.start) rest
 
-pub laid_over-row : (preference : Preference) (new : Segment) (floor top : ℕ) (old laid_over : List Piece) → IsLaidOver preference new floor old laid_over → IsRow floor old top → IsRow floor laid_over (max top (end_of new))
+pub laid_over-row : (preference : Preference) (new : Segment) (floor top : ℕ) (old laid_over : List Piece)
+    → IsLaidOver preference new floor old laid_over
+    → IsRow floor old top
+    → IsRow floor laid_over (max top (end_of new))
 laid_over-row preference new floor top old laid_over made row =
     let order = end-below floor top old row in
-    let whole = whole-row preference new floor top made.front made.rest (subst (λ ps. IsRow floor ps top) made.list row) made.below made.from (subst (IsCutAt (max floor new.start)) made.list made.begins) (subst (IsCutAt (end_of new)) made.list made.ends) in
+    let whole =
+    whole-row preference new floor top made.front made.rest (subst (λ ps. IsRow floor ps top) made.list row)
+    made.below made.from
+    (subst (IsCutAt (max floor new.start)) made.list made.begins)
+    (subst (IsCutAt (end_of new)) made.list made.ends) in
     subst (λ ps. IsRow floor ps (max top (end_of new))) (sym made.is)
-    (IsRow-higher floor (max (max (max floor new.start) top) (end_of new)) (max top (end_of new)) (made.front ++ laid preference new (max floor new.start) made.rest) (omega (arith, order)) whole)
+    (IsRow-higher floor (max (max (max floor new.start) top) (end_of new))
+    (max top (end_of new))
+    (made.front ++ laid preference new (max floor new.start) made.rest)
+    (omega (arith, order)) whole)
 
-pub laid_over-holds : (preference : Preference) (new : Segment) (segments : List Segment) (floor top : ℕ) (old laid_over : List Piece) → IsLaidOver preference new floor old laid_over → IsRow floor old top → HoldChosen preference segments floor old
+pub laid_over-holds : (preference : Preference) (new : Segment) (segments : List Segment) (floor top : ℕ)
+    (old laid_over : List Piece)
+    → IsLaidOver preference new floor old laid_over
+    → IsRow floor old top
+    → HoldChosen preference segments floor old
     → HoldChosen preference (segments ++ new ∷ []) floor laid_over
 laid_over-holds preference new segments floor top old laid_over made row holds =
     whole-holds preference new segments floor old laid_over holds
     (λ place from. ap (λ ps. kept_in ps place) made.is
-    ∙ whole-tells preference new floor top made.front made.rest place (subst (λ ps. IsRow floor ps top) made.list row) made.below made.from (subst (IsCutAt (max floor new.start)) made.list made.begins) (subst (IsCutAt (end_of new)) made.list made.ends) from
+    ∙ whole-tells preference new floor top made.front made.rest place (subst (λ ps. IsRow floor ps top) made.list row)
+    made.below made.from
+    (subst (IsCutAt (max floor new.start)) made.list made.begins)
+    (subst (IsCutAt (end_of new)) made.list made.ends) from
     ∙ ap (λ ps. kept_after preference place (kept_in ps place) new) (sym made.list))

@@ -1,5 +1,8 @@
 -- Moves and edits of a list whose place is between two parts of it.
-use Rattle.std.proofs.Common.{◌≡◌, ℕ, ◌+◌, ◌-◌, ◌<◌, ◌≤◌, List, [], ◌∷◌, ◌++◌, Option, Some, None, Bool, true, false, IsTrue, ◌↔◌, ◌&&◌, cond, nat_lt, zero, length, drop, suc, insert, remove, slice_get, OnErr, OnOk, OnSome, Result, Ok, Err, if◌then◌else◌, refl, ap, sym, subst, ◌∙◌, append_assoc, length-append, arith, inl, inr, ◌⊎◌}
+use Rattle.std.proofs.Common.{◌≡◌, ℕ, ◌+◌, ◌-◌, ◌<◌, ◌≤◌, List, [], ◌∷◌, ◌++◌, Option, Some, None, Bool, true, false, IsTrue, ◌↔◌}
+use Rattle.std.proofs.Common.{◌&&◌, cond, nat_lt, zero, length, drop, suc, insert, remove, slice_get, OnErr, OnOk, OnSome, Result}
+use Rattle.std.proofs.Common.{Ok, Err, if◌then◌else◌, refl, ap, sym, subst, ◌∙◌, append_assoc, length-append, arith, inl, inr}
+use Rattle.std.proofs.Common.{◌⊎◌}
 use Rattle.std.proofs.lemmas.Bool.{cases_lt}
 use Rattle.std.proofs.lemmas.List.{take_at, drop_at}
 use Rattle.std.proofs.lemmas.Bool.Decides.{nat_tests}
@@ -33,13 +36,21 @@ pub insert-between : (pieces : Pieces Piece) (front rest : List Piece) (piece : 
 insert-between pieces front rest piece between = ap (λ xs. insert xs pieces.place piece) between.list ∙ ap (λ n. insert (front ++ rest) n piece) between.place ∙ insert-at front piece rest
 
 -- after a step back one piece is on the other side of the place
-pub between-back : (pieces back : Pieces Piece) (front rest : List Piece) (last : Piece) → Between pieces (front ++ last ∷ []) rest → back.list ≡ pieces.list → back.place ≡ pieces.place - 1 → Between back front (last ∷ rest)
+pub between-back : (pieces back : Pieces Piece) (front rest : List Piece) (last : Piece)
+    → Between pieces (front ++ last ∷ []) rest
+    → back.list ≡ pieces.list
+    → back.place ≡ pieces.place - 1
+    → Between back front (last ∷ rest)
 between-back pieces back front rest last between list place = record {
   list = list ∙ between.list ∙ append_assoc front (last ∷ []) rest;
   place = omega (arith, place, between.place, length-snoc front last);
 }
 
-pub between-on : (pieces onward : Pieces Piece) (front rest : List Piece) (first : Piece) → Between pieces front (first ∷ rest) → onward.list ≡ pieces.list → onward.place ≡ pieces.place + 1 → Between onward (front ++ first ∷ []) rest
+pub between-on : (pieces onward : Pieces Piece) (front rest : List Piece) (first : Piece)
+    → Between pieces front (first ∷ rest)
+    → onward.list ≡ pieces.list
+    → onward.place ≡ pieces.place + 1
+    → Between onward (front ++ first ∷ []) rest
 between-on pieces onward front rest first between list place = record {
   list = list ∙ between.list ∙ sym (append_assoc front (first ∷ []) rest);
   place = omega (arith, place, between.place, length-snoc front first);
@@ -47,14 +58,20 @@ between-on pieces onward front rest first between list place = record {
 
 -- a piece that a place doesn't part
 pub parts-after : (at : ℕ) (piece : Piece) → at ≤ piece.start → parts at piece ≡ piece ∷ []
-parts-after at piece beyond = let fails : (nat_lt piece.start at && nat_lt at (piece_end piece)) ≡ false = grind (arith, nat_tests) in ap (λ b. cond b (left_part at piece ∷ right_part at piece ∷ []) (piece ∷ [])) fails
+parts-after at piece beyond =
+    let fails : (nat_lt piece.start at && nat_lt at (piece_end piece)) ≡ false = grind (arith, nat_tests) in
+    ap (λ b. cond b (left_part at piece ∷ right_part at piece ∷ []) (piece ∷ [])) fails
 
 pub parts-before : (at : ℕ) (piece : Piece) → piece_end piece ≤ at → parts at piece ≡ piece ∷ []
-parts-before at piece before = let fails : (nat_lt piece.start at && nat_lt at (piece_end piece)) ≡ false = grind (arith, nat_tests) in ap (λ b. cond b (left_part at piece ∷ right_part at piece ∷ []) (piece ∷ [])) fails
+parts-before at piece before =
+    let fails : (nat_lt piece.start at && nat_lt at (piece_end piece)) ≡ false = grind (arith, nat_tests) in
+    ap (λ b. cond b (left_part at piece ∷ right_part at piece ∷ []) (piece ∷ [])) fails
 
 -- a piece that a place parts
 pub parts-inside : (at : ℕ) (piece : Piece) → piece.start < at → at < piece_end piece → parts at piece ≡ left_part at piece ∷ right_part at piece ∷ []
-parts-inside at piece from to = let holds : (nat_lt piece.start at && nat_lt at (piece_end piece)) ≡ true = grind (arith, nat_tests) in ap (λ b. cond b (left_part at piece ∷ right_part at piece ∷ []) (piece ∷ [])) holds
+parts-inside at piece from to =
+    let holds : (nat_lt piece.start at && nat_lt at (piece_end piece)) ≡ true = grind (arith, nat_tests) in
+    ap (λ b. cond b (left_part at piece ∷ right_part at piece ∷ []) (piece ∷ [])) holds
 
 -- pieces that begin at a place or after it are not cut there
 pub cut_row-after : (at : ℕ) (pieces : List Piece) → BeginFrom at pieces → cut_row at pieces ≡ pieces
@@ -62,13 +79,20 @@ cut_row-after at [] begin = refl
 cut_row-after at (piece ∷ pieces) begin = ap (λ ps. ps ++ cut_row at pieces) (parts-after at piece begin.0) ∙ ap (λ ps. piece ∷ ps) (cut_row-after at pieces begin.1)
 
 -- of pieces in a row that begin below a place, the last alone may be cut there
-pub cut_row-last : (at low high : ℕ) (front rest : List Piece) (last : Piece) → IsRow low (front ++ last ∷ rest) high → BeginBelow at (front ++ last ∷ []) → BeginFrom at rest → cut_row at (front ++ last ∷ rest) ≡ front ++ (parts at last ++ rest)
+pub cut_row-last : (at low high : ℕ) (front rest : List Piece) (last : Piece)
+    → IsRow low (front ++ last ∷ rest) high
+    → BeginBelow at (front ++ last ∷ [])
+    → BeginFrom at rest
+    → cut_row at (front ++ last ∷ rest) ≡ front ++ (parts at last ++ rest)
 cut_row-last at low high [] rest last row below from = ap (λ ps. parts at last ++ ps) (cut_row-after at rest from)
 cut_row-last at low high (first ∷ front) rest last row below from =
     let before : piece_end first ≤ at = next_below front first last rest at high row.2 below.1 in
     ap (λ ps. ps ++ cut_row at (front ++ last ∷ rest)) (parts-before at first before) ∙ ap (λ ps. first ∷ ps) (cut_row-last at (piece_end first) high front rest last row.2 below.1 from)
   where
-    next_below : (front : List Piece) (first last : Piece) (rest : List Piece) (at high : ℕ) → IsRow (piece_end first) (front ++ last ∷ rest) high → BeginBelow at (front ++ last ∷ []) → piece_end first ≤ at
+    next_below : (front : List Piece) (first last : Piece) (rest : List Piece) (at high : ℕ)
+        → IsRow (piece_end first) (front ++ last ∷ rest) high
+        → BeginBelow at (front ++ last ∷ [])
+        → piece_end first ≤ at
     next_below [] first last rest at high row below = omega (arith, row.0, below.0)
     next_below (second ∷ front) first last rest at high row below = omega (arith, row.0, below.0)
 
@@ -128,11 +152,19 @@ some_within (x ∷ xs) zero within none = cc
 some_within (x ∷ xs) (suc k) within none = some_within xs k (omega (arith, within)) none
 
 -- a piece that begins below a place lies before those that begin from it on
-pub place_below : (at : ℕ) (pieces : Pieces Piece) (front rest : List Piece) (piece : Piece) → pieces.list ≡ front ++ rest → BeginFrom at rest → slice_get pieces.list pieces.place ≡ Some piece → piece.start < at → pieces.place < length front
+pub place_below : (at : ℕ) (pieces : Pieces Piece) (front rest : List Piece) (piece : Piece)
+    → pieces.list ≡ front ++ rest
+    → BeginFrom at rest
+    → slice_get pieces.list pieces.place ≡ Some piece
+    → piece.start < at
+    → pieces.place < length front
 place_below at pieces front rest piece list from found below = index_below at front rest pieces.place piece from (ap (λ xs. slice_get xs pieces.place) (sym list) ∙ found) below
 
 -- `next` moves by at most one
-pub moved_to : (pieces next : Pieces Piece) (moved : Bool) (most : ℕ) → pieces.place < most → next ≡ listed pieces.list (if moved then pieces.place + 1 else pieces.place) pieces.spare → next.place ≤ most
+pub moved_to : (pieces next : Pieces Piece) (moved : Bool) (most : ℕ)
+    → pieces.place < most
+    → next ≡ listed pieces.list (if moved then pieces.place + 1 else pieces.place) pieces.spare
+    → next.place ≤ most
 moved_to pieces next true most below is = let place : next.place ≡ pieces.place + 1 = ap (λ (p : Pieces Piece). p.place) is in omega (arith, place, below)
 moved_to pieces next false most below is = let place : next.place ≡ pieces.place = ap (λ (p : Pieces Piece). p.place) is in omega (arith, place, below)
 
@@ -157,13 +189,19 @@ pub on_some : {X : Type 0} (found : Option X) (x : X) (P : Type 0) → found ≡
 on_some None x P is holds = cc
 on_some (Some y) x P is holds = holds
 
-pub between-removed : (pieces new : Pieces Piece) (front rest : List Piece) (piece : Piece) (spare : ℕ) → Between pieces front (piece ∷ rest) → new ≡ listed (remove pieces.list pieces.place) pieces.place spare → Between new front rest
+pub between-removed : (pieces new : Pieces Piece) (front rest : List Piece) (piece : Piece) (spare : ℕ)
+    → Between pieces front (piece ∷ rest)
+    → new ≡ listed (remove pieces.list pieces.place) pieces.place spare
+    → Between new front rest
 between-removed pieces new front rest piece spare between is = record {
   list = ap (λ (p : Pieces Piece). p.list) is ∙ remove-between pieces front rest piece between;
   place = ap (λ (p : Pieces Piece). p.place) is ∙ between.place;
 }
 
-pub between-inserted : (pieces new : Pieces Piece) (front rest : List Piece) (piece : Piece) (spare : ℕ) → Between pieces front rest → new ≡ listed (insert pieces.list pieces.place piece) pieces.place spare → Between new front (piece ∷ rest)
+pub between-inserted : (pieces new : Pieces Piece) (front rest : List Piece) (piece : Piece) (spare : ℕ)
+    → Between pieces front rest
+    → new ≡ listed (insert pieces.list pieces.place piece) pieces.place spare
+    → Between new front (piece ∷ rest)
 between-inserted pieces new front rest piece spare between is = record {
   list = ap (λ (p : Pieces Piece). p.list) is ∙ insert-between pieces front rest piece between;
   place = ap (λ (p : Pieces Piece). p.place) is ∙ between.place;
@@ -188,31 +226,61 @@ uncut at pieces back front rest last piece between is found whole =
     here.list ∙ ap (λ ps. front ++ (ps ++ rest)) (sym last_whole)
 
 -- with pieces before the place, a step back finds one
-pub some_before : (pieces back : Pieces Piece) (front rest : List Piece) (last : Piece) (found : Option Piece) → Between pieces (front ++ last ∷ []) rest → back ≡ listed pieces.list (pieces.place - 1) pieces.spare
-    → found ≡ slice_get back.list back.place → found ≡ None → ⊥
+pub some_before : (pieces back : Pieces Piece) (front rest : List Piece) (last : Piece) (found : Option Piece)
+    → Between pieces (front ++ last ∷ []) rest
+    → back ≡ listed pieces.list (pieces.place - 1) pieces.spare
+    → found ≡ slice_get back.list back.place
+    → found ≡ None
+    → ⊥
 some_before pieces back front rest last found between is value none =
     let here = between-back pieces back front rest last between (ap (λ (p : Pieces Piece). p.list) is) (ap (λ (p : Pieces Piece). p.place) is) in
     let clash : None ≡ Some last = sym none ∙ value ∙ slice_get-between back front rest last here in cc
 
 -- the list where the piece before the place is cut
-pub cut_last : (at : ℕ) (pieces back removed once twice : Pieces Piece) (taken : Option Piece) (piece left right : Piece) (front rest : List Piece) (last : Piece) (m n : ℕ) → Between pieces (front ++ last ∷ []) rest
-    → back ≡ listed pieces.list (pieces.place - 1) pieces.spare → Some piece ≡ slice_get back.list back.place → taken ≡ slice_get back.list back.place
-    → OnSome taken (removed ≡ listed (remove back.list back.place) back.place (back.spare + 1)) → once ≡ listed (insert removed.list removed.place right) removed.place m → twice ≡ listed (insert once.list once.place left) once.place n
-    → left ≡ left_part at piece → right ≡ right_part at piece → piece.start < at → at < piece_end piece → twice.list ≡ front ++ (parts at last ++ rest)
-cut_last at pieces back removed once twice taken piece left right front rest last m n between is found took left_out in_once in_twice is_left is_right from to =
-    let here = between-back pieces back front rest last between (ap (λ (p : Pieces Piece). p.list) is) (ap (λ (p : Pieces Piece). p.place) is) in
+pub cut_last : (at : ℕ) (pieces back removed once twice : Pieces Piece)
+    (taken : Option Piece) (piece left right : Piece) (front rest : List Piece) (last : Piece) (m n : ℕ)
+    → Between pieces (front ++ last ∷ []) rest
+    → back ≡ listed pieces.list (pieces.place - 1) pieces.spare
+    → Some piece ≡ slice_get back.list back.place
+    → taken ≡ slice_get back.list back.place
+    → OnSome taken (removed ≡ listed (remove back.list back.place) back.place (back.spare + 1))
+    → once ≡
+    listed (insert removed.list removed.place right) removed.place m
+    → twice ≡ listed (insert once.list once.place left) once.place n
+    → left ≡ left_part at piece
+    → right ≡ right_part at piece
+    → piece.start < at
+    → at < piece_end piece
+    → twice.list ≡ front ++ (parts at last ++ rest)
+cut_last at pieces back removed once twice taken piece left right front rest last m n between is found took left_out in_once
+    in_twice is_left is_right from to =
+    let here =
+    between-back pieces back front rest last between (ap (λ (p : Pieces Piece). p.list) is)
+    (ap (λ (p : Pieces Piece). p.place) is) in
     let at_last = slice_get-between back front rest last here in
     let same : piece ≡ last = let found_last : Some piece ≡ Some last = found ∙ at_last in cc in
-    let gone = between-removed back removed front rest last (back.spare + 1) here (on_some taken last (removed ≡ listed (remove back.list back.place) back.place (back.spare + 1)) (took ∙ at_last) left_out) in
+    let gone =
+    between-removed back removed front rest last (back.spare + 1) here
+    (on_some taken last (removed ≡ listed (remove back.list back.place) back.place (back.spare + 1)) (took ∙ at_last) left_out) in
     let one = between-inserted removed once front rest right m gone in_once in
     let two = between-inserted once twice front (right ∷ rest) left n one in_twice in
-    let halves : left ∷ right ∷ [] ≡ parts at last = ap (λ l. l ∷ right ∷ []) is_left ∙ ap (λ r. left_part at piece ∷ r ∷ []) is_right ∙ sym (parts-inside at piece from to) ∙ ap (parts at) same in
+    let halves : left ∷ right ∷ [] ≡ parts at last =
+    ap (λ l. l ∷ right ∷ []) is_left
+    ∙ ap (λ r. left_part at piece ∷ r ∷ []) is_right
+    ∙ sym (parts-inside at piece from to)
+    ∙ ap (parts at) same in
     two.list ∙ ap (λ ps. front ++ (ps ++ rest)) halves
 
 -- the whole of a cut
-pub cut_whole : (at low high : ℕ) (old moved new : Pieces Piece) → IsRow low old.list high
-    → moved.list ≡ old.list → ((front rest : List Piece) → old.list ≡ front ++ rest → BeginBelow at front → BeginFrom at rest → moved.place ≡ length front)
-    → ((front rest : List Piece) (last : Piece) → Between moved (front ++ last ∷ []) rest → new.list ≡ front ++ (parts at last ++ rest)) → (moved.place ≡ 0 → new.list ≡ moved.list) → new.list ≡ cut_row at old.list
+pub cut_whole : (at low high : ℕ) (old moved new : Pieces Piece)
+    → IsRow low old.list high
+    → moved.list ≡ old.list
+    → ((front rest : List Piece) → old.list ≡ front ++ rest → BeginBelow at front → BeginFrom at rest →
+    moved.place ≡ length front)
+    → ((front rest : List Piece) (last : Piece) → Between moved (front ++ last ∷ []) rest →
+    new.list ≡ front ++ (parts at last ++ rest))
+    → (moved.place ≡ 0 → new.list ≡ moved.list)
+    → new.list ≡ cut_row at old.list
 cut_whole at low high old moved new row list sought_here ok first =
     let two = parted at low high old.list row in
     let place : moved.place ≡ length two.front = sought_here two.front two.rest two.list two.below two.from in
@@ -238,7 +306,10 @@ on_err_list (Ok x) new old first same is = tt
 on_err_list (Err e) new old first same is = same ∙ is
 
 -- `next` leaves fewer pieces to pass
-pub smaller_next : (pieces next : Pieces Piece) (moved : Bool) → pieces.place < length pieces.list → (IsTrue moved ↔ (pieces.place < length pieces.list)) → next ≡ listed pieces.list (if moved then pieces.place + 1 else pieces.place) pieces.spare
+pub smaller_next : (pieces next : Pieces Piece) (moved : Bool)
+    → pieces.place < length pieces.list
+    → (IsTrue moved ↔ (pieces.place < length pieces.list))
+    → next ≡ listed pieces.list (if moved then pieces.place + 1 else pieces.place) pieces.spare
     → length next.list - next.place < length pieces.list - pieces.place
 smaller_next pieces next moved here tells is =
     let moves : moved ≡ true = tells.1 here in
@@ -246,7 +317,11 @@ smaller_next pieces next moved here tells is =
     let long : length next.list ≡ length pieces.list = ap (λ (p : Pieces Piece). length p.list) is in
     omega (arith, place, long, here)
 
-pub smaller_between : (pieces on : Pieces Piece) (front other rest later : List Piece) (piece : Piece) → Between pieces front rest → rest ≡ piece ∷ later → Between on other later → length on.list - on.place < length pieces.list - pieces.place
+pub smaller_between : (pieces on : Pieces Piece) (front other rest later : List Piece) (piece : Piece)
+    → Between pieces front rest
+    → rest ≡ piece ∷ later
+    → Between on other later
+    → length on.list - on.place < length pieces.list - pieces.place
 smaller_between pieces on front other rest later piece one is two =
     let before : length pieces.list ≡ length front + length rest = ap length one.list ∙ length-append front rest in
     let after : length on.list ≡ length other + length later = ap length two.list ∙ length-append other later in

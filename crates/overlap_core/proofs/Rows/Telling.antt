@@ -1,5 +1,6 @@
 -- What pieces in a row tell of a place.
-use Rattle.std.proofs.Common.{◌≡◌, ℕ, ◌+◌, ◌-◌, ◌<◌, ◌≤◌, ◌⊎◌, inl, inr, List, [], ◌∷◌, ◌++◌, Some, None, Bool, true, false, cond, nat_lt, nat_le, length, max, get_or, refl, ap, sym, subst, ◌∙◌, arith, length-drop}
+use Rattle.std.proofs.Common.{◌≡◌, ℕ, ◌+◌, ◌-◌, ◌<◌, ◌≤◌, ◌⊎◌, inl, inr, List, [], ◌∷◌, ◌++◌, Some, None, Bool, true, false, cond}
+use Rattle.std.proofs.Common.{nat_lt, nat_le, length, max, get_or, refl, ap, sym, subst, ◌∙◌, arith, length-drop}
 use Rattle.std.proofs.lemmas.Bool.{cases_lt}
 use Rattle.std.proofs.lemmas.Bool.Decides.{nat_tests}
 use Rattle.std.proofs.lemmas.List.{length-take-le, get_or-take, get_or-drop}
@@ -50,7 +51,10 @@ pub kept_in-front : (front rest : List Piece) (place : ℕ) → kept_in rest pla
 kept_in-front [] rest place none = none
 kept_in-front (piece ∷ front) rest place none = ap (λ later. cond (has_place piece place) (Some (kept_of place piece)) later) (kept_in-front front rest place none)
 
-rest_by_test : (piece : Piece) (front rest : List Piece) (place : ℕ) (b : Bool) → has_place piece place ≡ b → kept_in (piece ∷ front) place ≡ None → (kept_in front place ≡ None → kept_in (front ++ rest) place ≡ kept_in rest place)
+rest_by_test : (piece : Piece) (front rest : List Piece) (place : ℕ) (b : Bool)
+    → has_place piece place ≡ b
+    → kept_in (piece ∷ front) place ≡ None
+    → (kept_in front place ≡ None → kept_in (front ++ rest) place ≡ kept_in rest place)
     → kept_in (piece ∷ front ++ rest) place ≡ kept_in rest place
 rest_by_test piece front rest place true is none later = let clash : Some (kept_of place piece) ≡ None = sym (ap (λ b. cond b (Some (kept_of place piece)) (kept_in front place)) is) ∙ none in cc
 rest_by_test piece front rest place false is none later =
@@ -84,24 +88,39 @@ pub kept_in-cons : (piece : Piece) (pieces others : List Piece) (place : ℕ) �
 kept_in-cons piece pieces others place same = ap (λ later. cond (has_place piece place) (Some (kept_of place piece)) later) same
 
 -- the two parts tell what the piece told
-halves_tell : (at : ℕ) (piece : Piece) (pieces : List Piece) (place : ℕ) → piece.start < at → at < piece_end piece → kept_in (left_part at piece ∷ right_part at piece ∷ pieces) place ≡ kept_in (piece ∷ pieces) place
+halves_tell : (at : ℕ) (piece : Piece) (pieces : List Piece) (place : ℕ)
+    → piece.start < at
+    → at < piece_end piece
+    → kept_in (left_part at piece ∷ right_part at piece ∷ pieces) place ≡ kept_in (piece ∷ pieces) place
 halves_tell at piece pieces place from to =
     let left = length-left at piece from to in
     let right = length-right at piece in
-    elim (cases_lt place piece.start) as (λ _. kept_in (left_part at piece ∷ right_part at piece ∷ pieces) place ≡ kept_in (piece ∷ pieces) place) [
+    elim (cases_lt place piece.start) as
+    (λ _. kept_in (left_part at piece ∷ right_part at piece ∷ pieces) place ≡ kept_in (piece ∷ pieces) place) [
       | inl ahead ↦
-          kept_in-ahead (left_part at piece) (right_part at piece ∷ pieces) place ahead ∙ kept_in-ahead (right_part at piece) pieces place (omega arith) ∙ sym (kept_in-ahead piece pieces place ahead)
-      | inr after ↦ elim (cases_lt place at) as (λ _. kept_in (left_part at piece ∷ right_part at piece ∷ pieces) place ≡ kept_in (piece ∷ pieces) place) [
-        | inl below ↦
-            kept_in-here (left_part at piece) (right_part at piece ∷ pieces) place after (omega (arith, left)) ∙ ap Some (kept_of-left at piece place (omega arith)) ∙ sym (kept_in-here piece pieces place after (omega arith))
-        | inr above ↦ elim (cases_lt place (piece_end piece)) as (λ _. kept_in (left_part at piece ∷ right_part at piece ∷ pieces) place ≡ kept_in (piece ∷ pieces) place) [
-          | inl within ↦
-              kept_in-after (left_part at piece) (right_part at piece ∷ pieces) place (omega (arith, left)) ∙ kept_in-here (right_part at piece) pieces place above (omega (arith, right))
-              ∙ ap Some (kept_of-right at piece place (omega arith) above) ∙ sym (kept_in-here piece pieces place after within)
-          | inr beyond ↦
-              kept_in-after (left_part at piece) (right_part at piece ∷ pieces) place (omega (arith, left)) ∙ kept_in-after (right_part at piece) pieces place (omega (arith, right)) ∙ sym (kept_in-after piece pieces place beyond)
-        ]
-      ]
+          kept_in-ahead (left_part at piece) (right_part at piece ∷ pieces) place ahead
+          ∙ kept_in-ahead (right_part at piece) pieces place (omega arith)
+          ∙ sym (kept_in-ahead piece pieces place ahead)
+      | inr after ↦
+          elim (cases_lt place at) as
+          (λ _. kept_in (left_part at piece ∷ right_part at piece ∷ pieces) place ≡ kept_in (piece ∷ pieces) place) [
+            | inl below ↦
+                kept_in-here (left_part at piece) (right_part at piece ∷ pieces) place after (omega (arith, left))
+                ∙ ap Some (kept_of-left at piece place (omega arith))
+                ∙ sym (kept_in-here piece pieces place after (omega arith))
+            | inr above ↦
+                elim (cases_lt place (piece_end piece)) as
+                (λ _. kept_in (left_part at piece ∷ right_part at piece ∷ pieces) place ≡ kept_in (piece ∷ pieces) place) [
+                  | inl within ↦
+                      kept_in-after (left_part at piece) (right_part at piece ∷ pieces) place (omega (arith, left))
+                      ∙ kept_in-here (right_part at piece) pieces place above (omega (arith, right))
+                      ∙ ap Some (kept_of-right at piece place (omega arith) above) ∙ sym (kept_in-here piece pieces place after within)
+                  | inr beyond ↦
+                      kept_in-after (left_part at piece) (right_part at piece ∷ pieces) place (omega (arith, left))
+                      ∙ kept_in-after (right_part at piece) pieces place (omega (arith, right))
+                      ∙ sym (kept_in-after piece pieces place beyond)
+                ]
+          ]
     ]
 
 -- whether a place lies inside a piece
@@ -117,25 +136,42 @@ data_inside at piece = elim (cases_lt piece.start at) as (λ _. ((piece.start < 
 -- a cut changes nothing that is told
 pub cut_row-tells : (at : ℕ) (pieces : List Piece) (place : ℕ) → kept_in (cut_row at pieces) place ≡ kept_in pieces place
 cut_row-tells at [] place = refl
-cut_row-tells at (piece ∷ pieces) place = elim (data_inside at piece) as (λ _. kept_in (parts at piece ++ cut_row at pieces) place ≡ kept_in (piece ∷ pieces) place) [
-  | inl inside ↦
-      ap (λ ps. kept_in (ps ++ cut_row at pieces) place) (parts-inside at piece inside.0 inside.1) ∙ halves_tell at piece (cut_row at pieces) place inside.0 inside.1 ∙ kept_in-cons piece (cut_row at pieces) pieces place (cut_row-tells at pieces place)
-  | inr whole ↦ ap (λ ps. kept_in (ps ++ cut_row at pieces) place) whole ∙ kept_in-cons piece (cut_row at pieces) pieces place (cut_row-tells at pieces place)
-]
+cut_row-tells at (piece ∷ pieces) place =
+    elim (data_inside at piece) as (λ _. kept_in (parts at piece ++ cut_row at pieces) place ≡ kept_in (piece ∷ pieces) place) [
+      | inl inside ↦
+          ap (λ ps. kept_in (ps ++ cut_row at pieces) place) (parts-inside at piece inside.0 inside.1)
+          ∙ halves_tell at piece (cut_row at pieces) place inside.0 inside.1
+          ∙ kept_in-cons piece (cut_row at pieces) pieces place (cut_row-tells at pieces place)
+      | inr whole ↦
+          ap (λ ps. kept_in (ps ++ cut_row at pieces) place) whole
+          ∙ kept_in-cons piece (cut_row at pieces) pieces place (cut_row-tells at pieces place)
+    ]
 
 -- pieces in a row are in a row when they are cut
 pub cut_row-row : (at low high : ℕ) (pieces : List Piece) → IsRow low pieces high → IsRow low (cut_row at pieces) high
 cut_row-row at low high [] row = row
-cut_row-row at low high (piece ∷ pieces) row = elim (data_inside at piece) as (λ _. IsRow low (parts at piece ++ cut_row at pieces) high) [
-  | inl inside ↦
-      let left = length-left at piece inside.0 inside.1 in
-      let right = length-right at piece in
-      let ends : piece_end piece ≡ piece_end (right_part at piece) = omega (arith, right, inside.0, inside.1) in
-      let later : IsRow (piece_end (right_part at piece)) (cut_row at pieces) high = subst (λ n. IsRow n (cut_row at pieces) high) ends (cut_row-row at (piece_end piece) high pieces row.2) in
-      let halves : IsRow low (left_part at piece ∷ right_part at piece ∷ cut_row at pieces) high = (row.0, omega (arith, left, inside.0), (omega (arith, left, inside.0), omega (arith, right, inside.0, inside.1), later)) in
-      subst (λ ps. IsRow low (ps ++ cut_row at pieces) high) (sym (parts-inside at piece inside.0 inside.1)) halves
-  | inr whole ↦ let same : IsRow low (piece ∷ cut_row at pieces) high = (row.0, row.1, cut_row-row at (piece_end piece) high pieces row.2) in subst (λ ps. IsRow low (ps ++ cut_row at pieces) high) (sym whole) same
-]
+cut_row-row at low high (piece ∷ pieces) row =
+    elim (data_inside at piece) as (λ _. IsRow low (parts at piece ++ cut_row at pieces) high) [
+      | inl inside ↦
+          let left = length-left at piece inside.0 inside.1 in
+          let right = length-right at piece in
+          let ends : piece_end piece ≡ piece_end (right_part at piece) = omega (arith, right, inside.0, inside.1) in
+          let later : IsRow (piece_end (right_part at piece)) (cut_row at pieces) high =
+          subst (λ n. IsRow n (cut_row at pieces) high) ends (cut_row-row at (piece_end piece) high pieces row.2) in
+          let halves : IsRow low (left_part at piece ∷ right_part at piece ∷ cut_row at pieces) high = (
+            row.0,
+            omega (arith, left, inside.0),
+            (omega (arith, left, inside.0), omega (arith, right, inside.0, inside.1), later),
+          ) in
+          subst (λ ps. IsRow low (ps ++ cut_row at pieces) high) (sym (parts-inside at piece inside.0 inside.1)) halves
+      | inr whole ↦
+          let same : IsRow low (piece ∷ cut_row at pieces) high = (
+            row.0,
+            row.1,
+            cut_row-row at (piece_end piece) high pieces row.2,
+          ) in
+          subst (λ ps. IsRow low (ps ++ cut_row at pieces) high) (sym whole) same
+    ]
 
 pub cut_row-recut : (at low high : ℕ) (pieces : List Piece) → IsRow low pieces high → IsRecut low high pieces (cut_row at pieces)
 cut_row-recut at low high pieces row = record { row = cut_row-row at low high pieces row; same = cut_row-tells at pieces }
@@ -147,25 +183,43 @@ cut_row-cut at (piece ∷ pieces) = elim (cases_lt piece.start at) as (λ _. IsC
   | inl from ↦ elim (cases_lt at (piece_end piece)) as (λ _. IsCutAt at (parts at piece ++ cut_row at pieces)) [
     | inl to ↦
         let left = length-left at piece from to in
-        let halves : IsCutAt at (left_part at piece ∷ right_part at piece ∷ cut_row at pieces) = (λ _. omega (arith, left), (λ below. absurd (omega (arith, below)), cut_row-cut at pieces)) in
+        let halves : IsCutAt at (left_part at piece ∷ right_part at piece ∷ cut_row at pieces) = (
+          λ _. omega (arith, left),
+          (λ below. absurd (omega (arith, below)), cut_row-cut at pieces),
+        ) in
         subst (λ ps. IsCutAt at (ps ++ cut_row at pieces)) (sym (parts-inside at piece from to)) halves
-    | inr before ↦ let same : IsCutAt at (piece ∷ cut_row at pieces) = (λ _. before, cut_row-cut at pieces) in subst (λ ps. IsCutAt at (ps ++ cut_row at pieces)) (sym (parts-before at piece before)) same
+    | inr before ↦
+        let same : IsCutAt at (piece ∷ cut_row at pieces) = (λ _. before, cut_row-cut at pieces) in
+        subst (λ ps. IsCutAt at (ps ++ cut_row at pieces)) (sym (parts-before at piece before)) same
   ]
-  | inr beyond ↦ let same : IsCutAt at (piece ∷ cut_row at pieces) = (λ below. absurd (omega (arith, below, beyond)), cut_row-cut at pieces) in subst (λ ps. IsCutAt at (ps ++ cut_row at pieces)) (sym (parts-after at piece beyond)) same
+  | inr beyond ↦
+      let same : IsCutAt at (piece ∷ cut_row at pieces) = (
+        λ below. absurd (omega (arith, below, beyond)),
+        cut_row-cut at pieces,
+      ) in
+      subst (λ ps. IsCutAt at (ps ++ cut_row at pieces)) (sym (parts-after at piece beyond)) same
 ]
 
 -- pieces that are cut at one place stay cut there when they are cut at another
 pub cut_row-keeps : (at other : ℕ) (pieces : List Piece) → IsCutAt other pieces → IsCutAt other (cut_row at pieces)
 cut_row-keeps at other [] is = tt
-cut_row-keeps at other (piece ∷ pieces) is = elim (data_inside at piece) as (λ _. IsCutAt other (parts at piece ++ cut_row at pieces)) [
-  | inl inside ↦
-      let left = length-left at piece inside.0 inside.1 in
-      let right = length-right at piece in
-      let halves : IsCutAt other (left_part at piece ∷ right_part at piece ∷ cut_row at pieces) =
-      (λ below. let whole = is.0 below in omega (arith, left, whole, inside.1), (λ below. let whole = is.0 (omega (arith, below, inside.0)) in omega (arith, right, whole, inside.0, inside.1), cut_row-keeps at other pieces is.1)) in
-      subst (λ ps. IsCutAt other (ps ++ cut_row at pieces)) (sym (parts-inside at piece inside.0 inside.1)) halves
-  | inr whole ↦ let same : IsCutAt other (piece ∷ cut_row at pieces) = (is.0, cut_row-keeps at other pieces is.1) in subst (λ ps. IsCutAt other (ps ++ cut_row at pieces)) (sym whole) same
-]
+cut_row-keeps at other (piece ∷ pieces) is =
+    elim (data_inside at piece) as (λ _. IsCutAt other (parts at piece ++ cut_row at pieces)) [
+      | inl inside ↦
+          let left = length-left at piece inside.0 inside.1 in
+          let right = length-right at piece in
+          let halves : IsCutAt other (left_part at piece ∷ right_part at piece ∷ cut_row at pieces) = (
+            λ below. let whole = is.0 below in omega (arith, left, whole, inside.1),
+            (
+              λ below. let whole = is.0 (omega (arith, below, inside.0)) in omega (arith, right, whole, inside.0, inside.1),
+              cut_row-keeps at other pieces is.1,
+            ),
+          ) in
+          subst (λ ps. IsCutAt other (ps ++ cut_row at pieces)) (sym (parts-inside at piece inside.0 inside.1)) halves
+      | inr whole ↦
+          let same : IsCutAt other (piece ∷ cut_row at pieces) = (is.0, cut_row-keeps at other pieces is.1) in
+          subst (λ ps. IsCutAt other (ps ++ cut_row at pieces)) (sym whole) same
+    ]
 
 -- a row that is cut at a place is two rows
 pub front-row : (at low high : ℕ) (front rest : List Piece) → IsRow low (front ++ rest) high → BeginBelow at front → IsCutAt at (front ++ rest) → low ≤ at → IsRow low front at
@@ -187,53 +241,84 @@ rest-cut at (piece ∷ front) rest is = rest-cut at front rest is.1
 -- a later floor
 pub raised-row : (below low high : ℕ) (pieces : List Piece) → IsRow low pieces high → IsRow below (raised below pieces) (max below high)
 raised-row below low high [] row = omega arith
-raised-row below low high (piece ∷ pieces) row = elim (cases_lt below (piece_end piece)) as (λ _. IsRow below (raised below (piece ∷ pieces)) (max below high)) [
-  | inl reaches ↦
-      let stays : nat_le (piece_end piece) below ≡ false = grind (arith, nat_tests) in
-      let first : raised below (piece ∷ pieces) ≡ cond (nat_lt piece.start below) (right_part below piece ∷ pieces) (piece ∷ pieces) = ap (λ b. cond b (raised below pieces) (cond (nat_lt piece.start below) (right_part below piece ∷ pieces) (piece ∷ pieces))) stays in
-      subst (λ ps. IsRow below ps (max below high)) (sym first) (elim (cases_lt piece.start below) as (λ _. IsRow below (cond (nat_lt piece.start below) (right_part below piece ∷ pieces) (piece ∷ pieces)) (max below high)) [
-        | inl before ↦
-            let test : nat_lt piece.start below ≡ true = grind (arith, nat_tests) in
-            let right = length-right below piece in
-            let ends : piece_end piece ≡ piece_end (right_part below piece) = omega (arith, right, before, reaches) in
-            let later : IsRow (piece_end (right_part below piece)) pieces (max below high) = subst (λ n. IsRow n pieces (max below high)) ends (IsRow-higher (piece_end piece) high (max below high) pieces (omega arith) row.2) in
-            let whole : IsRow below (right_part below piece ∷ pieces) (max below high) = (omega arith, omega (arith, right, before, reaches), later) in
-            subst (λ b. IsRow below (cond b (right_part below piece ∷ pieces) (piece ∷ pieces)) (max below high)) (sym test) whole
-        | inr from ↦
-            let test : nat_lt piece.start below ≡ false = grind (arith, nat_tests) in
-            let whole : IsRow below (piece ∷ pieces) (max below high) = (from, row.1, IsRow-higher (piece_end piece) high (max below high) pieces (omega arith) row.2) in
-            subst (λ b. IsRow below (cond b (right_part below piece ∷ pieces) (piece ∷ pieces)) (max below high)) (sym test) whole
-      ])
-  | inr gone ↦
-      let test : nat_le (piece_end piece) below ≡ true = grind (arith, nat_tests) in
-      subst (λ b. IsRow below (cond b (raised below pieces) (cond (nat_lt piece.start below) (right_part below piece ∷ pieces) (piece ∷ pieces))) (max below high)) (sym test) (raised-row below (piece_end piece) high pieces row.2)
-]
+raised-row below low high (piece ∷ pieces) row =
+    elim (cases_lt below (piece_end piece)) as (λ _. IsRow below (raised below (piece ∷ pieces)) (max below high)) [
+      | inl reaches ↦
+          let stays : nat_le (piece_end piece) below ≡ false = grind (arith, nat_tests) in
+          let first : raised below (piece ∷ pieces)
+          ≡ cond (nat_lt piece.start below) (right_part below piece ∷ pieces) (piece ∷ pieces) =
+          ap (λ b. cond b (raised below pieces) (cond (nat_lt piece.start below) (right_part below piece ∷ pieces) (piece ∷ pieces)))
+          stays in
+          subst (λ ps. IsRow below ps (max below high)) (sym first)
+          (elim (cases_lt piece.start below) as
+          (λ _. IsRow below (cond (nat_lt piece.start below) (right_part below piece ∷ pieces) (piece ∷ pieces)) (max below high)) [
+            | inl before ↦
+                let test : nat_lt piece.start below ≡ true = grind (arith, nat_tests) in
+                let right = length-right below piece in
+                let ends : piece_end piece ≡ piece_end (right_part below piece) = omega (arith, right, before, reaches) in
+                let later : IsRow (piece_end (right_part below piece)) pieces (max below high) =
+                subst (λ n. IsRow n pieces (max below high)) ends
+                (IsRow-higher (piece_end piece) high (max below high) pieces (omega arith) row.2) in
+                let whole : IsRow below (right_part below piece ∷ pieces) (max below high) = (
+                  omega arith,
+                  omega (arith, right, before, reaches),
+                  later,
+                ) in
+                subst (λ b. IsRow below (cond b (right_part below piece ∷ pieces) (piece ∷ pieces)) (max below high)) (sym test) whole
+            | inr from ↦
+                let test : nat_lt piece.start below ≡ false = grind (arith, nat_tests) in
+                let whole : IsRow below (piece ∷ pieces) (max below high) = (
+                  from,
+                  row.1,
+                  IsRow-higher (piece_end piece) high (max below high) pieces (omega arith) row.2,
+                ) in
+                subst (λ b. IsRow below (cond b (right_part below piece ∷ pieces) (piece ∷ pieces)) (max below high)) (sym test) whole
+          ])
+      | inr gone ↦
+          let test : nat_le (piece_end piece) below ≡ true = grind (arith, nat_tests) in
+          subst (λ b. IsRow below
+          (cond b (raised below pieces) (cond (nat_lt piece.start below) (right_part below piece ∷ pieces) (piece ∷ pieces)))
+          (max below high)) (sym test) (raised-row below (piece_end piece) high pieces row.2)
+    ]
 
 pub raised-tells : (below : ℕ) (pieces : List Piece) (place : ℕ) → below ≤ place → kept_in (raised below pieces) place ≡ kept_in pieces place
 raised-tells below [] place from = refl
-raised-tells below (piece ∷ pieces) place from = elim (cases_lt below (piece_end piece)) as (λ _. kept_in (raised below (piece ∷ pieces)) place ≡ kept_in (piece ∷ pieces) place) [
-  | inl reaches ↦
-      let stays : nat_le (piece_end piece) below ≡ false = grind (arith, nat_tests) in
-      ap (λ b. kept_in (cond b (raised below pieces) (cond (nat_lt piece.start below) (right_part below piece ∷ pieces) (piece ∷ pieces))) place) stays
-      ∙ (elim (cases_lt piece.start below) as (λ _. kept_in (cond (nat_lt piece.start below) (right_part below piece ∷ pieces) (piece ∷ pieces)) place ≡ kept_in (piece ∷ pieces) place) [
-        | inl before ↦
-            let test : nat_lt piece.start below ≡ true = grind (arith, nat_tests) in
-            let right = length-right below piece in
-            ap (λ b. kept_in (cond b (right_part below piece ∷ pieces) (piece ∷ pieces)) place) test
-            ∙ (elim (cases_lt place (piece_end piece)) as (λ _. kept_in (right_part below piece ∷ pieces) place ≡ kept_in (piece ∷ pieces) place) [
-              | inl within ↦
-                  kept_in-here (right_part below piece) pieces place from (omega (arith, right, before, reaches, within)) ∙ ap Some (kept_of-right below piece place (omega (arith, before)) from) ∙ sym (kept_in-here piece pieces place (omega (arith, before, from)) within)
-              | inr beyond ↦ kept_in-after (right_part below piece) pieces place (omega (arith, right, before, reaches, beyond)) ∙ sym (kept_in-after piece pieces place beyond)
-            ])
-        | inr at ↦
-            let test : nat_lt piece.start below ≡ false = grind (arith, nat_tests) in
-            ap (λ b. kept_in (cond b (right_part below piece ∷ pieces) (piece ∷ pieces)) place) test
-      ])
-  | inr gone ↦
-      let test : nat_le (piece_end piece) below ≡ true = grind (arith, nat_tests) in
-      ap (λ b. kept_in (cond b (raised below pieces) (cond (nat_lt piece.start below) (right_part below piece ∷ pieces) (piece ∷ pieces))) place) test
-      ∙ raised-tells below pieces place from ∙ sym (kept_in-after piece pieces place (omega (arith, gone, from)))
-]
+raised-tells below (piece ∷ pieces) place from =
+    elim (cases_lt below (piece_end piece)) as
+    (λ _. kept_in (raised below (piece ∷ pieces)) place ≡ kept_in (piece ∷ pieces) place) [
+      | inl reaches ↦
+          let stays : nat_le (piece_end piece) below ≡ false = grind (arith, nat_tests) in
+          ap (λ b. kept_in
+          (cond b (raised below pieces) (cond (nat_lt piece.start below) (right_part below piece ∷ pieces) (piece ∷ pieces))) place)
+          stays
+          ∙ (elim (cases_lt piece.start below) as
+          (λ _. kept_in (cond (nat_lt piece.start below) (right_part below piece ∷ pieces) (piece ∷ pieces)) place ≡
+          kept_in (piece ∷ pieces) place) [
+            | inl before ↦
+                let test : nat_lt piece.start below ≡ true = grind (arith, nat_tests) in
+                let right = length-right below piece in
+                ap (λ b. kept_in (cond b (right_part below piece ∷ pieces) (piece ∷ pieces)) place) test
+                ∙ (elim (cases_lt place (piece_end piece)) as
+                (λ _. kept_in (right_part below piece ∷ pieces) place ≡ kept_in (piece ∷ pieces) place) [
+                  | inl within ↦
+                      kept_in-here (right_part below piece) pieces place from (omega (arith, right, before, reaches, within))
+                      ∙ ap Some (kept_of-right below piece place (omega (arith, before)) from)
+                      ∙ sym (kept_in-here piece pieces place (omega (arith, before, from)) within)
+                  | inr beyond ↦
+                      kept_in-after (right_part below piece) pieces place (omega (arith, right, before, reaches, beyond))
+                      ∙ sym (kept_in-after piece pieces place beyond)
+                ])
+            | inr at ↦
+                let test : nat_lt piece.start below ≡ false = grind (arith, nat_tests) in
+                ap (λ b. kept_in (cond b (right_part below piece ∷ pieces) (piece ∷ pieces)) place) test
+          ])
+      | inr gone ↦
+          let test : nat_le (piece_end piece) below ≡ true = grind (arith, nat_tests) in
+          ap (λ b. kept_in
+          (cond b (raised below pieces) (cond (nat_lt piece.start below) (right_part below piece ∷ pieces) (piece ∷ pieces))) place)
+          test
+          ∙ raised-tells below pieces place from ∙ sym (kept_in-after piece pieces place (omega (arith, gone, from)))
+    ]
 
 pub recut-refl : (low high : ℕ) (pieces : List Piece) → IsRow low pieces high → IsRecut low high pieces pieces
 recut-refl low high pieces row = record { row = row; same = λ place. refl }

@@ -120,7 +120,9 @@ cut_out stream segment place are covered =
     let at : segment.start + (place - segment.start) ≡ place = omega (arith, from) in
     sym (are (place - segment.start) (omega (arith, from, below))) ∙ ap stream at
 
-pub stream-kept : (preference : Preference) (segments : List Segment) (stream : ℕ → Option ℕ) (place : ℕ) → All (λ (segment : Segment). AreBytes stream segment.start segment.bytes) segments → IsTrue (is_covered segments place)
+pub stream-kept : (preference : Preference) (segments : List Segment) (stream : ℕ → Option ℕ) (place : ℕ)
+    → All (λ (segment : Segment). AreBytes stream segment.start segment.bytes) segments
+    → IsTrue (is_covered segments place)
     → chosen_byte preference segments place ≡ stream place
 stream-kept preference segments stream place all covered =
     kept-holds (λ byte. byte ≡ stream place) preference segments place covered

@@ -38,14 +38,19 @@ filter-snoc_left_out test [] x fails = ap (λ b. cond b (x ∷ []) []) fails
 filter-snoc_left_out test (y ∷ ys) x fails = ap (λ rest. cond (test y) (y ∷ rest) rest) (filter-snoc_left_out test ys x fails)
 
 -- a new segment that covers the place is measured against the one that is chosen there
-pub chosen_segment-covered : (preference : Preference) (segments : List Segment) (new : Segment) (place : ℕ) → covers new place ≡ true → chosen_segment preference (segments ++ new ∷ []) place ≡ Some (winner_after preference (chosen_segment preference segments place) new)
+pub chosen_segment-covered : (preference : Preference) (segments : List Segment) (new : Segment) (place : ℕ)
+    → covers new place ≡ true
+    → chosen_segment preference (segments ++ new ∷ []) place ≡
+    Some (winner_after preference (chosen_segment preference segments place) new)
 unfolding chosen_segment
 chosen_segment-covered preference segments new place covered =
     ap (winner preference) (filter-snoc_kept (λ segment. covers segment place) segments new covered)
     ∙ winner-snoc preference (filter (λ segment. covers segment place) segments) new
 
 -- a segment that doesn't cover the place changes nothing there
-pub chosen_segment-uncovered : (preference : Preference) (segments : List Segment) (new : Segment) (place : ℕ) → covers new place ≡ false → chosen_segment preference (segments ++ new ∷ []) place ≡ chosen_segment preference segments place
+pub chosen_segment-uncovered : (preference : Preference) (segments : List Segment) (new : Segment) (place : ℕ)
+    → covers new place ≡ false
+    → chosen_segment preference (segments ++ new ∷ []) place ≡ chosen_segment preference segments place
 unfolding chosen_segment
 chosen_segment-uncovered preference segments new place uncovered =
     ap (winner preference) (filter-snoc_left_out (λ segment. covers segment place) segments new uncovered)
@@ -73,7 +78,9 @@ chosen_byte-is_some preference segments place =
     option_map-is_some (byte_at place) (winner preference (filter (λ segment. covers segment place) segments))
     ∙ winner-is_some preference (λ segment. covers segment place) segments
 
-stronger_kept-map : (preference : Preference) (place : ℕ) (old : Option Segment) (new : Segment) → kept_at place (winner_after preference old new) ≡ stronger_kept preference (option_map (kept_at place) old) (kept_at place new)
+stronger_kept-map : (preference : Preference) (place : ℕ) (old : Option Segment) (new : Segment)
+    → kept_at place (winner_after preference old new) ≡
+    stronger_kept preference (option_map (kept_at place) old) (kept_at place new)
 stronger_kept-map preference place None new = refl
 stronger_kept-map preference place (Some old) new =
     elim (wins preference (bounds_of old) (bounds_of new)) as (λ b. kept_at place (cond b new old) ≡ cond b (kept_at place new) (kept_at place old)) [
@@ -81,8 +88,12 @@ stronger_kept-map preference place (Some old) new =
       | false ↦ refl
     ]
 
-kept-by_cases : (preference : Preference) (segments : List Segment) (new : Segment) (place : ℕ) (covered : Bool) → covers new place ≡ covered →
-    option_map (kept_at place) (chosen_segment preference (segments ++ new ∷ []) place) ≡ cond covered (Some (stronger_kept preference (option_map (kept_at place) (chosen_segment preference segments place)) (kept_at place new))) (option_map (kept_at place) (chosen_segment preference segments place))
+kept-by_cases : (preference : Preference) (segments : List Segment) (new : Segment) (place : ℕ) (covered : Bool)
+    → covers new place ≡ covered
+    → option_map (kept_at place) (chosen_segment preference (segments ++ new ∷ []) place) ≡
+    cond covered
+    (Some (stronger_kept preference (option_map (kept_at place) (chosen_segment preference segments place)) (kept_at place new)))
+    (option_map (kept_at place) (chosen_segment preference segments place))
 kept-by_cases preference segments new place true covered =
     ap (option_map (kept_at place)) (chosen_segment-covered preference segments new place covered)
     ∙ ap Some (stronger_kept-map preference place (chosen_segment preference segments place) new)

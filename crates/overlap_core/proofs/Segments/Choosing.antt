@@ -12,12 +12,16 @@ use Rattle.overlap_core.proofs.Segments.Covered.{is_covered-snoc}
 use Rattle.overlap_core.proofs.Segments.Ends.{covered_end-is_greatest}
 
 -- a new segment changes only the places that it covers
-pub chosen_byte-elsewhere : (preference : Preference) (segments : List Segment) (new : Segment) (place : ℕ) → covers new place ≡ false → chosen_byte preference (segments ++ new ∷ []) place ≡ chosen_byte preference segments place
+pub chosen_byte-elsewhere : (preference : Preference) (segments : List Segment) (new : Segment) (place : ℕ)
+    → covers new place ≡ false
+    → chosen_byte preference (segments ++ new ∷ []) place ≡ chosen_byte preference segments place
 unfolding chosen_byte
 chosen_byte-elsewhere preference segments new place uncovered = ap (option_map (byte_at place)) (chosen_segment-uncovered preference segments new place uncovered)
 
 -- a place that has a byte keeps one
-pub chosen_byte-stays : (preference : Preference) (segments : List Segment) (new : Segment) (place : ℕ) → IsSome (chosen_byte preference segments place) → IsSome (chosen_byte preference (segments ++ new ∷ []) place)
+pub chosen_byte-stays : (preference : Preference) (segments : List Segment) (new : Segment) (place : ℕ)
+    → IsSome (chosen_byte preference segments place)
+    → IsSome (chosen_byte preference (segments ++ new ∷ []) place)
 chosen_byte-stays preference segments new place some =
     chosen_byte-is_some preference (segments ++ new ∷ []) place ∙ is_covered-snoc segments new place
     ∙ ap (λ b. b || covers new place) (sym (chosen_byte-is_some preference segments place) ∙ some)

@@ -54,7 +54,10 @@ uncovered_after : (new : Segment) (place : ℕ) → end_of new ≤ place → cov
 uncovered_after new place after = grind (arith, nat_tests)
 
 -- a segment that ends at or before `low` changes nothing
-pub IsFirstCovered-after : (segments : List Segment) (new : Segment) (low high first : ℕ) → IsFirstCovered segments low high first → end_of new ≤ low → IsFirstCovered (segments ++ new ∷ []) low high first
+pub IsFirstCovered-after : (segments : List Segment) (new : Segment) (low high first : ℕ)
+    → IsFirstCovered segments low high first
+    → end_of new ≤ low
+    → IsFirstCovered (segments ++ new ∷ []) low high first
 IsFirstCovered-after segments new low high first is after = record {
   from = is.from;
   to = is.to;
@@ -66,8 +69,12 @@ or_true : (b : Bool) → (b || true) ≡ true
 or_true true = refl
 or_true false = refl
 
-earliest_here : (segments : List Segment) (new : Segment) (low high first : ℕ) → IsFirstCovered segments low high first → low < end_of new → 0 < length new.bytes → min first (max low new.start) < high →
-    (is_covered segments (min first (max low new.start)) || covers new (min first (max low new.start))) ≡ true
+earliest_here : (segments : List Segment) (new : Segment) (low high first : ℕ)
+    → IsFirstCovered segments low high first
+    → low < end_of new
+    → 0 < length new.bytes
+    → min first (max low new.start) < high
+    → (is_covered segments (min first (max low new.start)) || covers new (min first (max low new.start))) ≡ true
 earliest_here segments new low high first is ahead some below =
     elim (cases_lt first (max low new.start)) [
       | inl here ↦
@@ -79,7 +86,11 @@ earliest_here segments new low high first is ahead some below =
     ]
 
 -- any other may begin earlier
-pub IsFirstCovered-earlier : (segments : List Segment) (new : Segment) (low high first : ℕ) → IsFirstCovered segments low high first → low < end_of new → 0 < length new.bytes → IsFirstCovered (segments ++ new ∷ []) low high (min first (max low new.start))
+pub IsFirstCovered-earlier : (segments : List Segment) (new : Segment) (low high first : ℕ)
+    → IsFirstCovered segments low high first
+    → low < end_of new
+    → 0 < length new.bytes
+    → IsFirstCovered (segments ++ new ∷ []) low high (min first (max low new.start))
 IsFirstCovered-earlier segments new low high first is ahead some = record {
   from = omega (arith, is.from);
   to = omega (arith, is.to);

@@ -48,7 +48,9 @@ covered_end-is_greatest floor segments = greatest floor segments
 pub covered_end-is : (floor : ℕ) (segments : List Segment) (place : ℕ) → place ≡ covered_end floor segments → IsCoveredEnd floor segments place
 covered_end-is floor segments place is = subst (λ (n : ℕ). IsCoveredEnd floor segments n) (sym is) (covered_end-is_greatest floor segments)
 
-fold-raised : (floor below : ℕ) (segments : List Segment) → fold (λ most segment. max most (end_of segment)) (max floor below) segments ≡ max (fold (λ most segment. max most (end_of segment)) floor segments) below
+fold-raised : (floor below : ℕ) (segments : List Segment)
+    → fold (λ most segment. max most (end_of segment)) (max floor below) segments ≡
+    max (fold (λ most segment. max most (end_of segment)) floor segments) below
 fold-raised floor below [] = refl
 fold-raised floor below (first ∷ later) =
     let order : max (max floor below) (end_of first) ≡ max (max floor (end_of first)) below = omega arith in

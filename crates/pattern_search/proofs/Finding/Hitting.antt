@@ -1,5 +1,7 @@
 -- Marks, lists and chains, one pattern at a time.
-use Rattle.std.proofs.Common.{◌≡◌, ℕ, zero, suc, ◌+◌, ◌-◌, ◌/◌, ◌%◌, ◌<◌, ◌≤◌, ◌==◌, inr, Bool, true, false, not, ◌&&◌, ◌||◌, cond, ltb, List, [], ◌∷◌, ◌++◌, length, slice_index, Option, Some, None, SomeIff, unwrap_or, sym, refl, ap, subst, ◌∙◌, arith, ⊎_elim}
+use Rattle.std.proofs.Common.{◌≡◌, ℕ, zero, suc, ◌+◌, ◌-◌, ◌/◌, ◌%◌, ◌<◌, ◌≤◌, ◌==◌, inr, Bool, true, false, not, ◌&&◌, ◌||◌}
+use Rattle.std.proofs.Common.{cond, ltb, List, [], ◌∷◌, ◌++◌, length, slice_index, Option, Some, None, SomeIff, unwrap_or, sym}
+use Rattle.std.proofs.Common.{refl, ap, subst, ◌∙◌, arith, ⊎_elim}
 use Rattle.std.specs.List.Sorted.{IsPermutation}
 use Rattle.std.proofs.lemmas.List.Sorted.{length_permutation, IsPermutation-refl, IsPermutation-sym, IsPermutation-cons, IsPermutation-trans, IsPermutation-middle, IsPermutation-push_more}
 use Rattle.std.proofs.lemmas.Bool.{false≢true, true≢false, cases_eq, cases_Bool, eq-eqb, ne_eqb, lt-ltb, or_left, or_right, cond-true, cond-false}
@@ -29,19 +31,32 @@ numbers-none test from zero none = refl
 numbers-none test from (suc count) none = cond-false (test from) (from ∷ numbers test (from + 1) count) (numbers test (from + 1) count) (none from) ∙ numbers-none test (from + 1) count none
 
 -- one number more passes
-pub numbers-mark : (test more : ℕ → Bool) (at from count : ℕ) → test at ≡ false → more at ≡ true → ((place : ℕ) → (place ≡ at → ⊥) → more place ≡ test place) → from ≤ at → at < from + count → IsPermutation (at ∷ numbers test from count) (numbers more from count)
+pub numbers-mark : (test more : ℕ → Bool) (at from count : ℕ)
+    → test at ≡ false
+    → more at ≡ true
+    → ((place : ℕ) → (place ≡ at → ⊥) → more place ≡ test place)
+    → from ≤ at
+    → at < from + count
+    → IsPermutation (at ∷ numbers test from count) (numbers more from count)
 unfolding numbers
 numbers-mark test more at from zero off on others low high = absurd (omega arith)
 numbers-mark test more at from (suc count) off on others low high =
-    let P : List ℕ → Type 0 = λ ns. IsPermutation (at ∷ cond (test from) (from ∷ numbers test (from + 1) count) (numbers test (from + 1) count)) ns in
+    let P : List ℕ → Type 0 =
+    λ ns. IsPermutation (at ∷ cond (test from) (from ∷ numbers test (from + 1) count) (numbers test (from + 1) count)) ns in
     let Q : List ℕ → Type 0 = λ ns. IsPermutation (at ∷ ns) (from ∷ numbers more (from + 1) count) in
     ⊎_elim
     (λ e.
-    let tail : numbers more (from + 1) count ≡ numbers test (from + 1) count = numbers-same more test (from + 1) count (λ place h k. others place (λ same. omega arith)) in
-    let new : cond (more from) (from ∷ numbers more (from + 1) count) (numbers more (from + 1) count) ≡ from ∷ numbers more (from + 1) count = cond-true (more from) (from ∷ numbers more (from + 1) count) (numbers more (from + 1) count) (ap more e ∙ on) in
-    let old : cond (test from) (from ∷ numbers test (from + 1) count) (numbers test (from + 1) count) ≡ numbers test (from + 1) count = cond-false (test from) (from ∷ numbers test (from + 1) count) (numbers test (from + 1) count) (ap test e ∙ off) in
+    let tail : numbers more (from + 1) count ≡ numbers test (from + 1) count =
+    numbers-same more test (from + 1) count (λ place h k. others place (λ same. omega arith)) in
+    let new : cond (more from) (from ∷ numbers more (from + 1) count) (numbers more (from + 1) count) ≡
+    from ∷ numbers more (from + 1) count =
+    cond-true (more from) (from ∷ numbers more (from + 1) count) (numbers more (from + 1) count) (ap more e ∙ on) in
+    let old : cond (test from) (from ∷ numbers test (from + 1) count) (numbers test (from + 1) count) ≡
+    numbers test (from + 1) count =
+    cond-false (test from) (from ∷ numbers test (from + 1) count) (numbers test (from + 1) count) (ap test e ∙ off) in
     let R : List ℕ → Type 0 = λ ns. IsPermutation (at ∷ numbers test (from + 1) count) ns in
-    let same : at ∷ numbers test (from + 1) count ≡ from ∷ numbers more (from + 1) count = ap (λ x. x ∷ numbers test (from + 1) count) (sym e) ∙ ap (λ ns. from ∷ ns) (sym tail) in
+    let same : at ∷ numbers test (from + 1) count ≡ from ∷ numbers more (from + 1) count =
+    ap (λ x. x ∷ numbers test (from + 1) count) (sym e) ∙ ap (λ ns. from ∷ ns) (sym tail) in
     subst P (sym new) (subst Q (sym old) (subst R same (IsPermutation-refl (at ∷ numbers test (from + 1) count)))))
     (λ ne.
     let rest = numbers-mark test more at (from + 1) count off on others (omega arith) (omega arith) in
@@ -49,7 +64,11 @@ numbers-mark test more at from (suc count) off on others low high =
     go (test from) (more from) (sym here) rest)
     (cases_eq from at)
   where
-    go : (b c : Bool) → b ≡ c → IsPermutation (at ∷ numbers test (from + 1) count) (numbers more (from + 1) count) → IsPermutation (at ∷ cond b (from ∷ numbers test (from + 1) count) (numbers test (from + 1) count)) (cond c (from ∷ numbers more (from + 1) count) (numbers more (from + 1) count))
+    go : (b c : Bool)
+        → b ≡ c
+        → IsPermutation (at ∷ numbers test (from + 1) count) (numbers more (from + 1) count)
+        → IsPermutation (at ∷ cond b (from ∷ numbers test (from + 1) count) (numbers test (from + 1) count))
+        (cond c (from ∷ numbers more (from + 1) count) (numbers more (from + 1) count))
     go true true e rest =
         let ns = numbers test (from + 1) count in
         let ms = numbers more (from + 1) count in
@@ -59,14 +78,22 @@ numbers-mark test more at from (suc count) off on others low high =
     go false true e rest = absurd (false≢true e)
 
 -- what an answer says of the marks
-pub marked-by : (old new : Seen) (at : ℕ) (fresh answer : Bool) → fresh ≡ answer → ((place : ℕ) → is_marked new place ≡ (is_marked old place || (fresh && (place == at)))) → (place : ℕ) → is_marked new place ≡ (is_marked old place || (answer && (place == at)))
+pub marked-by : (old new : Seen) (at : ℕ) (fresh answer : Bool)
+    → fresh ≡ answer
+    → ((place : ℕ) → is_marked new place ≡ (is_marked old place || (fresh && (place == at))))
+    → (place : ℕ)
+    → is_marked new place ≡ (is_marked old place || (answer && (place == at)))
 marked-by old new at fresh answer is also place = also place ∙ ap (λ b. is_marked old place || (b && (place == at))) is
 
 -- one place more is marked
 pub now-marked : (old new : Seen) (at : ℕ) → ((place : ℕ) → is_marked new place ≡ (is_marked old place || (true && (place == at)))) → is_marked new at ≡ true
 now-marked old new at also = also at ∙ or_right (is_marked old at) (true && (at == at)) (eq-eqb at at refl)
 
-pub others-same : (old new : Seen) (at : ℕ) → ((place : ℕ) → is_marked new place ≡ (is_marked old place || (true && (place == at)))) → (place : ℕ) → (place ≡ at → ⊥) → is_marked new place ≡ is_marked old place
+pub others-same : (old new : Seen) (at : ℕ)
+    → ((place : ℕ) → is_marked new place ≡ (is_marked old place || (true && (place == at))))
+    → (place : ℕ)
+    → (place ≡ at → ⊥)
+    → is_marked new place ≡ is_marked old place
 others-same old new at also place ne = also place ∙ ap (λ b. is_marked old place || (true && b)) (ne_eqb place at ne) ∙ or-false (is_marked old place)
   where
     or-false : (b : Bool) → (b || false) ≡ b
@@ -77,7 +104,11 @@ others-same old new at also place ne = also place ∙ ap (λ b. is_marked old pl
 abbrev pub unseen : ℕ → Seen → ℕ
 unseen count seen = length (numbers (λ place. not (is_marked seen place)) 0 count)
 
-pub unseen-less : (count at : ℕ) (old new : Seen) → at < count → is_marked old at ≡ false → ((place : ℕ) → is_marked new place ≡ (is_marked old place || (true && (place == at)))) → unseen count new < unseen count old
+pub unseen-less : (count at : ℕ) (old new : Seen)
+    → at < count
+    → is_marked old at ≡ false
+    → ((place : ℕ) → is_marked new place ≡ (is_marked old place || (true && (place == at))))
+    → unseen count new < unseen count old
 unseen-less count at old new h off also =
     let test : ℕ → Bool = λ place. not (is_marked new place) in
     let more : ℕ → Bool = λ place. not (is_marked old place) in
@@ -98,7 +129,10 @@ following-none nexts head seen hits = record {
     or-false true = refl
     or-false false = refl
 
-pub follows-end : (nexts : List ℕ) (head : ℕ) (old : Seen) (old_hits : List ℕ) (at : ℕ) (new : Seen) (new_hits : List ℕ) → IsFollowing nexts head old old_hits at new new_hits → at ≡ 0 → Follows nexts head old old_hits new new_hits
+pub follows-end : (nexts : List ℕ) (head : ℕ) (old : Seen) (old_hits : List ℕ) (at : ℕ) (new : Seen) (new_hits : List ℕ)
+    → IsFollowing nexts head old old_hits at new new_hits
+    → at ≡ 0
+    → Follows nexts head old old_hits new new_hits
 follows-end nexts head old old_hits at new new_hits is zero_at = record {
   marked = λ patterns same chained closed may place h. is.marked patterns same chained may place h (ap (λ (a : ℕ). is_left patterns a place) zero_at ∙ left-none patterns place);
   listed = is.listed;
@@ -106,23 +140,37 @@ follows-end nexts head old old_hits at new new_hits is zero_at = record {
 
 -- a pattern is in its own chain
 own-left : (patterns : List (List ℕ)) (at : ℕ) → 0 < at → 0 < length (word_at patterns (at - 1)) → is_left patterns at (at - 1) ≡ true
-own-left patterns at some nonempty = left-from patterns at (at - 1) some (ends_word-from patterns (word_at patterns (at - 1)) (at - 1) nonempty (begins-self (word_at patterns (at - 1)))) (inr (omega arith))
+own-left patterns at some nonempty =
+    left-from patterns at (at - 1) some
+    (ends_word-from patterns (word_at patterns (at - 1)) (at - 1) nonempty (begins-self (word_at patterns (at - 1))))
+    (inr (omega arith))
 
-pub follows-seen : (nexts : List ℕ) (head : ℕ) (old : Seen) (old_hits : List ℕ) (at : ℕ) (new : Seen) (new_hits : List ℕ) → IsFollowing nexts head old old_hits at new new_hits → 0 < at → (ltb (at - 1) (length nexts) && not (is_marked new (at - 1))) ≡ false → (last : Seen) → ((place : ℕ) → is_marked last place ≡ (is_marked new place || (false && (place == at - 1)))) → Follows nexts head old old_hits last new_hits
+pub follows-seen : (nexts : List ℕ) (head : ℕ) (old : Seen) (old_hits : List ℕ) (at : ℕ) (new : Seen) (new_hits : List ℕ)
+    → IsFollowing nexts head old old_hits at new new_hits
+    → 0 < at
+    → (ltb (at - 1) (length nexts) && not (is_marked new (at - 1))) ≡ false
+    → (last : Seen)
+    → ((place : ℕ) → is_marked last place ≡ (is_marked new place || (false && (place == at - 1))))
+    → Follows nexts head old old_hits last new_hits
 follows-seen nexts head old old_hits at new new_hits is some stops last also = record {
   marked = λ patterns same chained closed may place h.
       let begin = is.begins patterns same chained may in
       let own = at - 1 in
       let within : at - 1 < length patterns = omega (arith, begin.0) in
-      let here : is_marked new (at - 1) ≡ true = told-marked (is_marked new (at - 1)) (sym (ap (λ b. b && not (is_marked new (at - 1))) (lt-ltb (at - 1) (length nexts) (omega (arith, begin.0, same)))) ∙ stops) in
+      let here : is_marked new (at - 1) ≡ true =
+      told-marked (is_marked new (at - 1))
+      (sym (ap (λ b. b && not (is_marked new (at - 1))) (lt-ltb (at - 1) (length nexts) (omega (arith, begin.0, same)))) ∙
+      stops) in
       let nonempty = begin.1 some in
-      let was : is_marked old (at - 1) ≡ true = sym (is.before patterns same chained may (at - 1) within (own-left patterns at some nonempty)) ∙ here in
+      let was : is_marked old (at - 1) ≡ true =
+      sym (is.before patterns same chained may (at - 1) within (own-left patterns at some nonempty)) ∙ here in
       unchanged place ∙ ⊎_elim
       (λ left.
       let tells = left-tells patterns at place left in
       let ends = ends_word-tells patterns (word_at patterns (at - 1)) place tells.1 in
       let old_place : is_marked old place ≡ true = closed place (at - 1) h within was ends.0 ends.1 in
-      is.before patterns same chained may place h left ∙ old_place ∙ sym (or_left (is_marked old place) (is_left patterns head place) old_place))
+      is.before patterns same chained may place h left ∙ old_place ∙
+      sym (or_left (is_marked old place) (is_left patterns head place) old_place))
       (λ left. is.marked patterns same chained may place h left)
       (cases_Bool (is_left patterns at place));
   listed = λ p.
@@ -141,25 +189,52 @@ follows-seen nexts head old old_hits at new new_hits is some stops last also = r
     told-marked true e = refl
     told-marked false e = absurd (true≢false e)
 
-pub following-more : (nexts : List ℕ) (head : ℕ) (old : Seen) (old_hits : List ℕ) (at : ℕ) (new : Seen) (new_hits : List ℕ) (next : ℕ) → IsFollowing nexts head old old_hits at new new_hits → 0 < at → at - 1 < length nexts → is_marked new (at - 1) ≡ false → next ≡ slice_index nexts (at - 1) → (more : Seen) → ((place : ℕ) → is_marked more place ≡ (is_marked new place || (true && (place == at - 1)))) → IsFollowing nexts head old old_hits next more (new_hits ++ (at - 1) ∷ [])
+pub following-more : (nexts : List ℕ) (head : ℕ) (old : Seen) (old_hits : List ℕ) (at : ℕ) (new : Seen) (new_hits : List ℕ)
+    (next : ℕ)
+    → IsFollowing nexts head old old_hits at new new_hits
+    → 0 < at
+    → at - 1 < length nexts
+    → is_marked new (at - 1) ≡ false
+    → next ≡ slice_index nexts (at - 1)
+    → (more : Seen)
+    → ((place : ℕ) → is_marked more place ≡ (is_marked new place || (true && (place == at - 1))))
+    → IsFollowing nexts head old old_hits next more (new_hits ++ (at - 1) ∷ [])
 following-more nexts head old old_hits at new new_hits next is some within off next_is more also = record {
-  begins = λ patterns same chained may. let n = step patterns same chained may in (omega (arith, n.within, next_is), λ h. rw next_is (n.some (omega (arith, next_is))));
-  part = λ patterns same chained may place h l. is.part patterns same chained may place h (left-on patterns same chained may place h (or_right (place == at - 1) (is_left patterns next place) l));
+  begins = λ patterns same chained may.
+      let n = step patterns same chained may in
+      (omega (arith, n.within, next_is), λ h. rw next_is (n.some (omega (arith, next_is))));
+  part = λ patterns same chained may place h l.
+      is.part patterns same chained may place h
+      (left-on patterns same chained may place h (or_right (place == at - 1) (is_left patterns next place) l));
   before = λ patterns same chained may place h l. ⊎_elim
       (λ e. absurd (false≢true (sym (past patterns same chained may) ∙ ap (is_left patterns next) (sym e) ∙ l)))
-      (λ ne. kept place ne ∙ is.before patterns same chained may place h (left-on patterns same chained may place h (or_right (place == at - 1) (is_left patterns next place) l)))
+      (λ ne. kept place ne ∙
+      is.before patterns same chained may place h
+      (left-on patterns same chained may place h (or_right (place == at - 1) (is_left patterns next place) l)))
       (cases_eq place (at - 1));
   marked = λ patterns same chained may place h l. ⊎_elim
       (λ e.
       let begin = is.begins patterns same chained may in
       let own = is.part patterns same chained may (at - 1) (omega (arith, begin.0)) (own-left patterns at some (begin.1 some)) in
-      ap (is_marked more) e ∙ on ∙ sym (or_right (is_marked old place) (is_left patterns head place) (ap (is_left patterns head) e ∙ own)))
-      (λ ne. kept place ne ∙ is.marked patterns same chained may place h (left-is patterns same chained may place h ∙ ap (λ b. b || is_left patterns next place) (ne_eqb place (at - 1) ne) ∙ l))
+      ap (is_marked more) e ∙ on ∙
+      sym (or_right (is_marked old place) (is_left patterns head place) (ap (is_left patterns head) e ∙ own)))
+      (λ ne. kept place ne ∙
+      is.marked patterns same chained may place h
+      (left-is patterns same chained may place h ∙ ap (λ b. b || is_left patterns next place) (ne_eqb place (at - 1) ne) ∙ l))
       (cases_eq place (at - 1));
   listed = λ p.
-      IsPermutation-trans (numbers (is_marked more) 0 (length nexts)) ((at - 1) ∷ numbers (is_marked new) 0 (length nexts)) (new_hits ++ (at - 1) ∷ [])
-      (IsPermutation-sym ((at - 1) ∷ numbers (is_marked new) 0 (length nexts)) (numbers (is_marked more) 0 (length nexts)) (numbers-mark (is_marked new) (is_marked more) (at - 1) 0 (length nexts) off on kept (omega arith) (omega arith)))
-      (IsPermutation-sym (new_hits ++ (at - 1) ∷ []) ((at - 1) ∷ numbers (is_marked new) 0 (length nexts)) (IsPermutation-push_more new_hits (numbers (is_marked new) 0 (length nexts)) ((at - 1) ∷ numbers (is_marked new) 0 (length nexts)) (at - 1) (IsPermutation-sym (numbers (is_marked new) 0 (length nexts)) new_hits (is.listed p)) (IsPermutation-refl ((at - 1) ∷ numbers (is_marked new) 0 (length nexts)))));
+      IsPermutation-trans (numbers (is_marked more) 0 (length nexts))
+      ((at - 1) ∷ numbers (is_marked new) 0 (length nexts))
+      (new_hits ++ (at - 1) ∷ [])
+      (IsPermutation-sym ((at - 1) ∷ numbers (is_marked new) 0 (length nexts))
+      (numbers (is_marked more) 0 (length nexts))
+      (numbers-mark (is_marked new) (is_marked more) (at - 1) 0 (length nexts) off on kept (omega arith) (omega arith)))
+      (IsPermutation-sym (new_hits ++ (at - 1) ∷ []) ((at - 1) ∷ numbers (is_marked new) 0 (length nexts))
+      (IsPermutation-push_more new_hits (numbers (is_marked new) 0 (length nexts))
+      ((at - 1) ∷ numbers (is_marked new) 0 (length nexts))
+      (at - 1)
+      (IsPermutation-sym (numbers (is_marked new) 0 (length nexts)) new_hits (is.listed p))
+      (IsPermutation-refl ((at - 1) ∷ numbers (is_marked new) 0 (length nexts)))));
 }
   where
     on : is_marked more (at - 1) ≡ true
@@ -174,16 +249,32 @@ following-more nexts head old old_hits at new new_hits next is some within off n
     past : (patterns : List (List ℕ)) → length patterns ≡ length nexts → AreChained patterns nexts → MayBegin patterns head → is_left patterns next (at - 1) ≡ false
     past patterns same chained may = ap (λ (n : ℕ). is_left patterns n (at - 1)) next_is ∙ (step patterns same chained may).past
 
-    left-is : (patterns : List (List ℕ)) → length patterns ≡ length nexts → AreChained patterns nexts → MayBegin patterns head → (place : ℕ) → place < length patterns → is_left patterns at place ≡ ((place == at - 1) || is_left patterns next place)
+    left-is : (patterns : List (List ℕ))
+        → length patterns ≡ length nexts
+        → AreChained patterns nexts
+        → MayBegin patterns head
+        → (place : ℕ)
+        → place < length patterns
+        → is_left patterns at place ≡ ((place == at - 1) || is_left patterns next place)
     left-is patterns same chained may place h =
         let e : at ≡ at - 1 + 1 = omega arith in
         ap (λ (a : ℕ). is_left patterns a place) e ∙ (step patterns same chained may).left place h ∙ ap (λ (n : ℕ). (place == at - 1) || is_left patterns n place) (sym next_is)
 
-    left-on : (patterns : List (List ℕ)) → length patterns ≡ length nexts → AreChained patterns nexts → MayBegin patterns head → (place : ℕ) → place < length patterns → ((place == at - 1) || is_left patterns next place) ≡ true → is_left patterns at place ≡ true
+    left-on : (patterns : List (List ℕ))
+        → length patterns ≡ length nexts
+        → AreChained patterns nexts
+        → MayBegin patterns head
+        → (place : ℕ)
+        → place < length patterns
+        → ((place == at - 1) || is_left patterns next place) ≡ true
+        → is_left patterns at place ≡ true
     left-on patterns same chained may place h l = left-is patterns same chained may place h ∙ l
 
 -- the chain of the state with this row
-pub marks-chain : (automaton : Automaton) (at : ℕ) (old new : Seen) (old_hits new_hits : List ℕ) (head : ℕ) → Follows automaton.nexts.items head old old_hits new new_hits → (0 < automaton.trie.width → head ≡ slice_index automaton.heads.items (state_of automaton.trie.width at)) → Marks automaton at old old_hits new new_hits
+pub marks-chain : (automaton : Automaton) (at : ℕ) (old new : Seen) (old_hits new_hits : List ℕ) (head : ℕ)
+    → Follows automaton.nexts.items head old old_hits new new_hits
+    → (0 < automaton.trie.width → head ≡ slice_index automaton.heads.items (state_of automaton.trie.width at))
+    → Marks automaton at old old_hits new new_hits
 marks-chain automaton at old new old_hits new_hits head goes known = record {
   marked = λ patterns wide count chained closed may place h.
       let P : ℕ → Type 0 = λ hd. MayBegin patterns hd in
@@ -198,7 +289,10 @@ unwrapped (Some x) P v is p = is.1
 
 pub notes-none : (automaton : Automaton) (entry : ℕ) (old : Seen) (old_hits : List ℕ) → entry % 2 ≡ 0 → Notes automaton entry old old_hits old old_hits
 notes-none automaton entry old old_hits even = record {
-  marked = λ patterns head wide count chained closed may is none place h. sym (ap (λ b. is_marked old place || b) (ap (λ (hd : ℕ). is_left patterns hd place) (none even) ∙ left-none patterns place) ∙ or-nothing (is_marked old place));
+  marked = λ patterns head wide count chained closed may is none place h.
+      sym (ap (λ b. is_marked old place || b)
+      (ap (λ (hd : ℕ). is_left patterns hd place) (none even) ∙ left-none patterns place) ∙
+      or-nothing (is_marked old place));
   listed = λ p. p;
 }
   where
@@ -206,7 +300,9 @@ notes-none automaton entry old old_hits even = record {
     or-nothing true = refl
     or-nothing false = refl
 
-pub notes-some : (automaton : Automaton) (entry : ℕ) (old new : Seen) (old_hits new_hits : List ℕ) → Marks automaton (entry / 2) old old_hits new new_hits → Notes automaton entry old old_hits new new_hits
+pub notes-some : (automaton : Automaton) (entry : ℕ) (old new : Seen) (old_hits new_hits : List ℕ)
+    → Marks automaton (entry / 2) old old_hits new new_hits
+    → Notes automaton entry old old_hits new new_hits
 notes-some automaton entry old new old_hits new_hits is = record {
   marked = λ patterns head wide count chained closed may known none place h.
       let P : ℕ → Type 0 = λ hd. MayBegin patterns hd in

@@ -17,7 +17,9 @@ use Rattle.pattern_search.proofs.States.Linking.{trie-closed, next-same, next-fa
 pub word-in : (letters : List ℕ) (patterns : List (List ℕ)) (place : ℕ) → place < length patterns → word_at (words_in letters patterns) place ≡ word_of letters (word_at patterns place)
 word-in letters patterns place h = get_or-map (word_of letters) patterns place [] [] h
 
-pub are-words : (letters : List ℕ) (patterns : List (List ℕ)) (grown : Grown) → AreGrown letters patterns grown → AreWords (words_of grown.trie.steps.items) (words_in letters patterns) grown.ends.items
+pub are-words : (letters : List ℕ) (patterns : List (List ℕ)) (grown : Grown)
+    → AreGrown letters patterns grown
+    → AreWords (words_of grown.trie.steps.items) (words_in letters patterns) grown.ends.items
 are-words letters patterns grown is =
     let count = length-map patterns (word_of letters) in
     record {
@@ -26,7 +28,18 @@ are-words letters patterns grown is =
       word = λ place h. (is.each place (omega (arith, count))).word ∙ sym (word-in letters patterns place (omega (arith, count)));
     }
 
-module _ (automaton : Automaton) (patterns : List (List ℕ)) (grown : Grown) (firsts sames : List ℕ) (told : AllTold automaton.letters patterns) (below : (byte : ℕ) → slice_index automaton.letters byte < automaton.trie.width) (is : AreGrown automaton.letters patterns (record { trie = automaton.trie; ends = grown.ends })) (owned : AreOwned grown.ends.items (length automaton.trie.steps.items + 1) firsts sames (length grown.ends.items)) (links : IsLinking automaton.trie firsts automaton.fails.items automaton.heads.items (length automaton.trie.steps.items + 1)) (nexts : AreNexts grown.ends.items sames automaton.fails.items automaton.heads.items automaton.nexts.items (length grown.ends.items)) (laid : IsLayout automaton.trie automaton.fails.items automaton.heads.items (record { dense = automaton.dense; table = automaton.table; entries = automaton.entries })) (shallow : IsShallow automaton.trie automaton.dense automaton.shallow) (sifts : IfSome automaton.sieve (λ sieve. Sifts sieve patterns)) where
+module _ (automaton : Automaton) (patterns : List (List ℕ)) (grown : Grown) (firsts sames : List ℕ)
+    (told : AllTold automaton.letters patterns)
+    (below : (byte : ℕ) → slice_index automaton.letters byte < automaton.trie.width)
+    (is : AreGrown automaton.letters patterns (record { trie = automaton.trie; ends = grown.ends }))
+    (owned : AreOwned grown.ends.items (length automaton.trie.steps.items + 1) firsts sames (length grown.ends.items))
+    (links : IsLinking automaton.trie firsts automaton.fails.items automaton.heads.items (length automaton.trie.steps.items + 1))
+    (nexts : AreNexts grown.ends.items sames automaton.fails.items automaton.heads.items automaton.nexts.items
+    (length grown.ends.items))
+    (laid : IsLayout automaton.trie automaton.fails.items automaton.heads.items
+    (record { dense = automaton.dense; table = automaton.table; entries = automaton.entries }))
+    (shallow : IsShallow automaton.trie automaton.dense automaton.shallow)
+    (sifts : IfSome automaton.sieve (λ sieve. Sifts sieve patterns)) where
   abbrev words : List (List ℕ)
   words = words_of automaton.trie.steps.items
 
@@ -69,12 +82,17 @@ module _ (automaton : Automaton) (patterns : List (List ℕ)) (grown : Grown) (f
       let before = slice_index sames place in
       let fail = slice_index fails end in
       let P : ℕ → Type 0 = λ n. IsNext pats place n in
-      let known : slice_index automaton.nexts.items place ≡ either before (slice_index automaton.heads.items fail) = nexts.next place (omega (arith, are.count)) in
+      let known : slice_index automaton.nexts.items place ≡ either before (slice_index automaton.heads.items fail) =
+      nexts.next place (omega (arith, are.count)) in
       ⊎_elim
       (λ none.
       let Q : ℕ → Type 0 = λ o. IsLastOf grown.ends.items place end o in
-      subst P (sym (known ∙ either-none before (slice_index automaton.heads.items fail) none)) (next-fail words pats grown.ends.items are is.trie.apart place (word_at words fail) (slice_index automaton.heads.items fail) h some (all.failing.failing end low within) (subst Q none same) (all.chains fail (omega (arith, all.failing.lower end low within)))))
-      (λ ne. subst P (sym (known ∙ either-some before (slice_index automaton.heads.items fail) (omega arith))) (next-same words pats grown.ends.items are is.trie.apart place before h some same (omega arith)))
+      subst P (sym (known ∙ either-none before (slice_index automaton.heads.items fail) none))
+      (next-fail words pats grown.ends.items are is.trie.apart place (word_at words fail) (slice_index automaton.heads.items fail)
+      h some (all.failing.failing end low within) (subst Q none same)
+      (all.chains fail (omega (arith, all.failing.lower end low within)))))
+      (λ ne. subst P (sym (known ∙ either-some before (slice_index automaton.heads.items fail) (omega arith)))
+      (next-same words pats grown.ends.items are is.trie.apart place before h some same (omega arith)))
       (cases_eq before 0)
 
   pub finds-made : Finds automaton patterns
@@ -105,7 +123,11 @@ module _ (automaton : Automaton) (patterns : List (List ℕ)) (grown : Grown) (f
       none : (n : ℕ) → n + 0 ≡ n
       none n = omega arith
 
-pub ends-within : (letters : List ℕ) (patterns : List (List ℕ)) (grown : Grown) → AreGrown letters patterns grown → (place d : ℕ) → place < length grown.ends.items → get_or grown.ends.items place d < length grown.trie.steps.items + 1
+pub ends-within : (letters : List ℕ) (patterns : List (List ℕ)) (grown : Grown)
+    → AreGrown letters patterns grown
+    → (place d : ℕ)
+    → place < length grown.ends.items
+    → get_or grown.ends.items place d < length grown.trie.steps.items + 1
 ends-within letters patterns grown is place d h =
     let end = (is.each place (omega (arith, is.count))).within in
     omega (arith, end, is.trie.count, get_or_default grown.ends.items place d 0 h)

@@ -24,7 +24,11 @@ past-marks seen at place = go (is_marked seen place)
     go false = refl
 
 -- where the place was marked, nothing more is
-pub answer-marks : (old new : Seen) (at : ℕ) (fresh : Bool) → fresh ≡ not (is_marked old at) → ((place : ℕ) → is_marked new place ≡ (is_marked old place || (place == at))) → (place : ℕ) → is_marked new place ≡ (is_marked old place || (fresh && (place == at)))
+pub answer-marks : (old new : Seen) (at : ℕ) (fresh : Bool)
+    → fresh ≡ not (is_marked old at)
+    → ((place : ℕ) → is_marked new place ≡ (is_marked old place || (place == at)))
+    → (place : ℕ)
+    → is_marked new place ≡ (is_marked old place || (fresh && (place == at)))
 answer-marks old new at true e also place = also place
 answer-marks old new at false e also place = also place ∙ ⊎_elim
     (λ here.
@@ -41,7 +45,10 @@ none-marked seen none place = ap (list_any (is_at (nat_cmp place))) none
 place-test : (at place : ℕ) → is_eq (nat_cmp at place) ≡ (place == at)
 place-test at place = grind (arith, nat_tests)
 
-pub marks-added : (old new : Seen) (at : ℕ) → ((place : ℕ) → contains nat_cmp new.places place ≡ cond (is_at (nat_cmp at) place) true (contains nat_cmp old.places place)) → (place : ℕ) → is_marked new place ≡ (is_marked old place || (place == at))
+pub marks-added : (old new : Seen) (at : ℕ)
+    → ((place : ℕ) → contains nat_cmp new.places place ≡ cond (is_at (nat_cmp at) place) true (contains nat_cmp old.places place))
+    → (place : ℕ)
+    → is_marked new place ≡ (is_marked old place || (place == at))
 unfolding is_marked
 marks-added old new at added place =
     added place

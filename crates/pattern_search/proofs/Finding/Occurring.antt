@@ -1,5 +1,6 @@
 -- What has ended somewhere, read backwards in letters, occurs in the payload.
-use Rattle.std.proofs.Common.{◌≡◌, ℕ, ◌<◌, ◌==◌, Bool, true, false, ◌&&◌, ◌||◌, eqb, List, [], ◌∷◌, ◌++◌, length, take, map, reverse, slice_index, All, sym, refl, ap, subst, ◌∙◌, arith, ⊎_elim, append_assoc}
+use Rattle.std.proofs.Common.{◌≡◌, ℕ, ◌<◌, ◌==◌, Bool, true, false, ◌&&◌, ◌||◌, eqb, List, [], ◌∷◌, ◌++◌, length, take, map}
+use Rattle.std.proofs.Common.{reverse, slice_index, All, sym, refl, ap, subst, ◌∙◌, arith, ⊎_elim, append_assoc}
 use Rattle.std.specs.List.{list_any}
 use Rattle.std.specs.Cmp.Lexicographic.{pointwise}
 use Rattle.std.specs.Char.{to_ascii_lowercase}
@@ -50,8 +51,14 @@ infix-ended word (x ∷ front) back = or_right (begins word (x ∷ (front ++ (wo
 turned : (word text : List ℕ) → Infix word text → Infix (reverse word) (reverse text)
 turned word text is =
     let front = is.0 in
-    let back = is.1 in
-    (reverse back, reverse front, ap reverse is.2 ∙ reverse-append front (word ++ back) ∙ ap (λ ys. ys ++ reverse front) (reverse-append word back) ∙ append_assoc (reverse back) (reverse word) (reverse front))
+    let back = is.1 in (
+      reverse back,
+      reverse front,
+      ap reverse is.2
+          ∙ reverse-append front (word ++ back)
+          ∙ ap (λ ys. ys ++ reverse front) (reverse-append word back)
+          ∙ append_assoc (reverse back) (reverse word) (reverse front),
+    )
 
 ended-by : (word text : List ℕ) → Infix word text → has_ended word text ≡ true
 ended-by word text is = ap (has_ended word) is.2 ∙ infix-ended word is.0 is.1
@@ -67,7 +74,10 @@ ended-turned word text = same_bools (has_ended (reverse word) (reverse text)) (h
 
 -- letters or bytes in lower case tell the same
 module _ (letters : List ℕ) where
-  begins-told : (pattern text : List ℕ) → All (IsTold letters) pattern → All (λ byte. byte < 256) text → begins (map (slice_index letters) pattern) (map (slice_index letters) text) ≡ begins (map lower pattern) (map lower text)
+  begins-told : (pattern text : List ℕ)
+      → All (IsTold letters) pattern
+      → All (λ byte. byte < 256) text
+      → begins (map (slice_index letters) pattern) (map (slice_index letters) text) ≡ begins (map lower pattern) (map lower text)
   unfolding begins
   begins-told [] text told short = refl
   begins-told (x ∷ pattern) [] told short = refl
@@ -76,7 +86,11 @@ module _ (letters : List ℕ) where
       ap (λ b. b && begins (map (slice_index letters) pattern) (map (slice_index letters) text)) first
       ∙ ap (λ b. (lower x == lower y) && b) (begins-told pattern text (All-tail (IsTold letters) x pattern told) (All-tail (λ byte. byte < 256) y text short))
 
-  ended-told : (pattern text : List ℕ) → All (IsTold letters) pattern → All (λ byte. byte < 256) text → has_ended (map (slice_index letters) pattern) (map (slice_index letters) text) ≡ has_ended (map lower pattern) (map lower text)
+  ended-told : (pattern text : List ℕ)
+      → All (IsTold letters) pattern
+      → All (λ byte. byte < 256) text
+      → has_ended (map (slice_index letters) pattern) (map (slice_index letters) text) ≡
+      has_ended (map lower pattern) (map lower text)
   unfolding has_ended
   ended-told pattern [] told short = begins-told pattern [] told short
   ended-told pattern (y ∷ text) told short =
@@ -105,7 +119,10 @@ tails-ended pattern (x ∷ text) =
     ap (λ b. b || list_any (matching.begins true pattern) (matching.tails text)) (begins-matching pattern (x ∷ text))
     ∙ ap (λ b. begins (map lower pattern) (map lower (x ∷ text)) || b) (tails-ended pattern text)
 
-pub ended-occurs : (letters pattern payload : List ℕ) → All (IsTold letters) pattern → All (λ byte. byte < 256) payload → has_ended (word_of letters pattern) (word_of letters payload) ≡ occurs pattern payload
+pub ended-occurs : (letters pattern payload : List ℕ)
+    → All (IsTold letters) pattern
+    → All (λ byte. byte < 256) payload
+    → has_ended (word_of letters pattern) (word_of letters payload) ≡ occurs pattern payload
 unfolding word_of occurs
 ended-occurs letters pattern payload told short =
     ended-turned (map (slice_index letters) pattern) (map (slice_index letters) payload)

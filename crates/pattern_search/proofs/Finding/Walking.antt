@@ -19,7 +19,9 @@ pub word_of-none : (letters : List ℕ) → word_of letters [] ≡ []
 unfolding word_of
 word_of-none letters = refl
 
-pub ended-tells : (patterns : List (List ℕ)) (read : List ℕ) (place : ℕ) → is_ended patterns read place ≡ true → (0 < length (word_at patterns place)) × (has_ended (word_at patterns place) read ≡ true)
+pub ended-tells : (patterns : List (List ℕ)) (read : List ℕ) (place : ℕ)
+    → is_ended patterns read place ≡ true
+    → (0 < length (word_at patterns place)) × (has_ended (word_at patterns place) read ≡ true)
 unfolding is_ended
 ended-tells patterns read place e =
     let parts = and_parts (ltb 0 (length (word_at patterns place))) (has_ended (word_at patterns place) read) e in
@@ -37,12 +39,20 @@ ended-start patterns place = ⊎_elim
     (cases_eq (length (word_at patterns place)) 0)
 
 -- one letter on, what ended before or ends here
-ended-more : (words patterns : List (List ℕ)) (ends : List ℕ) (read : List ℕ) (letter state place : ℕ) → AreWords words patterns ends → IsAt words (letter ∷ read) (word_at words state) → place < length patterns → (is_ended patterns read place || ends_word patterns (word_at words state) place) ≡ is_ended patterns (letter ∷ read) place
+ended-more : (words patterns : List (List ℕ)) (ends : List ℕ) (read : List ℕ) (letter state place : ℕ)
+    → AreWords words patterns ends
+    → IsAt words (letter ∷ read) (word_at words state)
+    → place < length patterns
+    → (is_ended patterns read place || ends_word patterns (word_at words state) place) ≡ is_ended patterns (letter ∷ read) place
 unfolding is_ended ends_word
 ended-more words patterns ends read letter state place are at h =
     let word = word_at patterns place in
-    let here : begins word (letter ∷ read) ≡ begins word (word_at words state) = ap (λ w. begins w (letter ∷ read)) (sym (are.word place h)) ∙ at (slice_index ends place) (are.within place h) ∙ ap (λ w. begins w (word_at words state)) (are.word place h) in
-    go (ltb 0 (length word)) (has_ended word read) (begins word (word_at words state)) ∙ ap (λ b. ltb 0 (length word) && b) (ap (λ b. b || has_ended word read) (sym here) ∙ sym (ended-push word letter read))
+    let here : begins word (letter ∷ read) ≡ begins word (word_at words state) =
+    ap (λ w. begins w (letter ∷ read)) (sym (are.word place h))
+    ∙ at (slice_index ends place) (are.within place h)
+    ∙ ap (λ w. begins w (word_at words state)) (are.word place h) in
+    go (ltb 0 (length word)) (has_ended word read) (begins word (word_at words state))
+    ∙ ap (λ b. ltb 0 (length word) && b) (ap (λ b. b || has_ended word read) (sym here) ∙ sym (ended-push word letter read))
   where
     go : (n e b : Bool) → ((n && e) || (n && b)) ≡ (n && (b || e))
     go true true true = refl
@@ -51,7 +61,10 @@ ended-more words patterns ends read letter state place are at h =
     go true false false = refl
     go false e b = refl
 
-closed-under : (patterns : List (List ℕ)) (read : List ℕ) (first seen : Seen) → IsClosedUnder patterns first → ((place : ℕ) → place < length patterns → is_marked seen place ≡ (is_marked first place || is_ended patterns read place)) → IsClosedUnder patterns seen
+closed-under : (patterns : List (List ℕ)) (read : List ℕ) (first seen : Seen)
+    → IsClosedUnder patterns first
+    → ((place : ℕ) → place < length patterns → is_marked seen place ≡ (is_marked first place || is_ended patterns read place))
+    → IsClosedUnder patterns seen
 closed-under patterns read first seen closed marked one other j k m some b = marked one j ∙ ⊎_elim
     (λ before. or_left (is_marked first one) (is_ended patterns read one) (closed one other j k before some b))
     (λ here.
@@ -84,7 +97,14 @@ walks-none automaton bytes seen hits =
     or-nothing true = refl
     or-nothing false = refl
 
-pub walks-more : (automaton : Automaton) (bytes : List ℕ) (i at letter entry : ℕ) (first old new : Seen) (first_hits old_hits new_hits : List ℕ) → Walks automaton (word_of automaton.letters (take i bytes)) at first first_hits old old_hits → i < length bytes → letter ≡ slice_index automaton.letters (get_or bytes i 0) → Steps automaton at letter entry → Notes automaton entry old old_hits new new_hits → Walks automaton (word_of automaton.letters (take (i + 1) bytes)) (entry / 2) first first_hits new new_hits
+pub walks-more : (automaton : Automaton) (bytes : List ℕ) (i at letter entry : ℕ) (first old new : Seen)
+    (first_hits old_hits new_hits : List ℕ)
+    → Walks automaton (word_of automaton.letters (take i bytes)) at first first_hits old old_hits
+    → i < length bytes
+    → letter ≡ slice_index automaton.letters (get_or bytes i 0)
+    → Steps automaton at letter entry
+    → Notes automaton entry old old_hits new new_hits
+    → Walks automaton (word_of automaton.letters (take (i + 1) bytes)) (entry / 2) first first_hits new new_hits
 walks-more automaton bytes i at letter entry first old new first_hits old_hits new_hits was h letter_is steps notes =
     let read = word_of automaton.letters (take i bytes) in
     let P : List ℕ → Type 0 = λ r. Walks automaton r (entry / 2) first first_hits new new_hits in
@@ -97,9 +117,14 @@ walks-more automaton bytes i at letter entry first old new first_hits old_hits n
           let has = steps.stepped patterns finds w.state w.within w.row wide in
           let head = slice_index automaton.heads.items has.next in
           let chain = finds.chains has.next has.within in
-          let half = halves automaton.trie.width automaton.dense automaton.heads.items has.next entry (has.is ∙ finds.entries.each has.next has.within) in
-          let state : state_of automaton.trie.width (entry / 2) ≡ has.next = ap (state_of automaton.trie.width) half.0 ∙ state-place automaton.trie.width automaton.dense has.next (omega arith) finds.fits in
-          let known : head ≡ slice_index automaton.heads.items (state_of automaton.trie.width (entry / 2)) = ap (slice_index automaton.heads.items) (sym state) in
+          let half =
+          halves automaton.trie.width automaton.dense automaton.heads.items has.next entry
+          (has.is ∙ finds.entries.each has.next has.within) in
+          let state : state_of automaton.trie.width (entry / 2) ≡ has.next =
+          ap (state_of automaton.trie.width) half.0
+          ∙ state-place automaton.trie.width automaton.dense has.next (omega arith) finds.fits in
+          let known : head ≡ slice_index automaton.heads.items (state_of automaton.trie.width (entry / 2)) =
+          ap (slice_index automaton.heads.items) (sym state) in
           let at_next = walk-step words finds.closed read (word_at words w.state) (word_at words has.next) letter w.is has.at in
           let count : length pats ≡ length automaton.nexts.items = count-words automaton.letters patterns ∙ sym finds.count in
           record {
@@ -108,11 +133,13 @@ walks-more automaton bytes i at letter entry first old new first_hits old_hits n
             row = half.0;
             is = at_next;
             marked = λ place k.
-                notes.marked pats head (omega arith) count finds.nexts (closed-under pats read first old closed w.marked) (chain.within, chain.some) known half.1 place k
+                notes.marked pats head (omega arith) count finds.nexts (closed-under pats read first old closed w.marked)
+                (chain.within, chain.some) known half.1 place k
                 ∙ ap (λ b. b || is_left pats head place) (w.marked place k)
                 ∙ ap (λ b. (is_marked first place || is_ended pats read place) || b) (chain.left place k)
                 ∙ or-shift (is_marked first place) (is_ended pats read place) (ends_word pats (word_at words has.next) place)
-                ∙ ap (λ b. is_marked first place || b) (ended-more words pats finds.ends read letter has.next place finds.are at_next k);
+                ∙ ap (λ b. is_marked first place || b)
+                (ended-more words pats finds.ends read letter has.next place finds.are at_next k);
             listed =
                 let Q : ℕ → Type 0 = λ n. IsPermutation (numbers (is_marked old) 0 n) old_hits in
                 let R : ℕ → Type 0 = λ n. IsPermutation (numbers (is_marked new) 0 n) new_hits in

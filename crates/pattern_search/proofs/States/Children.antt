@@ -13,7 +13,12 @@ seek-start trie state letter at e = record {
       subst P (sym e) (record { within = first.within; own = first.own; rest = λ number k up by. first.greatest number k up });
 }
 
-pub seek-more : (trie : Trie) (state letter at next : ℕ) → 0 < at → IsSeeking trie state letter at → ((step_at trie.steps.items (at - 1)).by ≡ letter → ⊥) → next ≡ min (step_at trie.steps.items (at - 1)).same (at - 1) → IsSeeking trie state letter next
+pub seek-more : (trie : Trie) (state letter at next : ℕ)
+    → 0 < at
+    → IsSeeking trie state letter at
+    → ((step_at trie.steps.items (at - 1)).by ≡ letter → ⊥)
+    → next ≡ min (step_at trie.steps.items (at - 1)).same (at - 1)
+    → IsSeeking trie state letter next
 seek-more trie state letter at next some is other known = record {
   sought = λ words deep trie_is h.
       let was = is.sought words deep trie_is h in
@@ -40,7 +45,11 @@ seek-found trie state letter at some is here = record {
       record {
         lacks = λ none. absurd (omega arith);
         within = omega (arith, was.within, trie_is.count);
-        grown = λ more. ap (word_at words) e ∙ trie_is.told (at - 1) k ∙ ap (λ (b : ℕ). b ∷ word_at words (step_at trie.steps.items (at - 1)).up) here ∙ ap (λ (u : ℕ). letter ∷ word_at words u) (was.own some);
+        grown = λ more.
+            ap (word_at words) e
+            ∙ trie_is.told (at - 1) k
+            ∙ ap (λ (b : ℕ). b ∷ word_at words (step_at trie.steps.items (at - 1)).up) here
+            ∙ ap (λ (u : ℕ). letter ∷ word_at words u) (was.own some);
       };
 }
 
@@ -63,9 +72,15 @@ seek-end trie state letter at is end = record {
             let j : other - 1 < length trie.steps.items = omega (arith, trie_is.count) in
             let step = step_at trie.steps.items (other - 1) in
             let back : other ≡ other - 1 + 1 = omega arith in
-            let both : step.by ∷ word_at words step.up ≡ letter ∷ word_at words state = sym (trie_is.told (other - 1) j) ∙ ap (word_at words) (sym back) ∙ e in
-            let up : step.up ≡ state = trie_is.apart step.up state (omega (arith, trie_is.ups (other - 1) j, trie_is.count)) h (earlier-word step.by letter (word_at words step.up) (word_at words state) both) in
-            omega (arith, was.rest (other - 1) j up (first-letter step.by letter (word_at words step.up) (word_at words state) both)))
+            let both : step.by ∷ word_at words step.up ≡ letter ∷ word_at words state =
+            sym (trie_is.told (other - 1) j) ∙ ap (word_at words) (sym back) ∙ e in
+            let up : step.up ≡ state =
+            trie_is.apart step.up state (omega (arith, trie_is.ups (other - 1) j, trie_is.count)) h
+            (earlier-word step.by letter (word_at words step.up) (word_at words state) both) in
+            omega (
+              arith,
+              was.rest (other - 1) j up (first-letter step.by letter (word_at words step.up) (word_at words state) both),
+            ))
             (cases_eq other 0);
         within = omega (arith, trie_is.count);
         grown = λ more. absurd (omega arith);

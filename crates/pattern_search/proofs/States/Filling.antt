@@ -1,5 +1,6 @@
 -- Owners, links and chains, one step of a loop at a time.
-use Rattle.std.proofs.Common.{◌≡◌, ℕ, ◌+◌, ◌-◌, ◌<◌, Bool, true, false, cond, eqb, List, [], ◌∷◌, ◌++◌, length, set, get_or, slice_index, replicate, take, drop, sym, refl, ap, subst, ◌∙◌, arith, ⊎_elim}
+use Rattle.std.proofs.Common.{◌≡◌, ℕ, ◌+◌, ◌-◌, ◌<◌, Bool, true, false, cond, eqb, List, [], ◌∷◌, ◌++◌, length, set, get_or}
+use Rattle.std.proofs.Common.{slice_index, replicate, take, drop, sym, refl, ap, subst, ◌∙◌, arith, ⊎_elim}
 use Rattle.std.proofs.lemmas.List.{get_or_append_left, get_or_push, length_push, length-set, get_or-set_same, get_or-set_other, length-replicate, get_or-replicate, get_or_past, take_at}
 use Rattle.std.proofs.lemmas.Bool.{cases_lt, cases_eq, ne_eqb, eq-eqb, cond-true, cond-false}
 use Rattle.pattern_search.specs.declared.trie.Trie.{Trie}
@@ -34,7 +35,10 @@ module _ (ends : List ℕ) (states : ℕ) where
     not-here state owner ne is = record {
       within = omega (arith, is.within);
       own = is.own;
-      greatest = λ other k e. ⊎_elim (λ below. is.greatest other below e) (λ above. let here : other ≡ place = omega arith in absurd (ne (ap (slice_index ends) (sym here) ∙ e))) (cases_lt other place);
+      greatest = λ other k e.
+          ⊎_elim (λ below. is.greatest other below e)
+          (λ above. let here : other ≡ place = omega arith in absurd (ne (ap (slice_index ends) (sym here) ∙ e)))
+          (cases_lt other place);
     }
 
     here : IsLastOf ends (place + 1) (slice_index ends place) (place + 1)
@@ -48,7 +52,11 @@ module _ (ends : List ℕ) (states : ℕ) where
       count = length_push sames (slice_index firsts (slice_index ends place)) ∙ ap (λ n. n + 1) are.count;
       same = λ other k some. ⊎_elim
           (λ e. absurd (omega (arith, ap (slice_index ends) e)))
-          (λ ne. let P : ℕ → Type 0 = λ o. IsLastOf ends other (slice_index ends other) o in subst P (sym (get_or_append_left sames (slice_index firsts (slice_index ends place) ∷ []) 0 other (omega (arith, are.count)))) (are.same other (omega arith) some))
+          (λ ne.
+          let P : ℕ → Type 0 = λ o. IsLastOf ends other (slice_index ends other) o in
+          subst P
+          (sym (get_or_append_left sames (slice_index firsts (slice_index ends place) ∷ []) 0 other (omega (arith, are.count))))
+          (are.same other (omega arith) some))
           (cases_eq other place);
     }
 
@@ -58,20 +66,30 @@ module _ (ends : List ℕ) (states : ℕ) where
       root = get_or-set_other firsts (slice_index ends place) 0 (place + 1) 0 (λ e. omega arith) ∙ are.root;
       first = λ state some k. ⊎_elim
           (λ e.
-          let P : ℕ → Type 0 = λ s. IsLastOf ends (place + 1) s (slice_index (set firsts (slice_index ends place) (place + 1)) s) in
+          let P : ℕ → Type 0 =
+          λ s. IsLastOf ends (place + 1) s (slice_index (set firsts (slice_index ends place) (place + 1)) s) in
           let Q : ℕ → Type 0 = λ o. IsLastOf ends (place + 1) (slice_index ends place) o in
-          subst P e (subst Q (sym (get_or-set_same firsts (slice_index ends place) (place + 1) 0 (omega (arith, are.sized)))) here))
+          subst P e
+          (subst Q (sym (get_or-set_same firsts (slice_index ends place) (place + 1) 0 (omega (arith, are.sized)))) here))
           (λ ne.
           let Q : ℕ → Type 0 = λ o. IsLastOf ends (place + 1) state o in
-          subst Q (sym (get_or-set_other firsts (slice_index ends place) state (place + 1) 0 (λ e. ne (sym e)))) (not-here state (slice_index firsts state) ne (are.first state some k)))
+          subst Q (sym (get_or-set_other firsts (slice_index ends place) state (place + 1) 0 (λ e. ne (sym e))))
+          (not-here state (slice_index firsts state) ne (are.first state some k)))
           (cases_eq (slice_index ends place) state);
       count = length_push sames (slice_index firsts (slice_index ends place)) ∙ ap (λ n. n + 1) are.count;
       same = λ other k some. ⊎_elim
           (λ e.
-          let P : ℕ → Type 0 = λ p. IsLastOf ends p (slice_index ends p) (slice_index (sames ++ slice_index firsts (slice_index ends place) ∷ []) p) in
+          let P : ℕ → Type 0 =
+          λ p. IsLastOf ends p (slice_index ends p) (slice_index (sames ++ slice_index firsts (slice_index ends place) ∷ []) p) in
           let Q : ℕ → Type 0 = λ o. IsLastOf ends place (slice_index ends place) o in
-          subst P (sym e) (subst Q (sym (get_or_push sames (slice_index firsts (slice_index ends place)) 0 place are.count)) (are.first (slice_index ends place) some_end within)))
-          (λ ne. let P : ℕ → Type 0 = λ o. IsLastOf ends other (slice_index ends other) o in subst P (sym (get_or_append_left sames (slice_index firsts (slice_index ends place) ∷ []) 0 other (omega (arith, are.count)))) (are.same other (omega arith) some))
+          subst P (sym e)
+          (subst Q (sym (get_or_push sames (slice_index firsts (slice_index ends place)) 0 place are.count))
+          (are.first (slice_index ends place) some_end within)))
+          (λ ne.
+          let P : ℕ → Type 0 = λ o. IsLastOf ends other (slice_index ends other) o in
+          subst P
+          (sym (get_or_append_left sames (slice_index firsts (slice_index ends place) ∷ []) 0 other (omega (arith, are.count))))
+          (are.same other (omega arith) some))
           (cases_eq other place);
     }
 
@@ -94,7 +112,13 @@ linking-none trie firsts = record {
   };
 }
 
-pub linking-more : (trie : Trie) (firsts fails heads : List ℕ) (state fail head : ℕ) (fails_now heads_now : List ℕ) → IsLinking trie firsts fails heads state → FailsTo trie fails state fail → head ≡ either (slice_index firsts state) (slice_index heads fail) → heads_now ≡ heads ++ head ∷ [] → fails_now ≡ fails ++ fail ∷ [] → IsLinking trie firsts fails_now heads_now (state + 1)
+pub linking-more : (trie : Trie) (firsts fails heads : List ℕ) (state fail head : ℕ) (fails_now heads_now : List ℕ)
+    → IsLinking trie firsts fails heads state
+    → FailsTo trie fails state fail
+    → head ≡ either (slice_index firsts state) (slice_index heads fail)
+    → heads_now ≡ heads ++ head ∷ []
+    → fails_now ≡ fails ++ fail ∷ []
+    → IsLinking trie firsts fails_now heads_now (state + 1)
 linking-more trie firsts fails heads state fail head fails_now heads_now is fails_to known heads_is fails_is = record {
   linked = λ patterns ends sames deep trie_is are owned h.
       let words = words_of trie.steps.items in
@@ -102,19 +126,28 @@ linking-more trie firsts fails heads state fail head fails_now heads_now is fail
       let here = fails_to.is words deep trie_is before.failing (omega arith) in
       let P : List ℕ → Type 0 = λ fs. AreLinked words patterns fs heads_now (state + 1) in
       let Q : List ℕ → Type 0 = λ hs. AreLinked words patterns (fails ++ fail ∷ []) hs (state + 1) in
-      subst P (sym fails_is) (subst Q (sym (heads_is ∙ ap (λ hd. heads ++ hd ∷ []) known)) (linked-more words patterns ends trie deep trie_is are fails heads state fail (omega arith) before here fails_to.root firsts sames owned));
+      subst P (sym fails_is)
+      (subst Q (sym (heads_is ∙ ap (λ hd. heads ++ hd ∷ []) known))
+      (linked-more words patterns ends trie deep trie_is are fails heads state fail (omega arith) before here fails_to.root firsts
+      sames owned));
 }
 
 -- chains
 pub nexts-none : (ends sames fails heads : List ℕ) → AreNexts ends sames fails heads [] 0
 nexts-none ends sames fails heads = record { count = refl; next = λ place h. absurd (omega arith) }
 
-pub nexts-more : (ends sames fails heads nexts : List ℕ) (done : ℕ) → AreNexts ends sames fails heads nexts done → AreNexts ends sames fails heads (nexts ++ next_of ends sames fails heads done ∷ []) (done + 1)
+pub nexts-more : (ends sames fails heads nexts : List ℕ) (done : ℕ)
+    → AreNexts ends sames fails heads nexts done
+    → AreNexts ends sames fails heads (nexts ++ next_of ends sames fails heads done ∷ []) (done + 1)
 nexts-more ends sames fails heads nexts done are = record {
   count = length_push nexts (next_of ends sames fails heads done) ∙ ap (λ n. n + 1) are.count;
   next = λ place h. ⊎_elim
-      (λ e. let P : ℕ → Type 0 = λ p. slice_index (nexts ++ next_of ends sames fails heads done ∷ []) p ≡ next_of ends sames fails heads p in subst P (sym e) (get_or_push nexts (next_of ends sames fails heads done) 0 done are.count))
-      (λ ne. get_or_append_left nexts (next_of ends sames fails heads done ∷ []) 0 place (omega (arith, are.count)) ∙ are.next place (omega arith))
+      (λ e.
+      let P : ℕ → Type 0 =
+      λ p. slice_index (nexts ++ next_of ends sames fails heads done ∷ []) p ≡ next_of ends sames fails heads p in
+      subst P (sym e) (get_or_push nexts (next_of ends sames fails heads done) 0 done are.count))
+      (λ ne. get_or_append_left nexts (next_of ends sames fails heads done ∷ []) 0 place (omega (arith, are.count)) ∙
+      are.next place (omega arith))
       (cases_eq place done);
 }
 

@@ -12,7 +12,13 @@ use Rattle.pattern_search.proofs.States.Linking.{trie-closed}
 pub reaching-none : (trie : Trie) (fails : List ℕ) (state letter : ℕ) → IsReaching trie fails state letter state
 reaching-none trie fails state letter = record { back = λ words deep done is failing few h. record { within = omega arith; same = λ other k. refl } }
 
-pub reaching-more : (trie : Trie) (fails : List ℕ) (state letter at child next : ℕ) → 0 < at → IsReaching trie fails state letter at → FindsChild trie at letter child → child ≡ 0 → next ≡ min (slice_index fails at) (at - 1) → IsReaching trie fails state letter next
+pub reaching-more : (trie : Trie) (fails : List ℕ) (state letter at child next : ℕ)
+    → 0 < at
+    → IsReaching trie fails state letter at
+    → FindsChild trie at letter child
+    → child ≡ 0
+    → next ≡ min (slice_index fails at) (at - 1)
+    → IsReaching trie fails state letter next
 reaching-more trie fails state letter at child next some was finds none known = record {
   back = λ words deep done is failing few h.
       let before = was.back words deep done is failing few h in
@@ -23,14 +29,21 @@ reaching-more trie fails state letter at child next some was finds none known = 
       let word = word_at words at in
       let fail = word_at words (slice_index fails at) in
       let here : IsAt words (letter ∷ fail) (letter ∷ fail) = λ other k. refl in
-      let more : IsAt words (letter ∷ word) (letter ∷ fail) = fail-step words (trie-closed words trie deep is) word fail (letter ∷ fail) letter (failing.failing at some (omega (arith, before.within))) (found.lacks none) here in
+      let more : IsAt words (letter ∷ word) (letter ∷ fail) =
+      fail-step words (trie-closed words trie deep is) word fail (letter ∷ fail) letter
+      (failing.failing at some (omega (arith, before.within)))
+      (found.lacks none) here in
       subst P (sym next_is) (record {
         within = omega (arith, lower, before.within);
         same = λ other k. before.same other k ∙ more other k;
       });
 }
 
-pub reached-some : (trie : Trie) (fails : List ℕ) (below state letter at child : ℕ) → IsReaching trie fails state letter at → FindsChild trie at letter child → (child ≡ 0 → ⊥) → Reaches trie fails below state letter (record { state = at; child = child })
+pub reached-some : (trie : Trie) (fails : List ℕ) (below state letter at child : ℕ)
+    → IsReaching trie fails state letter at
+    → FindsChild trie at letter child
+    → (child ≡ 0 → ⊥)
+    → Reaches trie fails below state letter (record { state = at; child = child })
 reached-some trie fails below state letter at child was finds some = record {
   comes = λ words deep done is failing few h.
       let before = was.back words deep done is failing few h in
@@ -42,7 +55,10 @@ reached-some trie fails below state letter at child was finds some = record {
       };
 }
 
-pub reached-none : (trie : Trie) (fails : List ℕ) (below state letter at : ℕ) → IsReaching trie fails state letter at → (0 < below → at < below) → Reaches trie fails below state letter (record { state = at; child = 0 })
+pub reached-none : (trie : Trie) (fails : List ℕ) (below state letter at : ℕ)
+    → IsReaching trie fails state letter at
+    → (0 < below → at < below)
+    → Reaches trie fails below state letter (record { state = at; child = 0 })
 reached-none trie fails below state letter at was low = record {
   comes = λ words deep done is failing few h. record {
     back = was.back words deep done is failing few h;
@@ -82,12 +98,19 @@ root-move words trie deep letter child is finds =
 pub back-move : (words : List (List ℕ)) (state letter at next : ℕ) → IsBack words state letter at → IsMove words at letter next → IsMove words state letter next
 back-move words state letter at next back move = record { within = move.within; at = λ other k. back.same other k ∙ move.at other k }
 
-pub moves-child : (trie : Trie) (fails : List ℕ) (state letter : ℕ) (reached : Reached) → Reaches trie fails 1 state letter reached → (reached.child ≡ 0 → ⊥) → Moves trie fails state letter reached.child
+pub moves-child : (trie : Trie) (fails : List ℕ) (state letter : ℕ) (reached : Reached)
+    → Reaches trie fails 1 state letter reached
+    → (reached.child ≡ 0 → ⊥)
+    → Moves trie fails state letter reached.child
 moves-child trie fails state letter reached is some = record {
   moved = λ words deep done trie_is failing few h. reached-move words 1 state letter reached (is.comes words deep done trie_is failing few h) (omega arith);
 }
 
-pub moves-root : (trie : Trie) (fails : List ℕ) (state letter : ℕ) (reached : Reached) (child : ℕ) → Reaches trie fails 1 state letter reached → reached.child ≡ 0 → FindsChild trie 0 letter child → Moves trie fails state letter child
+pub moves-root : (trie : Trie) (fails : List ℕ) (state letter : ℕ) (reached : Reached) (child : ℕ)
+    → Reaches trie fails 1 state letter reached
+    → reached.child ≡ 0
+    → FindsChild trie 0 letter child
+    → Moves trie fails state letter child
 moves-root trie fails state letter reached child is none finds = record {
   moved = λ words deep done trie_is failing few h.
       let comes = is.comes words deep done trie_is failing few h in
@@ -101,7 +124,11 @@ moves-root trie fails state letter reached child is none finds = record {
 pub fails-root : (trie : Trie) (fails : List ℕ) (state : ℕ) → state ≡ 0 → FailsTo trie fails state 0
 fails-root trie fails state e = record { root = λ z. refl; is = λ words deep trie_is failing h some. absurd (omega arith) }
 
-word-is : (words : List (List ℕ)) (trie : Trie) (deep state : ℕ) → IsTrieOf words trie deep → 0 < state → state < length words → word_at words state ≡ (step_at trie.steps.items (state - 1)).by ∷ word_at words (step_at trie.steps.items (state - 1)).up
+word-is : (words : List (List ℕ)) (trie : Trie) (deep state : ℕ)
+    → IsTrieOf words trie deep
+    → 0 < state
+    → state < length words
+    → word_at words state ≡ (step_at trie.steps.items (state - 1)).by ∷ word_at words (step_at trie.steps.items (state - 1)).up
 word-is words trie deep state is some h = let e : state ≡ state - 1 + 1 = omega arith in ap (word_at words) e ∙ is.told (state - 1) (omega (arith, is.count))
 
 pub fails-first : (trie : Trie) (fails : List ℕ) (state : ℕ) → (state ≡ 0 → ⊥) → (step_at trie.steps.items (state - 1)).up ≡ 0 → FailsTo trie fails state 0
@@ -117,7 +144,12 @@ fails-first trie fails state ne up_is = record {
       (omega arith, subst P (sym (word-is words trie deep state is some h)) (subst Q (sym empty) (subst R (sym is.root) (fail-first words by))));
 }
 
-pub fails-move : (trie : Trie) (fails : List ℕ) (state shallow next : ℕ) → (state ≡ 0 → ⊥) → ((step_at trie.steps.items (state - 1)).up ≡ 0 → ⊥) → shallow ≡ slice_index fails (step_at trie.steps.items (state - 1)).up → Moves trie fails shallow (step_at trie.steps.items (state - 1)).by next → FailsTo trie fails state next
+pub fails-move : (trie : Trie) (fails : List ℕ) (state shallow next : ℕ)
+    → (state ≡ 0 → ⊥)
+    → ((step_at trie.steps.items (state - 1)).up ≡ 0 → ⊥)
+    → shallow ≡ slice_index fails (step_at trie.steps.items (state - 1)).up
+    → Moves trie fails shallow (step_at trie.steps.items (state - 1)).by next
+    → FailsTo trie fails state next
 fails-move trie fails state shallow next ne other known moves = record {
   root = λ z. absurd (ne z);
   is = λ words deep is failing h some.
@@ -129,15 +161,28 @@ fails-move trie fails state shallow next ne other known moves = record {
       let move = moves.moved words deep state is failing (omega arith) (omega (arith, known, lower)) in
       let P : List ℕ → Type 0 = λ w. IsFail words w (word_at words next) in
       let Q : ℕ → Type 0 = λ s. IsFail words (word_at words up) (word_at words s) in
-      let whole = subst P (sym (word-is words trie deep state is some h)) (fail-child words (trie-closed words trie deep is) (word_at words up) (word_at words shallow) by next (subst Q (sym known) (failing.failing up up_some low)) move.within move.at) in
-      (⊎_elim (λ below. below) (λ above. omega (arith, is.levels state next above move.within, whole.shorter)) (cases_lt next state), whole);
+      let whole =
+      subst P (sym (word-is words trie deep state is some h))
+      (fail-child words (trie-closed words trie deep is) (word_at words up) (word_at words shallow) by next
+      (subst Q (sym known) (failing.failing up up_some low))
+      move.within move.at) in (
+        ⊎_elim (λ below. below) (λ above. omega (arith, is.levels state next above move.within, whole.shorter))
+            (cases_lt next state),
+        whole,
+      );
 }
 
 -- where a state fails to whose step is this one
 pub fails-first-by : (trie : Trie) (fails : List ℕ) (state : ℕ) (step : Step) → step ≡ step_at trie.steps.items (state - 1) → (state ≡ 0 → ⊥) → step.up ≡ 0 → FailsTo trie fails state 0
 fails-first-by trie fails state step known ne up = fails-first trie fails state ne (ap (λ (s : Step). s.up) (sym known) ∙ up)
 
-pub fails-move-by : (trie : Trie) (fails : List ℕ) (state shallow next : ℕ) (step : Step) → step ≡ step_at trie.steps.items (state - 1) → (state ≡ 0 → ⊥) → (step.up ≡ 0 → ⊥) → shallow ≡ slice_index fails step.up → Moves trie fails shallow step.by next → FailsTo trie fails state next
+pub fails-move-by : (trie : Trie) (fails : List ℕ) (state shallow next : ℕ) (step : Step)
+    → step ≡ step_at trie.steps.items (state - 1)
+    → (state ≡ 0 → ⊥)
+    → (step.up ≡ 0 → ⊥)
+    → shallow ≡ slice_index fails step.up
+    → Moves trie fails shallow step.by next
+    → FailsTo trie fails state next
 fails-move-by trie fails state shallow next step known ne =
     let P : Step → Type 0 = λ s. (s.up ≡ 0 → ⊥) → shallow ≡ slice_index fails s.up → Moves trie fails shallow s.by next → FailsTo trie fails state next in
     subst P (sym known) (fails-move trie fails state shallow next ne)

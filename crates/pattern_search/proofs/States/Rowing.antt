@@ -14,7 +14,10 @@ use Rattle.pattern_search.proofs.States.Moving.{root-move}
 pub entries-none : (width dense : ℕ) (heads : List ℕ) → AreEntries width dense heads [] 0
 entries-none width dense heads = record { count = refl; each = λ state h. absurd (omega arith) }
 
-pub entries-more : (width dense : ℕ) (heads entries : List ℕ) (state entry : ℕ) → AreEntries width dense heads entries state → entry ≡ entry_of width dense heads state → AreEntries width dense heads (entries ++ entry ∷ []) (state + 1)
+pub entries-more : (width dense : ℕ) (heads entries : List ℕ) (state entry : ℕ)
+    → AreEntries width dense heads entries state
+    → entry ≡ entry_of width dense heads state
+    → AreEntries width dense heads (entries ++ entry ∷ []) (state + 1)
 entries-more width dense heads entries state entry are is = record {
   count = length_push entries entry ∙ ap (λ n. n + 1) are.count;
   each = λ other h. ⊎_elim
@@ -24,14 +27,23 @@ entries-more width dense heads entries state entry are is = record {
 }
 
 -- the next move of a table
-pub entry-child : (trie : Trie) (fails entries table : List ℕ) (state letter child entry : ℕ) → FindsChild trie state letter child → (child ≡ 0 → ⊥) → entry ≡ slice_index entries child → IsNextEntry trie fails entries table state letter entry
+pub entry-child : (trie : Trie) (fails entries table : List ℕ) (state letter child entry : ℕ)
+    → FindsChild trie state letter child
+    → (child ≡ 0 → ⊥)
+    → entry ≡ slice_index entries child
+    → IsNextEntry trie fails entries table state letter entry
 entry-child trie fails entries table state letter child entry finds some known = record {
   holds = λ words deep is failing h k long rows.
       let found = finds.found words deep is h in
       record { next = child; within = found.within; at = λ other j. ap (begins (word_at words other)) (sym (found.grown (omega arith))); is = known };
 }
 
-pub entry-root : (trie : Trie) (fails entries table : List ℕ) (state letter child entry : ℕ) → FindsChild trie state letter child → child ≡ 0 → state ≡ 0 → entry ≡ slice_index entries 0 → IsNextEntry trie fails entries table state letter entry
+pub entry-root : (trie : Trie) (fails entries table : List ℕ) (state letter child entry : ℕ)
+    → FindsChild trie state letter child
+    → child ≡ 0
+    → state ≡ 0
+    → entry ≡ slice_index entries 0
+    → IsNextEntry trie fails entries table state letter entry
 entry-root trie fails entries table state letter child entry finds none root known = record {
   holds = λ words deep is failing h k long rows.
       let P : ℕ → Type 0 = λ s. FindsChild trie s letter child in
@@ -40,18 +52,27 @@ entry-root trie fails entries table state letter child entry finds none root kno
       subst Q (sym root) (record { next = child; within = move.within; at = move.at; is = known ∙ ap (slice_index entries) (sym none) });
 }
 
-pub entry-back : (trie : Trie) (fails entries table : List ℕ) (state letter child entry : ℕ) → FindsChild trie state letter child → child ≡ 0 → (state ≡ 0 → ⊥) → entry ≡ slice_index table (slice_index fails state * trie.width + letter) → IsNextEntry trie fails entries table state letter entry
+pub entry-back : (trie : Trie) (fails entries table : List ℕ) (state letter child entry : ℕ)
+    → FindsChild trie state letter child
+    → child ≡ 0
+    → (state ≡ 0 → ⊥)
+    → entry ≡ slice_index table (slice_index fails state * trie.width + letter)
+    → IsNextEntry trie fails entries table state letter entry
 entry-back trie fails entries table state letter child entry finds none other known = record {
   holds = λ words deep is failing h k long rows.
       let fail = slice_index fails state in
       let some : 0 < state = omega arith in
       let lower = failing.lower state some h in
-      let bound : fail * trie.width + letter < length table = omega (arith, long, row_fits fail trie.width state trie.width lower (omega arith)) in
+      let bound : fail * trie.width + letter < length table =
+      omega (arith, long, row_fits fail trie.width state trie.width lower (omega arith)) in
       let has = rows.each fail letter (omega (arith, lower)) k bound in
       record {
         next = has.next;
         within = has.within;
-        at = fail-step words (trie-closed words trie deep is) (word_at words state) (word_at words fail) (word_at words has.next) letter (failing.failing state some h) ((finds.found words deep is h).lacks none) has.at;
+        at =
+            fail-step words (trie-closed words trie deep is) (word_at words state) (word_at words fail) (word_at words has.next)
+            letter (failing.failing state some h) ((finds.found words deep is h).lacks none)
+            has.at;
         is = known ∙ has.is;
       };
 }
@@ -63,7 +84,11 @@ rows-none trie fails entries = record {
   rows = λ words deep is failing h some. record { each = λ state letter j k below. absurd (omega arith) };
 }
 
-pub rows-more : (trie : Trie) (fails entries : List ℕ) (state letter : ℕ) (table : List ℕ) (entry : ℕ) → HasRows trie fails entries state letter table → letter < trie.width → IsNextEntry trie fails entries table state letter entry → HasRows trie fails entries state (letter + 1) (table ++ entry ∷ [])
+pub rows-more : (trie : Trie) (fails entries : List ℕ) (state letter : ℕ) (table : List ℕ) (entry : ℕ)
+    → HasRows trie fails entries state letter table
+    → letter < trie.width
+    → IsNextEntry trie fails entries table state letter entry
+    → HasRows trie fails entries state (letter + 1) (table ++ entry ∷ [])
 rows-more trie fails entries state letter table entry was wide next = record {
   long = omega (arith, length_push table entry, was.long);
   rows = λ words deep is failing h some.
@@ -86,7 +111,10 @@ rows-more trie fails entries state letter table entry was wide next = record {
       };
 }
 
-pub row-done : (trie : Trie) (fails entries : List ℕ) (state letter : ℕ) (table : List ℕ) → letter ≡ trie.width → HasRows trie fails entries state letter table → HasRows trie fails entries (state + 1) 0 table
+pub row-done : (trie : Trie) (fails entries : List ℕ) (state letter : ℕ) (table : List ℕ)
+    → letter ≡ trie.width
+    → HasRows trie fails entries state letter table
+    → HasRows trie fails entries (state + 1) 0 table
 row-done trie fails entries state letter table all was = record {
   long = was.long ∙ ap (λ l. state * trie.width + l) all ∙ more state trie.width;
   rows = λ words deep is failing h some. was.rows words deep is failing (omega arith) (λ more. omega arith);

@@ -28,7 +28,13 @@ shallow-none trie = record {
   short = λ words deep is state low h. let e : state ≡ 0 = omega arith in omega (arith, ap (λ s. length (word_at words s)) e, ap length is.root);
 }
 
-pub shallow-more : (trie : Trie) (count one two three : ℕ) → AreShallow trie (count + 1) → IsParent trie (count + 1) one → IsParent trie one two → IsParent trie two three → three ≡ 0 → AreShallow trie (count + 1 + 1)
+pub shallow-more : (trie : Trie) (count one two three : ℕ)
+    → AreShallow trie (count + 1)
+    → IsParent trie (count + 1) one
+    → IsParent trie one two
+    → IsParent trie two three
+    → three ≡ 0
+    → AreShallow trie (count + 1 + 1)
 shallow-more trie count one two three were first second third none = record {
   short = λ words deep is state low h. ⊎_elim
       (λ before. were.short words deep is state before h)
@@ -37,7 +43,15 @@ shallow-more trie count one two three were first second third none = record {
       let k : count + 1 < length words = omega (arith, e) in
       let k1 = first.within words deep is k in
       let k2 = second.within words deep is k1 in
-      omega (arith, ap (λ s. length (word_at words s)) e, first.longer words deep is k, second.longer words deep is k1, third.longer words deep is k2, ap (λ s. length (word_at words s)) none, ap length is.root))
+      omega (
+        arith,
+        ap (λ s. length (word_at words s)) e,
+        first.longer words deep is k,
+        second.longer words deep is k1,
+        third.longer words deep is k2,
+        ap (λ s. length (word_at words s)) none,
+        ap length is.root,
+      ))
       (cases_lt state (count + 1));
 }
 

@@ -78,7 +78,11 @@ step-row automaton at letter entry below known = record {
 }
 
 -- a move from a state that has no row
-pub step-sparse : (automaton : Automaton) (at state letter entry : ℕ) → length automaton.table.items ≤ at + letter → state ≡ at - sparse → StepsBack automaton state letter entry → Steps automaton at letter entry
+pub step-sparse : (automaton : Automaton) (at state letter entry : ℕ)
+    → length automaton.table.items ≤ at + letter
+    → state ≡ at - sparse
+    → StepsBack automaton state letter entry
+    → Steps automaton at letter entry
 step-sparse automaton at state letter entry above state_is back = record {
   stepped = λ patterns finds own h at_is k.
       let width = automaton.trie.width in
@@ -93,7 +97,11 @@ step-sparse automaton at state letter entry above state_is back = record {
       (cases_lt own dense);
 }
 
-pub back-child : (automaton : Automaton) (state letter : ℕ) (reached : Reached) (entry : ℕ) → Reaches automaton.trie automaton.fails.items automaton.dense state letter reached → (reached.child ≡ 0 → ⊥) → entry ≡ slice_index automaton.entries.items reached.child → StepsBack automaton state letter entry
+pub back-child : (automaton : Automaton) (state letter : ℕ) (reached : Reached) (entry : ℕ)
+    → Reaches automaton.trie automaton.fails.items automaton.dense state letter reached
+    → (reached.child ≡ 0 → ⊥)
+    → entry ≡ slice_index automaton.entries.items reached.child
+    → StepsBack automaton state letter entry
 back-child automaton state letter reached entry is some known = record {
   stepped = λ patterns finds h k.
       let comes = is.comes finds.words finds.deep (length finds.words) finds.trie finds.failing (omega arith) h in
@@ -101,7 +109,11 @@ back-child automaton state letter reached entry is some known = record {
       record { next = reached.child; within = move.within; at = move.at; is = known };
 }
 
-pub back-row : (automaton : Automaton) (state letter : ℕ) (reached : Reached) (entry : ℕ) → Reaches automaton.trie automaton.fails.items automaton.dense state letter reached → reached.child ≡ 0 → entry ≡ slice_index automaton.table.items (reached.state * automaton.trie.width + letter) → StepsBack automaton state letter entry
+pub back-row : (automaton : Automaton) (state letter : ℕ) (reached : Reached) (entry : ℕ)
+    → Reaches automaton.trie automaton.fails.items automaton.dense state letter reached
+    → reached.child ≡ 0
+    → entry ≡ slice_index automaton.table.items (reached.state * automaton.trie.width + letter)
+    → StepsBack automaton state letter entry
 back-row automaton state letter reached entry is none known = record {
   stepped = λ patterns finds h k.
       let width = automaton.trie.width in

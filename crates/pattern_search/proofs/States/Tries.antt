@@ -1,5 +1,6 @@
 -- A trie that grows by a state.
-use Rattle.std.proofs.Common.{◌≡◌, ℕ, zero, suc, ◌+◌, ◌-◌, ◌<◌, ◌≤◌, List, [], ◌∷◌, ◌++◌, length, set, slice_index, sym, refl, ap, subst, ◌∙◌, arith, ⊎_elim, length-set, get_or-set_same, get_or-set_other}
+use Rattle.std.proofs.Common.{◌≡◌, ℕ, zero, suc, ◌+◌, ◌-◌, ◌<◌, ◌≤◌, List, [], ◌∷◌, ◌++◌, length, set, slice_index, sym, refl, ap}
+use Rattle.std.proofs.Common.{subst, ◌∙◌, arith, ⊎_elim, length-set, get_or-set_same, get_or-set_other}
 use Rattle.std.proofs.lemmas.List.{get_or_append_left, get_or_push, length_push}
 use Rattle.std.proofs.lemmas.Bool.{cases_lt, cases_eq}
 use Rattle.pattern_search.specs.declared.trie.Step.{Step}
@@ -45,7 +46,16 @@ empty-trie trie steps firsts = record {
     first-zero (suc state) h = absurd (omega arith)
 
 -- a state more
-module _ (words : List (List ℕ)) (old new : Trie) (deep state letter : ℕ) (is : IsTrieOf words old deep) (here : state < length words) (wide : letter < old.width) (lacks : (other : ℕ) → other < length words → word_at words other ≡ letter ∷ word_at words state → ⊥) (long : length (word_at words state) + 1 ≡ deep) (steps : new.steps.items ≡ old.steps.items ++ record { up = state; by = letter; same = slice_index old.firsts.items state } ∷ []) (width : new.width ≡ old.width) (firsts : new.firsts.items ≡ set (old.firsts.items ++ 0 ∷ []) state (length words)) (few : length new.steps.items < 1073741824) where
+module _ (words : List (List ℕ)) (old new : Trie) (deep state letter : ℕ) (is : IsTrieOf words old deep)
+    (here : state < length words)
+    (wide : letter < old.width)
+    (lacks : (other : ℕ) → other < length words → word_at words other ≡ letter ∷ word_at words state → ⊥)
+    (long : length (word_at words state) + 1 ≡ deep)
+    (steps : new.steps.items ≡
+    old.steps.items ++ record { up = state; by = letter; same = slice_index old.firsts.items state } ∷ [])
+    (width : new.width ≡ old.width)
+    (firsts : new.firsts.items ≡ set (old.firsts.items ++ 0 ∷ []) state (length words))
+    (few : length new.steps.items < 1073741824) where
   abbrev added : Step
   added = record { up = state; by = letter; same = slice_index old.firsts.items state }
 
@@ -193,12 +203,24 @@ module _ (words : List (List ℕ)) (old new : Trie) (deep state letter : ℕ) (i
   pub more-trie : IsTrieOf more new deep
   more-trie = record {
     count = omega (arith, more-length, is.count, ap length steps, length_push old.steps.items added);
-    first_count = omega (arith, more-length, is.first_count, ap length firsts, length-set (old.firsts.items ++ 0 ∷ []) state (length words), length_push old.firsts.items 0);
+    first_count = omega (
+      arith,
+      more-length,
+      is.first_count,
+      ap length firsts,
+      length-set (old.firsts.items ++ 0 ∷ []) state (length words),
+      length_push old.firsts.items 0,
+    );
     root = more-kept 0 (omega (arith, is.count)) ∙ is.root;
     steps = more-steps;
     told = λ number h. ⊎_elim
-        (λ k. more-kept (number + 1) (omega (arith, is.count)) ∙ is.told number k ∙ ap (λ w. (step_at old.steps.items number).by ∷ w) (sym (more-kept (step_at old.steps.items number).up (omega (arith, is.ups number k, is.count)))) ∙ ap (λ (s : Step). s.by ∷ word_at more s.up) (sym (step-kept number k)))
-        (λ k. ap (word_at more) (omega (arith, last number k h, is.count)) ∙ more-last ∙ ap (λ w. letter ∷ w) (sym (more-kept state here)) ∙ ap (λ (s : Step). s.by ∷ word_at more s.up) (sym (step-last number (last number k h))))
+        (λ k. more-kept (number + 1) (omega (arith, is.count)) ∙ is.told number k ∙
+        ap (λ w. (step_at old.steps.items number).by ∷ w)
+        (sym (more-kept (step_at old.steps.items number).up (omega (arith, is.ups number k, is.count)))) ∙
+        ap (λ (s : Step). s.by ∷ word_at more s.up) (sym (step-kept number k)))
+        (λ k. ap (word_at more) (omega (arith, last number k h, is.count)) ∙ more-last ∙
+        ap (λ w. letter ∷ w) (sym (more-kept state here)) ∙
+        ap (λ (s : Step). s.by ∷ word_at more s.up) (sym (step-last number (last number k h))))
         (cases_lt number (length old.steps.items));
     ups = λ number h. ⊎_elim
         (λ k. omega (arith, is.ups number k, ap (λ (s : Step). s.up) (step-kept number k)))
@@ -217,7 +239,12 @@ module _ (words : List (List ℕ)) (old new : Trie) (deep state letter : ℕ) (i
   }
 
 -- what `child` says, where the state is there already and where it is added
-pub has-child : (trie : Trie) (state letter child : ℕ) → IsTrie trie (length (word_at (words_of trie.steps.items) state) + 1) → state < length (words_of trie.steps.items) → FindsChild trie state letter child → 0 < child → HasChild trie state letter child trie
+pub has-child : (trie : Trie) (state letter child : ℕ)
+    → IsTrie trie (length (word_at (words_of trie.steps.items) state) + 1)
+    → state < length (words_of trie.steps.items)
+    → FindsChild trie state letter child
+    → 0 < child
+    → HasChild trie state letter child trie
 has-child trie state letter child is here finds some =
     let found = finds.found (words_of trie.steps.items) (length (word_at (words_of trie.steps.items) state) + 1) is here in
     record {
@@ -228,7 +255,18 @@ has-child trie state letter child is here finds some =
       grown = found.grown some;
     }
 
-pub adds-child : (old new : Trie) (state letter lacking child : ℕ) → IsTrie old (length (word_at (words_of old.steps.items) state) + 1) → state < length (words_of old.steps.items) → letter < old.width → FindsChild old state letter lacking → lacking ≡ 0 → child ≡ length old.steps.items + 1 → new.steps.items ≡ old.steps.items ++ record { up = state; by = letter; same = slice_index old.firsts.items state } ∷ [] → new.firsts.items ≡ set (old.firsts.items ++ 0 ∷ []) state child → new.width ≡ old.width → length new.steps.items < 1073741824 → HasChild old state letter child new
+pub adds-child : (old new : Trie) (state letter lacking child : ℕ)
+    → IsTrie old (length (word_at (words_of old.steps.items) state) + 1)
+    → state < length (words_of old.steps.items)
+    → letter < old.width
+    → FindsChild old state letter lacking
+    → lacking ≡ 0
+    → child ≡ length old.steps.items + 1
+    → new.steps.items ≡ old.steps.items ++ record { up = state; by = letter; same = slice_index old.firsts.items state } ∷ []
+    → new.firsts.items ≡ set (old.firsts.items ++ 0 ∷ []) state child
+    → new.width ≡ old.width
+    → length new.steps.items < 1073741824
+    → HasChild old state letter child new
 adds-child old new state letter lacking child is here wide finds none number steps firsts width few =
     let words = words_of old.steps.items in
     let last : child ≡ length words = omega (arith, is.count) in

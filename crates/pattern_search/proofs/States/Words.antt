@@ -78,7 +78,10 @@ ended-suffix one word (letter ∷ earlier) a b =
 
 module _ (words : List (List ℕ)) (closed : IsClosed words) where
   -- a state's word against a text with one letter more, by the word above it
-  by_letter : (state : ℕ) (h : state < length words) (letter : ℕ) (text other : List ℕ) → ((up : ℕ) → up < length words → (by : ℕ) → word_at words state ≡ by ∷ word_at words up → ((by == letter) && begins (word_at words up) text) ≡ begins (word_at words state) other) → begins (word_at words state) (letter ∷ text) ≡ begins (word_at words state) other
+  by_letter : (state : ℕ) (h : state < length words) (letter : ℕ) (text other : List ℕ)
+      → ((up : ℕ) → up < length words → (by : ℕ) → word_at words state ≡ by ∷ word_at words up →
+      ((by == letter) && begins (word_at words up) text) ≡ begins (word_at words state) other)
+      → begins (word_at words state) (letter ∷ text) ≡ begins (word_at words state) other
   by_letter state h letter text other step =
       ⊎_elim
       (λ empty. begins-empty (word_at words state) (letter ∷ text) empty ∙ sym (begins-empty (word_at words state) other empty))
@@ -96,7 +99,11 @@ module _ (words : List (List ℕ)) (closed : IsClosed words) where
       ∙ step state h)
 
   -- where no word is longer by the letter, the state is that after the shorter word and the letter
-  pub fail-step : (word fail next : List ℕ) (letter : ℕ) → IsFail words word fail → ((other : ℕ) → other < length words → word_at words other ≡ letter ∷ word → ⊥) → IsAt words (letter ∷ fail) next → IsAt words (letter ∷ word) next
+  pub fail-step : (word fail next : List ℕ) (letter : ℕ)
+      → IsFail words word fail
+      → ((other : ℕ) → other < length words → word_at words other ≡ letter ∷ word → ⊥)
+      → IsAt words (letter ∷ fail) next
+      → IsAt words (letter ∷ word) next
   fail-step word fail next letter is lacks step state h =
       by_letter state h letter word next (λ up within by grown.
       ⊎_elim
@@ -124,7 +131,11 @@ module _ (words : List (List ℕ)) (closed : IsClosed words) where
       none ∙ sym (begins-none (word_at words state) long_enough))
 
   -- the longest word that a word with one letter more ends in
-  pub fail-child : (word fail : List ℕ) (letter next : ℕ) → IsFail words word fail → next < length words → IsAt words (letter ∷ fail) (word_at words next) → IsFail words (letter ∷ word) (word_at words next)
+  pub fail-child : (word fail : List ℕ) (letter next : ℕ)
+      → IsFail words word fail
+      → next < length words
+      → IsAt words (letter ∷ fail) (word_at words next)
+      → IsFail words (letter ∷ word) (word_at words next)
   fail-child word fail letter next is within step = record {
     shorter = omega (arith, is.shorter, begins-length (word_at words next) (letter ∷ fail) (step next within ∙ begins-self (word_at words next)));
     same = λ state h short. by_letter state h letter word (word_at words next) (λ up above by grown.
@@ -140,7 +151,12 @@ fail-first words letter = record {
 }
 
 -- the words that end with a state's: its own, and those that end with its fail's
-pub end-step : (words : List (List ℕ)) (fail : List ℕ) (state end : ℕ) → state < length words → end < length words → ((one other : ℕ) → one < length words → other < length words → word_at words one ≡ word_at words other → one ≡ other) → IsFail words (word_at words state) fail → begins (word_at words end) (word_at words state) ≡ ((end == state) || begins (word_at words end) fail)
+pub end-step : (words : List (List ℕ)) (fail : List ℕ) (state end : ℕ)
+    → state < length words
+    → end < length words
+    → ((one other : ℕ) → one < length words → other < length words → word_at words one ≡ word_at words other → one ≡ other)
+    → IsFail words (word_at words state) fail
+    → begins (word_at words end) (word_at words state) ≡ ((end == state) || begins (word_at words end) fail)
 end-step words fail state end h within apart is =
     let one = word_at words end in
     let word = word_at words state in

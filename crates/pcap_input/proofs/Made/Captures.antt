@@ -8,7 +8,10 @@ use Rattle.pcap_input.specs.declared.capture.CaptureFault.{CaptureFault}
 use Rattle.pcap_input.specs.Cut.{Cut, Clean, IsWhole}
 use Rattle.pcap_input.specs.Savefile.{Follows, captured_length, head_after, head_of, head_with, most_records, number_at, next_of, place_after, records_left, record_of}
 use Rattle.pcap_input.specs.Frames.{ip_fields, ip_header, tcp_fields, tcp_header, udp_header, frame, tcp_frame, udp_frame}
-use Rattle.pcap_input.specs.Generated.{capture_of, draw, first_traffic, frames, generated, has_payload, header_bytes, letters, made, made_cut, made_datagram, made_head, made_of_session, made_segment, marked, payload_at, payload_drawn, record_bytes, record_fields, records_from, step, text_drawn, with_state}
+use Rattle.pcap_input.specs.Generated.{capture_of, draw, first_traffic, frames, generated, has_payload, header_bytes, letters}
+use Rattle.pcap_input.specs.Generated.{made, made_cut, made_datagram, made_head, made_of_session, made_segment, marked}
+use Rattle.pcap_input.specs.Generated.{payload_at, payload_drawn, record_bytes, record_fields, records_from, step, text_drawn}
+use Rattle.pcap_input.specs.Generated.{with_state}
 use Rattle.pcap_input.proofs.Laws.{bytes_follow, head_of-append, next_of_header, next_of_nothing}
 use Rattle.pcap_input.proofs.Made.Making.{text-short}
 use Rattle.pcap_input.proofs.Records.{records_left-ends, records_left-follows}

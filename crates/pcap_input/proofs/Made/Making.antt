@@ -1,5 +1,7 @@
 -- What is made, step by step: each loop told of what is left to make, and each frame by its draws.
-use Rattle.std.proofs.Common.{◌≡◌, ℕ, zero, suc, ◌+◌, ◌-◌, ◌*◌, ◌^◌, ◌<◌, ◌≤◌, Bool, true, false, List, [], ◌∷◌, ◌++◌, length, get_or, map, set, refl, sym, ap, ◌∙◌, add-one, append_assoc, append-nil, length-append, eq-eqb, arith, ◌==◌}
+use Rattle.std.proofs.Common.{◌≡◌, ℕ, zero, suc, ◌+◌, ◌-◌, ◌*◌, ◌^◌, ◌<◌, ◌≤◌, Bool, true, false, List, [], ◌∷◌, ◌++◌, length}
+use Rattle.std.proofs.Common.{get_or, map, set, refl, sym, ap, ◌∙◌, add-one, append_assoc, append-nil, length-append, eq-eqb}
+use Rattle.std.proofs.Common.{arith, ◌==◌}
 use Rattle.std.specs.Prelude.{codes, decimal, slice_set}
 use Rattle.std.proofs.lemmas.Bool.{ne_eqb}
 use Rattle.std.proofs.lemmas.Fmt.{length-decimal-le}
@@ -8,7 +10,10 @@ use Rattle.pcap_input.specs.declared.frames.Segment.{Segment}
 use Rattle.pcap_input.specs.declared.traffic.Session.{Session}
 use Rattle.pcap_input.specs.declared.traffic.Traffic.{Traffic}
 use Rattle.pcap_input.specs.Frames.{tcp_frame, udp_frame}
-use Rattle.pcap_input.specs.Generated.{step, steps, draw, letters, first_session, first_traffic, segment_at, session_after, session_at, payload_at, state_after, text_drawn, with_state, Made, made_of_session, made_segment, made_datagram, made, IsMade, frames, header_bytes, record_bytes, records_from, capture_of, generated}
+use Rattle.pcap_input.specs.Generated.{step, steps, draw, letters, first_session, first_traffic, segment_at, session_after}
+use Rattle.pcap_input.specs.Generated.{session_at, payload_at, state_after, text_drawn, with_state, Made, made_of_session}
+use Rattle.pcap_input.specs.Generated.{made_segment, made_datagram, made, IsMade, frames, header_bytes, record_bytes}
+use Rattle.pcap_input.specs.Generated.{records_from, capture_of, generated}
 
 -- a letter more
 pub letters-step : (left rest state : ℕ) (front whole : List ℕ) → left ≡ rest + 1 → front ++ letters left state ≡ whole → (front ++ (97 + draw 26 state) ∷ []) ++ letters rest (step state) ≡ whole

@@ -11,7 +11,9 @@ use Rattle.pcapng_input.specs.declared.block.Block.{Block}
 use Rattle.pcapng_input.specs.declared.content.Content.{Content}
 use Rattle.pcapng_input.specs.declared.walk.Walk.{Walk}
 use Rattle.pcap_input.specs.Cut.{Clean}
-use Rattle.pcapng_input.specs.Blocks.{section_type, Stops, refused, truncated, bad_block, front_length, is_sized, order_of, new_section, content_of, closing, fronted, known, section_block, other_block, section_begun, begun, is_full, step_of}
+use Rattle.pcapng_input.specs.Blocks.{section_type, Stops, refused, truncated, bad_block, front_length, is_sized, order_of}
+use Rattle.pcapng_input.specs.Blocks.{new_section, content_of, closing, fronted, known, section_block, other_block, section_begun}
+use Rattle.pcapng_input.specs.Blocks.{begun, is_full, step_of}
 use Rattle.pcapng_input.specs.Steps.{HoldsNone, HasRoom}
 use Rattle.pcapng_input.proofs.Blocks.Stages.{IsAfter, IsRefused, CutsBelow}
 

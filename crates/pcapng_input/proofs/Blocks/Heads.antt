@@ -16,7 +16,9 @@ use Rattle.pcapng_input.specs.declared.walk.Walk.{Walk}
 use Rattle.pcapng_input.specs.declared.step.BlockRead.{BlockRead}
 use Rattle.pcapng_input.specs.declared.step.BlockRead.TheVariants as read
 use Rattle.pcap_input.specs.Cut.{Clean, Refused}
-use Rattle.pcapng_input.specs.Blocks.{section_type, Step, Stops, Skips, Gives, refused, truncated, bad_block, is_sized, inner_length, order_of, first_walk, new_section, section_of, content_of, given_by, closing, fronted, known, section_block, opening}
+use Rattle.pcapng_input.specs.Blocks.{section_type, Step, Stops, Skips, Gives, refused, truncated, bad_block, is_sized}
+use Rattle.pcapng_input.specs.Blocks.{inner_length, order_of, first_walk, new_section, section_of, content_of, given_by, closing}
+use Rattle.pcapng_input.specs.Blocks.{fronted, known, section_block, opening}
 use Rattle.pcapng_input.specs.Steps.{TakesLess, EndsBy, Shows}
 use Rattle.pcap_input.specs.Reader.{Tells}
 use Rattle.pcapng_input.specs.Reader.{reader_at, Opens, ShowsHead, TakesHead, IsOfHead, IsHeadAnswer}
@@ -152,7 +154,11 @@ ok_takes contents name walk block old new kind shown opened =
 told_refused : (why : NgFault) (taken rest bytes : List ℕ) (new : Option (List ℕ)) → bytes ≡ taken ++ rest → new ≡ Some rest → EndsBy opening (refused why) taken new → opening bytes ≡ refused why
 told_refused why taken rest bytes new joined still ends = ap opening joined ∙ ends.told rest still
 
-err_by : (walk : Walk) (why : NgFault) (old new : Option (List ℕ)) (rest bytes : List ℕ) → (shown : Shows opening walk (Err why) old new) → bytes ≡ shown.taken ++ rest → new ≡ Some rest → Opens (Err why) (opening bytes)
+err_by : (walk : Walk) (why : NgFault) (old new : Option (List ℕ)) (rest bytes : List ℕ)
+    → (shown : Shows opening walk (Err why) old new)
+    → bytes ≡ shown.taken ++ rest
+    → new ≡ Some rest
+    → Opens (Err why) (opening bytes)
 err_by walk fault.NotPcapng old new rest bytes shown joined still = told_refused _ shown.taken rest bytes new joined still shown.shows
 err_by walk (fault.Truncated at) old new rest bytes shown joined still = told_refused _ shown.taken rest bytes new joined still shown.shows
 err_by walk (fault.BadBlock at) old new rest bytes shown joined still = told_refused _ shown.taken rest bytes new joined still shown.shows

@@ -13,12 +13,16 @@ use Rattle.pcapng_input.specs.declared.content.Content.{Content}
 use Rattle.pcapng_input.specs.declared.walk.Walk.{Walk}
 use Rattle.pcapng_input.specs.declared.step.BlockRead.{BlockRead}
 use Rattle.pcapng_input.specs.declared.step.BlockRead.TheVariants as read
-use Rattle.pcapng_input.specs.Blocks.{section_type, Step, bad_block, front_length, is_sized, inner_length, order_of, first_walk, new_section, content_of, closing, known, section_block, other_block, section_begun, begun, is_full, step_of, opening}
+use Rattle.pcapng_input.specs.Blocks.{section_type, Step, bad_block, front_length, is_sized, inner_length, order_of, first_walk}
+use Rattle.pcapng_input.specs.Blocks.{new_section, content_of, closing, known, section_block, other_block, section_begun, begun}
+use Rattle.pcapng_input.specs.Blocks.{is_full, step_of, opening}
 use Rattle.pcapng_input.specs.Steps.{TakesLess, TakesLast, HoldsNone, Shows}
 use Rattle.pcapng_input.proofs.Blocks.Taking.{nothing_rest}
 use Rattle.pcapng_input.proofs.Blocks.Stages.{shows_after, shows_cut, shows_refused}
 use Rattle.pcapng_input.proofs.Blocks.Closing.{Whole, whole}
-use Rattle.pcapng_input.proofs.Blocks.Begins.{fronted-err, fronted-ok, known_bad, known_cuts, known_fronted, section_cuts, section_none, section_known, begun_section, begun_other, step_nothing, step_full, step_cut, step_begun, step_few}
+use Rattle.pcapng_input.proofs.Blocks.Begins.{fronted-err, fronted-ok, known_bad, known_cuts, known_fronted, section_cuts}
+use Rattle.pcapng_input.proofs.Blocks.Begins.{section_none, section_known, begun_section, begun_other, step_nothing, step_full}
+use Rattle.pcapng_input.proofs.Blocks.Begins.{step_cut, step_begun, step_few}
 use Rattle.pcapng_input.proofs.Blocks.Openings.{opening_short, opening_other, opening_cut, magic_cuts, magic_none, magic_known}
 
 -- all of a block's inner bytes were taken before the last four
@@ -72,7 +76,9 @@ section_refused walk new_walk first magic old new size is took = shows_refused (
 pub section_on : (walk new_walk : Walk) (first magic : List ℕ) (swapped : Bool) (answer : Result BlockRead NgFault) (old mid new : Option (List ℕ)) → length magic ≡ 4 → order_of magic ≡ Some swapped
     → old ≡ before magic mid → Shows (known (new_section walk swapped) (section_block swapped first)) new_walk answer mid new → Shows (section_begun walk first) new_walk answer old new
 section_on walk new_walk first magic swapped answer old mid new size is took shown =
-    shows_after (section_begun walk first) (known (new_section walk swapped) (section_block swapped first)) new_walk answer magic old mid new (section_known walk first magic swapped size is) took shown
+    shows_after (section_begun walk first) (known (new_section walk swapped) (section_block swapped first)) new_walk answer magic
+    old mid new
+    (section_known walk first magic swapped size is) took shown
 
 -- a block after its first eight bytes
 pub begun_on_section : (walk new_walk : Walk) (first : List ℕ) (answer : Result BlockRead NgFault) (old new : Option (List ℕ)) → number_at false 0 4 first ≡ section_type
@@ -141,7 +147,12 @@ pub first_other : (new_walk : Walk) (taken : List ℕ) (old new : Option (List �
     → Shows opening new_walk (Err fault.NotPcapng) old new
 first_other new_walk taken old new long differs took = shows_refused opening new_walk fault.NotPcapng taken old new took (opening_other taken long differs)
 
-pub first_cut : (new_walk : Walk) (taken : List ℕ) (old new : Option (List ℕ)) → 4 ≤ length taken → number_at false 0 4 taken ≡ section_type → length taken < 12 → old ≡ before taken new → NothingLeft new
+pub first_cut : (new_walk : Walk) (taken : List ℕ) (old new : Option (List ℕ))
+    → 4 ≤ length taken
+    → number_at false 0 4 taken ≡ section_type
+    → length taken < 12
+    → old ≡ before taken new
+    → NothingLeft new
     → Shows opening new_walk (Err (fault.Truncated 0)) old new
 first_cut new_walk taken old new long is fewer took nothing = record {
   taken = taken;
@@ -164,9 +175,16 @@ first_none new_walk first magic old mid new size is four none took took_magic =
     shows_after opening (λ more. opening (first ++ more)) new_walk (Err fault.NotPcapng) first old mid new (λ more. refl) took
     (shows_refused (λ more. opening (first ++ more)) new_walk fault.NotPcapng magic mid new took_magic (magic_none first magic size is four none))
 
-pub first_on : (new_walk : Walk) (first magic : List ℕ) (swapped : Bool) (answer : Result BlockRead NgFault) (old mid after new : Option (List ℕ)) → length first ≡ 8 → number_at false 0 4 first ≡ section_type
-    → length magic ≡ 4 → order_of magic ≡ Some swapped → old ≡ before first mid → mid ≡ before magic after
-    → Shows (known (new_section first_walk swapped) (section_block swapped first)) new_walk answer after new → Shows opening new_walk answer old new
+pub first_on : (new_walk : Walk) (first magic : List ℕ) (swapped : Bool) (answer : Result BlockRead NgFault)
+    (old mid after new : Option (List ℕ))
+    → length first ≡ 8
+    → number_at false 0 4 first ≡ section_type
+    → length magic ≡ 4
+    → order_of magic ≡ Some swapped
+    → old ≡ before first mid
+    → mid ≡ before magic after
+    → Shows (known (new_section first_walk swapped) (section_block swapped first)) new_walk answer after new
+    → Shows opening new_walk answer old new
 first_on new_walk first magic swapped answer old mid after new size is four some took took_magic shown =
     shows_after opening (λ more. opening (first ++ more)) new_walk answer first old mid new (λ more. refl) took
     (shows_after (λ more. opening (first ++ more)) (known (new_section first_walk swapped) (section_block swapped first)) new_walk answer magic mid after new

@@ -1,5 +1,6 @@
 -- A beginning of the bytes has a beginning of the records: what a block gives depends on its own bytes.
-use Rattle.std.proofs.Common.{◌≡◌, ℕ, zero, suc, ◌+◌, ◌<◌, ◌≤◌, Bool, true, false, List, [], ◌∷◌, ◌++◌, Option, Some, None, Result, Ok, Err, length, take, drop, refl, sym, ap, subst, append_assoc, ◌∙◌, arith}
+use Rattle.std.proofs.Common.{◌≡◌, ℕ, zero, suc, ◌+◌, ◌<◌, ◌≤◌, Bool, true, false, List, [], ◌∷◌, ◌++◌, Option, Some, None}
+use Rattle.std.proofs.Common.{Result, Ok, Err, length, take, drop, refl, sym, ap, subst, append_assoc, ◌∙◌, arith}
 use Rattle.std.specs.Prelude.{nat_lt, ◌==◌, ⊤}
 use Rattle.std.proofs.lemmas.List.{length-take-le, length-drop, take-append-drop}
 use Rattle.std.proofs.lemmas.Bool.Decides.{nat_tests}
@@ -13,10 +14,15 @@ use Rattle.pcapng_input.specs.declared.resolution.Resolution.{Resolution}
 use Rattle.pcapng_input.specs.declared.walk.Walk.{Walk}
 use Rattle.pcapng_input.specs.Options.{resolution_told}
 use Rattle.pcap_input.specs.Cut.{Ending, Clean}
-use Rattle.pcapng_input.specs.Blocks.{section_type, Step, Stops, Skips, Gives, front_length, is_sized, inner_length, order_of, new_section, content_of, given_by, closing, fronted, known, section_block, other_block, section_begun, begun, is_full, step_of, Next, Ends, Follows, next_along, next_of, records_left}
+use Rattle.pcapng_input.specs.Blocks.{section_type, Step, Stops, Skips, Gives, front_length, is_sized, inner_length, order_of}
+use Rattle.pcapng_input.specs.Blocks.{new_section, content_of, given_by, closing, fronted, known, section_block, other_block}
+use Rattle.pcapng_input.specs.Blocks.{section_begun, begun, is_full, step_of, Next, Ends, Follows, next_along, next_of}
+use Rattle.pcapng_input.specs.Blocks.{records_left}
 use Rattle.pcapng_input.proofs.Blocks.Stages.{IsAfter}
 use Rattle.pcapng_input.proofs.Blocks.Closing.{closing_cuts, closing_whole, given-interface, given-no_resolution}
-use Rattle.pcapng_input.proofs.Blocks.Begins.{fronted-err, fronted-ok, known_bad, known_cuts, known_fronted, section_cuts, section_none, section_known, begun_section, begun_other, step_nothing, step_full, step_cut, step_begun}
+use Rattle.pcapng_input.proofs.Blocks.Begins.{fronted-err, fronted-ok, known_bad, known_cuts, known_fronted, section_cuts}
+use Rattle.pcapng_input.proofs.Blocks.Begins.{section_none, section_known, begun_section, begun_other, step_nothing, step_full}
+use Rattle.pcapng_input.proofs.Blocks.Begins.{step_cut, step_begun}
 use Rattle.pcapng_input.proofs.Captures.Nexts.{next_of-skips, next_of-gives}
 use Rattle.pcapng_input.proofs.Captures.Records.{next_of-shrinks, records_left-ends, records_left-follows}
 
@@ -45,11 +51,18 @@ local_ends stage whole ending is = subst (IsLocal stage whole) (sym is) tt
 local_skips : (stage : List ℕ → Step) (walk : Walk) (own more whole : List ℕ) → whole ≡ own ++ more → ((m : List ℕ) → stage (own ++ m) ≡ Skips walk m) → IsLocal stage whole (stage whole)
 local_skips stage walk own more whole joined is = subst (IsLocal stage whole) (sym (ap stage joined ∙ is more)) (own, (joined, is))
 
-local_gives : (stage : List ℕ → Step) (given : NgRecord) (walk : Walk) (own more whole : List ℕ) → whole ≡ own ++ more → ((m : List ℕ) → stage (own ++ m) ≡ Gives given walk m) → IsLocal stage whole (stage whole)
+local_gives : (stage : List ℕ → Step) (given : NgRecord) (walk : Walk) (own more whole : List ℕ)
+    → whole ≡ own ++ more
+    → ((m : List ℕ) → stage (own ++ m) ≡ Gives given walk m)
+    → IsLocal stage whole (stage whole)
 local_gives stage given walk own more whole joined is = subst (IsLocal stage whole) (sym (ap stage joined ∙ is more)) (own, (joined, is))
 
-interface_local : (walk : Walk) (block : Block) (link snaplen : ℕ) (stage : List ℕ → Step) (inner own more whole : List ℕ) (told : Option Resolution) → resolution_told walk.section.swapped inner ≡ told → whole ≡ own ++ more
-    → ((m : List ℕ) → stage (own ++ m) ≡ given_by walk block (content.Interface link snaplen) inner m) → IsLocal stage whole (stage whole)
+interface_local : (walk : Walk) (block : Block) (link snaplen : ℕ) (stage : List ℕ → Step) (inner own more whole : List ℕ)
+    (told : Option Resolution)
+    → resolution_told walk.section.swapped inner ≡ told
+    → whole ≡ own ++ more
+    → ((m : List ℕ) → stage (own ++ m) ≡ given_by walk block (content.Interface link snaplen) inner m)
+    → IsLocal stage whole (stage whole)
 interface_local walk block link snaplen stage inner own more whole None told joined is =
     local_ends stage whole _ (ap stage joined ∙ is more ∙ given-no_resolution walk block link snaplen inner more told)
 interface_local walk block link snaplen stage inner own more whole (Some resolution) told joined is =
@@ -69,7 +82,9 @@ closed_local walk block told inner last more whole false size four tells joined 
 closed_local walk block told inner last more whole true size four tells joined =
     given_local walk block told (closing walk block told) inner (inner ++ last) more whole joined (λ m. closing_whole walk block told inner last m true size four tells)
 
-closing_by : (walk : Walk) (block : Block) (told : Content) (whole : List ℕ) (short : Bool) → nat_lt (length whole) (inner_length block + 4) ≡ short → IsLocal (closing walk block told) whole (closing walk block told whole)
+closing_by : (walk : Walk) (block : Block) (told : Content) (whole : List ℕ) (short : Bool)
+    → nat_lt (length whole) (inner_length block + 4) ≡ short
+    → IsLocal (closing walk block told) whole (closing walk block told whole)
 closing_by walk block told whole true is =
     local_ends (closing walk block told) whole _ (closing_cuts walk block told whole (grind (arith, nat_tests, is)))
 closing_by walk block told whole false is =
@@ -81,12 +96,17 @@ closing_by walk block told whole false is =
     (sym (take-append-drop (inner_length block) whole) ∙ ap (λ xs. take (inner_length block) whole ++ xs) (sym (take-append-drop 4 after))
     ∙ sym (append_assoc (take (inner_length block) whole) (take 4 after) (drop 4 after)))
 
-fronted_by : (walk : Walk) (block : Block) (front whole : List ℕ) (told : Result Content NgFault) → content_of walk block front ≡ told → IsLocal (fronted walk block front) whole (fronted walk block front whole)
+fronted_by : (walk : Walk) (block : Block) (front whole : List ℕ) (told : Result Content NgFault)
+    → content_of walk block front ≡ told
+    → IsLocal (fronted walk block front) whole (fronted walk block front whole)
 fronted_by walk block front whole (Err why) is = local_ends (fronted walk block front) whole _ (fronted-err walk block front why is whole)
 fronted_by walk block front whole (Ok told) is =
     local_after (fronted walk block front) (closing walk block told) [] whole whole (fronted-ok walk block front told is) refl (closing_by walk block told whole _ refl)
 
-known_by : (walk : Walk) (block : Block) (whole : List ℕ) (sized short : Bool) → is_sized block ≡ sized → nat_lt (length whole) (front_length block.kind) ≡ short → IsLocal (known walk block) whole (known walk block whole)
+known_by : (walk : Walk) (block : Block) (whole : List ℕ) (sized short : Bool)
+    → is_sized block ≡ sized
+    → nat_lt (length whole) (front_length block.kind) ≡ short
+    → IsLocal (known walk block) whole (known walk block whole)
 known_by walk block whole false short sized_is is = local_ends (known walk block) whole _ (known_bad walk block sized_is whole)
 known_by walk block whole true true sized_is is = local_ends (known walk block) whole _ (known_cuts walk block sized_is whole (grind (arith, nat_tests, is)))
 known_by walk block whole true false sized_is is =

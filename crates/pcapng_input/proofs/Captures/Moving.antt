@@ -14,7 +14,9 @@ use Rattle.pcapng_input.specs.declared.resolution.Resolution.{Resolution}
 use Rattle.pcapng_input.specs.declared.walk.Walk.{Walk}
 use Rattle.pcapng_input.specs.Options.{resolution_told}
 use Rattle.pcap_input.specs.Cut.{Ending, Clean}
-use Rattle.pcapng_input.specs.Blocks.{last_place, section_type, Step, Stops, Skips, Gives, refused, truncated, bad_block, front_length, is_sized, inner_length, order_of, new_section, content_of, given_by, closing, fronted, known, section_block, other_block, section_begun, begun, is_full, step_of}
+use Rattle.pcapng_input.specs.Blocks.{last_place, section_type, Step, Stops, Skips, Gives, refused, truncated, bad_block}
+use Rattle.pcapng_input.specs.Blocks.{front_length, is_sized, inner_length, order_of, new_section, content_of, given_by, closing}
+use Rattle.pcapng_input.specs.Blocks.{fronted, known, section_block, other_block, section_begun, begun, is_full, step_of}
 use Rattle.pcapng_input.proofs.Blocks.Sizes.{sized_fits}
 use Rattle.pcapng_input.proofs.Blocks.Begins.{fronted-err, fronted-ok}
 
@@ -67,7 +69,10 @@ known_by walk block count body true is fewer =
 known_moves : (walk : Walk) (block : Block) (count : ℕ) (body : List ℕ) → length body < count → Moves walk.at count (known walk block body)
 known_moves walk block count body fewer = known_by walk block count body (is_sized block) refl fewer
 
-section_by : (walk : Walk) (first : List ℕ) (count : ℕ) (body : List ℕ) (order : Option Bool) → order_of (take 4 body) ≡ order → length body < count → Moves walk.at count (section_begun walk first body)
+section_by : (walk : Walk) (first : List ℕ) (count : ℕ) (body : List ℕ) (order : Option Bool)
+    → order_of (take 4 body) ≡ order
+    → length body < count
+    → Moves walk.at count (section_begun walk first body)
 unfolding section_begun
 section_by walk first count body None is fewer =
     either walk.at count (nat_lt (length body) 4) (truncated walk) _ (λ _. tt) (λ _. rw is tt)

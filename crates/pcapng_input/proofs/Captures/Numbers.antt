@@ -15,7 +15,10 @@ use Rattle.pcapng_input.specs.declared.walk.Walk.{Walk}
 use Rattle.pcapng_input.specs.Options.{resolution_told}
 use Rattle.pcap_input.specs.Savefile.{most_records}
 use Rattle.pcap_input.specs.Cut.{Ending, Clean, Refused}
-use Rattle.pcapng_input.specs.Blocks.{section_type, Step, Stops, Skips, Gives, refused, truncated, bad_block, front_length, is_sized, inner_length, order_of, first_walk, new_section, content_of, given_by, closing, fronted, known, section_block, other_block, section_begun, begun, is_full, step_of, opening, Ends, Follows, next_along, next_of}
+use Rattle.pcapng_input.specs.Blocks.{section_type, Step, Stops, Skips, Gives, refused, truncated, bad_block, front_length}
+use Rattle.pcapng_input.specs.Blocks.{is_sized, inner_length, order_of, first_walk, new_section, content_of, given_by, closing}
+use Rattle.pcapng_input.specs.Blocks.{fronted, known, section_block, other_block, section_begun, begun, is_full, step_of, opening}
+use Rattle.pcapng_input.specs.Blocks.{Ends, Follows, next_along, next_of}
 use Rattle.pcapng_input.proofs.Blocks.Begins.{fronted-err, fronted-ok, begun_section, number_front}
 
 -- the number of records after a step from this number

@@ -24,9 +24,14 @@ use Rattle.frag3_core.specs.declared.answer.Datagram.{Datagram}
 use Rattle.frag3_core.specs.declared.answer.Ignored.{Ignored}
 use Rattle.frag3_core.specs.declared.answer.Taken.TheVariants as answer
 use Rattle.frag3_core.specs.declared.key.DatagramKey.{DatagramKey}
-use Rattle.frag3_core.specs.Trackers.{Frag3State, Fragment, TrackerState, Trackers, after, answer_of, begun, bytes_at, datagram_of, found, held_count, ignored, in_time, is_timed_out, key_of, others, own, same_key, state_after, taken, tracker_of, trackers_after, whole_head, with_own, with_room, without}
+use Rattle.frag3_core.specs.Trackers.{Frag3State, Fragment, TrackerState, Trackers, after, answer_of, begun, bytes_at}
+use Rattle.frag3_core.specs.Trackers.{datagram_of, found, held_count, ignored, in_time, is_timed_out, key_of, others, own}
+use Rattle.frag3_core.specs.Trackers.{same_key, state_after, taken, tracker_of, trackers_after, whole_head, with_own, with_room}
+use Rattle.frag3_core.specs.Trackers.{without}
 use Rattle.record_jobs.specs.declared.item.Item.{Item}
-use Rattle.record_jobs.specs.Packets.{completed_datagram, datagram_from, datagram_in, datagram_item, datagram_of_fragment, datagram_said, frag3_after, fragment_fields, fragment_in, fragment_item, fragment_of, fragments, is_fragment, item_of, packet_fields, packet_from, packet_in, said_by}
+use Rattle.record_jobs.specs.Packets.{completed_datagram, datagram_from, datagram_in, datagram_item, datagram_of_fragment}
+use Rattle.record_jobs.specs.Packets.{datagram_said, frag3_after, fragment_fields, fragment_in, fragment_item, fragment_of}
+use Rattle.record_jobs.specs.Packets.{fragments, is_fragment, item_of, packet_fields, packet_from, packet_in, said_by}
 use Rattle.record_jobs.specs.Way.{LinkedRecord, Way}
 use Rattle.flow_lanes.specs.Fits.{FitsHead, FitsIp}
 use Rattle.record_jobs.specs.Fitting.{AreBytes, HoldsBytes}
@@ -229,7 +234,10 @@ taken_fits frag3 f ip all part = by_ignored (ignored f.ip f.part f.rules)
     by_ignored (Some why) = tt
     by_ignored None = by_bytes (datagram_of (own frag3 f)) (datagram_fits (own frag3 f) (own_fits frag3 f all part))
 
-completed_fits : (way : Way) (waiting : Option Frag3State) (moment : Moment) (fields : Fields) → FitsWaiting waiting → FitsFields fields → IfSome (datagram_of_fragment way waiting moment fields) FitsDatagram
+completed_fits : (way : Way) (waiting : Option Frag3State) (moment : Moment) (fields : Fields)
+    → FitsWaiting waiting
+    → FitsFields fields
+    → IfSome (datagram_of_fragment way waiting moment fields) FitsDatagram
 unfolding datagram_of_fragment
 completed_fits way waiting moment fields all fits = by_both way.frag waiting all
   where

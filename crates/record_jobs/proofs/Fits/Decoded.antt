@@ -1,5 +1,6 @@
 -- What is read of bytes fits: addresses of one version, and numbers that have as many bytes as headers give them.
-use Rattle.std.proofs.Common.{◌≡◌, ℕ, zero, suc, ◌+◌, ◌-◌, ◌*◌, ◌/◌, ◌^◌, ◌<◌, ◌≤◌, Bool, true, false, cond, not, ◌&&◌, ◌||◌, nat_lt, ◌==◌, List, length, take, drop, Result, Ok, Err, refl, sym, ap, ◌∙◌, subst, arith}
+use Rattle.std.proofs.Common.{◌≡◌, ℕ, zero, suc, ◌+◌, ◌-◌, ◌*◌, ◌/◌, ◌^◌, ◌<◌, ◌≤◌, Bool, true, false, cond, not, ◌&&◌, ◌||◌}
+use Rattle.std.proofs.Common.{nat_lt, ◌==◌, List, length, take, drop, Result, Ok, Err, refl, sym, ap, ◌∙◌, subst, arith}
 use Rattle.std.specs.Prelude.{IfOk, slice_index}
 use Rattle.std.specs.List.{All}
 use Rattle.std.proofs.lemmas.Bool.Decides.{nat_tests}
@@ -18,7 +19,9 @@ use Rattle.packet_decode.specs.declared.skip.Skip.{Skip}
 use Rattle.packet_decode.specs.declared.skip.Skip.TheVariants as skip
 use Rattle.packet_decode.specs.declared.version.IpVersion.TheVariants.{Four, Six}
 use Rattle.packet_decode.specs.Checksum.{is_all_ones}
-use Rattle.packet_decode.specs.Decoding.{Fields, data_bounds, datagram_at, datagram_decoded, decoded, icmp_at, ip_head_at, is_fragment, is_message_right, is_segment_right, link_start, tcp_at, tcp_head_at, transport_at, udp_at}
+use Rattle.packet_decode.specs.Decoding.{Fields, data_bounds, datagram_at, datagram_decoded, decoded, icmp_at, ip_head_at}
+use Rattle.packet_decode.specs.Decoding.{is_fragment, is_message_right, is_segment_right, link_start, tcp_at, tcp_head_at}
+use Rattle.packet_decode.specs.Decoding.{transport_at, udp_at}
 use Rattle.packet_decode.specs.Versions.{icmp_protocol, version_of}
 use Rattle.ipv6_decode.specs.declared.walk.Walk.{Walk}
 use Rattle.ipv6_decode.specs.Decoding6.{datagram_decoded6, decoded6, packet_at, packet_after, upper_at, walk_start}
@@ -97,8 +100,11 @@ udp_fits ip bytes start stop check fits all =
     let carried = body.Udp (be16 bytes start) (be16 bytes (start + 2)) in
     choose FitsFields (nat_lt stop (start + 8)) (Err skip.Malformed) _ tt
     (choose FitsFields (nat_lt len 8 || nat_lt stop (start + len)) (Err skip.Malformed) _ tt
-    (choose FitsFields (check && not (be16 bytes (start + 6) == 0) && not (is_segment_right ip (slice bytes start (start + len)))) (Err skip.Checksum) (Ok (record { ip = ip; body = carried; payload = payload })) tt
-    (carrying ip carried payload fits (slice_fits bytes (start + 8) (start + len) all) (two_fit bytes start all, two_fit bytes (start + 2) all))))
+    (choose FitsFields (check && not (be16 bytes (start + 6) == 0) && not (is_segment_right ip (slice bytes start (start + len))))
+    (Err skip.Checksum)
+    (Ok (record { ip = ip; body = carried; payload = payload })) tt
+    (carrying ip carried payload fits (slice_fits bytes (start + 8) (start + len) all)
+    (two_fit bytes start all, two_fit bytes (start + 2) all))))
 
 icmp_fits : (ip : IpHead) (bytes : List ℕ) (start stop : ℕ) (check : Bool) → FitsIp ip → AreBytes bytes → IfOk (icmp_at ip bytes start stop check) FitsFields
 unfolding icmp_at

@@ -60,7 +60,9 @@ numbered_fit number moment (first ∷ later) all =
 pub jobs_fit : (way : Way) (before : List LinkedRecord) (r : LinkedRecord) → All HoldsBytes before → HoldsBytes r → All FitsJob (jobs way before r)
 unfolding jobs works
 jobs_fit way before r earlier own =
-    numbered_fit (job_count way before) r.captured.moment (works way before r) (works_fit way (time_of before r) (touch_in way before r) (fragment_item way r) (packet_in way before r) (fragment_brought way r own) (packet_brought way before r earlier own))
+    numbered_fit (job_count way before) r.captured.moment (works way before r)
+    (works_fit way (time_of before r) (touch_in way before r) (fragment_item way r) (packet_in way before r)
+    (fragment_brought way r own) (packet_brought way before r earlier own))
 
 pub last_fits : (way : Way) (records : List LinkedRecord) → All FitsJob (finishes way records)
 unfolding finishes

@@ -83,7 +83,10 @@ counts_as base o fragment rebuilt fresh =
     let more : RecordCounts = with_skip base o in
     record more { records = more.records + 1; fragments = more.fragments + one_if fragment; rebuilt = more.rebuilt + one_if rebuilt; flows = more.flows + one_if fresh }
 
-counts_as-grown : (base : RecordCounts) (o : Option Skip) (f b t : Bool) → counts_as base o f b t ≡ grown base (one_for is_short o) (one_for is_other o) (one_for is_checksum o) (one_for is_malformed o) (one_if f) (one_if b) (one_if t)
+counts_as-grown : (base : RecordCounts) (o : Option Skip) (f b t : Bool)
+    → counts_as base o f b t ≡
+    grown base (one_for is_short o) (one_for is_other o) (one_for is_checksum o) (one_for is_malformed o) (one_if f) (one_if b)
+    (one_if t)
 unfolding counts_as
 counts_as-grown base o f b t = sym (content_grown base o (one_if f) (one_if b) (one_if t))
 
@@ -96,7 +99,9 @@ begun-option max earlier (Some key) = fresh (is_live max earlier key)
     fresh true = omega arith
     fresh false = refl
 
-skips_more : (way : Way) (before : List LinkedRecord) (r : LinkedRecord) (is_reason : Skip → Bool) → count_by is_reason (skips way (before ++ r ∷ [])) ≡ count_by is_reason (skips way before) + one_for is_reason (skip_in way before r)
+skips_more : (way : Way) (before : List LinkedRecord) (r : LinkedRecord) (is_reason : Skip → Bool)
+    → count_by is_reason (skips way (before ++ r ∷ [])) ≡
+    count_by is_reason (skips way before) + one_for is_reason (skip_in way before r)
 unfolding one_for
 skips_more way before r is_reason =
     ap (count_by is_reason) (trail-push (λ before r. option_to_list (skip_in way before r)) before r)
@@ -109,7 +114,9 @@ length-option (Some x) = refl
 filter_map-one : {X : Type 0} (h : LinkedRecord → Option X) (r : LinkedRecord) → length (filter_map h (r ∷ [])) ≡ one_if (is_some (h r))
 filter_map-one h r = elim (h r) as (λ o. length (Rattle.std.specs.List.cons_option o []) ≡ one_if (is_some o)) [ None ↦ refl | Some x ↦ refl ]
 
-fragments_more : (way : Way) (before : List LinkedRecord) (r : LinkedRecord) → length (fragments_read way (before ++ r ∷ [])) ≡ length (fragments_read way before) + one_if (is_some (fragment_fields (said_by way r)))
+fragments_more : (way : Way) (before : List LinkedRecord) (r : LinkedRecord)
+    → length (fragments_read way (before ++ r ∷ [])) ≡
+    length (fragments_read way before) + one_if (is_some (fragment_fields (said_by way r)))
 fragments_more way before r =
     ap length (filter_map-append (λ r. fragment_fields (said_by way r)) before (r ∷ []))
     ∙ length-append (fragments_read way before) (filter_map (λ r. fragment_fields (said_by way r)) (r ∷ []))
@@ -121,15 +128,23 @@ datagrams_more way before r =
     ∙ length-append (datagrams way before) (option_to_list (datagram_in way before r))
     ∙ ap (λ n. length (datagrams way before) + n) (length-option (datagram_in way before r))
 
-flows_more : (way : Way) (before : List LinkedRecord) (r : LinkedRecord) → begun (most_flows way.stream) (touches way (before ++ r ∷ [])) ≡ begun (most_flows way.stream) (touches way before) + one_if (is_fresh (touch_in way before r))
+flows_more : (way : Way) (before : List LinkedRecord) (r : LinkedRecord)
+    → begun (most_flows way.stream) (touches way (before ++ r ∷ [])) ≡
+    begun (most_flows way.stream) (touches way before) + one_if (is_fresh (touch_in way before r))
 unfolding touch_in
 flows_more way before r =
     ap (begun (most_flows way.stream)) (touches-push way before r)
     ∙ begun-option (most_flows way.stream) (touches way before) (key_in way before r)
 
-counts-grown : (way : Way) (before : List LinkedRecord) (r : LinkedRecord) → counts way (before ++ r ∷ [])
-    ≡ grown (counts way before) (one_for is_short (skip_in way before r)) (one_for is_other (skip_in way before r)) (one_for is_checksum (skip_in way before r)) (one_for is_malformed (skip_in way before r))
-    (one_if (is_some (fragment_fields (said_by way r)))) (one_if (is_some (datagram_in way before r))) (one_if (is_fresh (touch_in way before r)))
+counts-grown : (way : Way) (before : List LinkedRecord) (r : LinkedRecord)
+    → counts way (before ++ r ∷ [])
+    ≡ grown (counts way before) (one_for is_short (skip_in way before r))
+    (one_for is_other (skip_in way before r))
+    (one_for is_checksum (skip_in way before r))
+    (one_for is_malformed (skip_in way before r))
+    (one_if (is_some (fragment_fields (said_by way r))))
+    (one_if (is_some (datagram_in way before r)))
+    (one_if (is_fresh (touch_in way before r)))
 unfolding counts grown made
 counts-grown way before r =
     same_made _ _ _ _ _ _ _ _ _ _ _ _ _ _ _ _

@@ -21,7 +21,10 @@ use Rattle.record_jobs.specs.Way.{LinkedRecord, Way}
 use Rattle.record_jobs.proofs.Growth.{numbered-append}
 
 -- a front that has taken no record
-pub holds_none : (way : Way) (frag3 : Option Frag3State) (flows : FlowsState) → frag3 ≡ option_map (λ (config : FragConfig). record { max_frags = config.max_frags; trackers = [] }) way.frag → HasSeen flows [] → flows.max ≡ most_flows way.stream
+pub holds_none : (way : Way) (frag3 : Option Frag3State) (flows : FlowsState)
+    → frag3 ≡ option_map (λ (config : FragConfig). record { max_frags = config.max_frags; trackers = [] }) way.frag
+    → HasSeen flows []
+    → flows.max ≡ most_flows way.stream
     → IsFrontAfter way
     (record {
       frag3 = frag3;
@@ -44,8 +47,11 @@ holds_none way frag3 flows waiting seen most = record {
 }
 
 -- the ends of these flows are those after the records
-pub finishes-are : (way : Way) (front : FrontState) (before : List LinkedRecord) (jobs_old jobs_new : List Job) (flows : List ℕ) → IsFrontAfter way front before → flows ≡ live_flows front.flows.max (touches way before)
-    → jobs_new ≡ jobs_old ++ numbered front.next front.last (map (λ flow. work.Finish flow) flows) → jobs_new ≡ jobs_old ++ finishes way before
+pub finishes-are : (way : Way) (front : FrontState) (before : List LinkedRecord) (jobs_old jobs_new : List Job) (flows : List ℕ)
+    → IsFrontAfter way front before
+    → flows ≡ live_flows front.flows.max (touches way before)
+    → jobs_new ≡ jobs_old ++ numbered front.next front.last (map (λ flow. work.Finish flow) flows)
+    → jobs_new ≡ jobs_old ++ finishes way before
 unfolding finishes
 finishes-are way front before jobs_old jobs_new flows holds live added =
     added
@@ -66,9 +72,12 @@ finishes_more old now new first number moment flows i below number_is now_is new
     new_is
     ∙ ap (λ (js : List Job). js ++ numbered number moment (work.Finish (get_or flows i 0) ∷ [])) now_is
     ∙ append_assoc old (numbered first moment todos) (numbered number moment (work.Finish (get_or flows i 0) ∷ []))
-    ∙ ap (λ (n : ℕ). old ++ (numbered first moment todos ++ numbered n moment (work.Finish (get_or flows i 0) ∷ []))) (number_is ∙ ap (λ (n : ℕ). first + n) (sym so_many))
+    ∙ ap (λ (n : ℕ). old ++ (numbered first moment todos ++ numbered n moment (work.Finish (get_or flows i 0) ∷ [])))
+    (number_is ∙ ap (λ (n : ℕ). first + n) (sym so_many))
     ∙ ap (λ (js : List Job). old ++ js) (sym (numbered-append first moment todos (work.Finish (get_or flows i 0) ∷ [])))
-    ∙ ap (λ (ws : List Work). old ++ numbered first moment ws) (sym (ap (map (λ flow. work.Finish flow)) (take_more flows i 0 below) ∙ map-append (λ flow. work.Finish flow) (take i flows) (get_or flows i 0 ∷ [])))
+    ∙ ap (λ (ws : List Work). old ++ numbered first moment ws)
+    (sym (ap (map (λ flow. work.Finish flow)) (take_more flows i 0 below) ∙
+    map-append (λ flow. work.Finish flow) (take i flows) (get_or flows i 0 ∷ [])))
   where
     todos : List Work
     todos = map (λ flow. work.Finish flow) (take i flows)

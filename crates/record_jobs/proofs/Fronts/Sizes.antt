@@ -17,7 +17,9 @@ use Rattle.frag3_core.specs.declared.answer.Ignored.{Ignored}
 use Rattle.frag3_core.specs.declared.answer.Ignored.TheVariants as ignored_for
 use Rattle.frag3_core.specs.declared.answer.Taken.TheVariants as answer
 use Rattle.frag3_core.specs.declared.key.DatagramKey.{DatagramKey}
-use Rattle.frag3_core.specs.Trackers.{Frag3State, Fragment, TrackerState, Trackers, after, answer_of, begun, bytes_at, datagram_of, end_of, found, ignored, in_time, key_of, others, own, same_key, state_after, taken, tracker_of, trackers_after, with_own, with_room, without, held_count, is_timed_out}
+use Rattle.frag3_core.specs.Trackers.{Frag3State, Fragment, TrackerState, Trackers, after, answer_of, begun, bytes_at}
+use Rattle.frag3_core.specs.Trackers.{datagram_of, end_of, found, ignored, in_time, key_of, others, own, same_key, state_after}
+use Rattle.frag3_core.specs.Trackers.{taken, tracker_of, trackers_after, with_own, with_room, without, held_count, is_timed_out}
 use Rattle.record_jobs.specs.Packets.{datagram_from, datagram_of_fragment, fragment_of, fragments, frag3_after, fragment_fields, said_by, completed_datagram}
 use Rattle.record_jobs.specs.Steps.{IsShortDatagram}
 use Rattle.record_jobs.specs.Way.{LinkedRecord, Way}
@@ -43,7 +45,9 @@ short_roomy most (entry ∷ rest) short =
 
 short_in_time : (f : Fragment) (ts : Trackers) → AreShortEnds ts → AreShortEnds (in_time f ts)
 short_in_time f ts short =
-    elim (option_map_or (is_timed_out f.moment) (tracker_of (key_of f.ip) ts) false) as (λ b. AreShortEnds (cond b (without (key_of f.ip) ts) ts)) [ true ↦ short_removed (key_of f.ip) ts short | false ↦ short ]
+    elim (option_map_or (is_timed_out f.moment) (tracker_of (key_of f.ip) ts) false) as
+    (λ b. AreShortEnds (cond b (without (key_of f.ip) ts) ts))
+    [ true ↦ short_removed (key_of f.ip) ts short | false ↦ short ]
 
 short_found : (key : DatagramKey) (ts : Trackers) → AreShortEnds ts → (begin : TrackerState) → IsShortEnd begin.end → IsShortEnd (unwrap_or (lookup (same_key key) ts) begin).end
 short_found key [] short begin h = h
@@ -103,7 +107,10 @@ length-bytes_at : (byte : ℕ → Option ℕ) (places : List ℕ) → IfSome (by
 length-bytes_at byte [] = refl
 length-bytes_at byte (place ∷ later) = go (byte place) (bytes_at byte later) (length-bytes_at byte later)
   where
-    go : (first : Option ℕ) (rest : Option (List ℕ)) → IfSome rest (λ bytes. length bytes ≡ length later) → IfSome (option_and_then (λ first. option_map (λ rest. first ∷ rest) rest) first) (λ bytes. length bytes ≡ suc (length later))
+    go : (first : Option ℕ) (rest : Option (List ℕ))
+        → IfSome rest (λ bytes. length bytes ≡ length later)
+        → IfSome (option_and_then (λ first. option_map (λ rest. first ∷ rest) rest) first)
+        (λ bytes. length bytes ≡ suc (length later))
     go None rest h = tt
     go (Some b) None h = tt
     go (Some b) (Some bytes) h = ap suc h
@@ -139,8 +146,11 @@ short_fragment : (way : Way) (before : List LinkedRecord) (moment : Moment) (fie
 unfolding datagram_of_fragment frag3_after
 short_fragment way before moment fields = go way.frag
   where
-    go : (frag : Option FragConfig) → IfSome (option_and_then (λ (config : FragConfig). option_and_then (λ (frag3 : Frag3State). completed_datagram (taken frag3 (fragment_of way config moment fields)))
-        (option_map (λ (config : FragConfig). state_after config.max_frags (fragments way config before)) frag)) frag) IsShortDatagram
+    go : (frag : Option FragConfig)
+        → IfSome (option_and_then (λ (config : FragConfig). option_and_then
+        (λ (frag3 : Frag3State). completed_datagram (taken frag3 (fragment_of way config moment fields)))
+        (option_map (λ (config : FragConfig). state_after config.max_frags (fragments way config before)) frag)) frag)
+        IsShortDatagram
     go None = tt
     go (Some config) = short_taken (state_after config.max_frags (fragments way config before)) (fragment_of way config moment fields) (short_state config.max_frags (fragments way config before))
 

@@ -18,7 +18,9 @@ use Rattle.record_jobs.specs.declared.content.RecordContent.{RecordContent}
 use Rattle.record_jobs.specs.Fronts.{FrontState}
 use Rattle.record_jobs.specs.Jobs.{time_by, works_by}
 use Rattle.record_jobs.specs.Packets.{datagram_from, is_fragment, item_of, said_by}
-use Rattle.record_jobs.specs.Steps.{Adds, FindsTouch, HasShortPacket, IsShortDatagram, SeesKey, Steps, content_from, content_key, content_works, counts_after, is_fresh, one_if, packet_content, record_content, waiting_after, waiting_after_fragment, waiting_from}
+use Rattle.record_jobs.specs.Steps.{Adds, FindsTouch, HasShortPacket, IsShortDatagram, SeesKey, Steps, content_from, content_key}
+use Rattle.record_jobs.specs.Steps.{content_works, counts_after, is_fresh, one_if, packet_content, record_content, waiting_after}
+use Rattle.record_jobs.specs.Steps.{waiting_after_fragment, waiting_from}
 use Rattle.record_jobs.specs.Touches.{tracked_key}
 use Rattle.record_jobs.specs.Way.{LinkedRecord, Way}
 use Rattle.record_jobs.proofs.Fronts.Contents.{content_from-packet}

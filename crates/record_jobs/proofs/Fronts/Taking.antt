@@ -46,11 +46,16 @@ unfolding flow_packet
 short_packet way time None item h = tt
 short_packet way time (Some touch) item h = h
 
-short_works : (way : Way) (time : Time) (touch : Option Touch) (fragment packet : Option Item) → IfSome packet (λ item. length item.payload ≤ 65535) → AllByRecursion HasShortWork (works_by way time touch fragment packet)
+short_works : (way : Way) (time : Time) (touch : Option Touch) (fragment packet : Option Item)
+    → IfSome packet (λ item. length item.payload ≤ 65535)
+    → AllByRecursion HasShortWork (works_by way time touch fragment packet)
 short_works way time touch fragment packet h =
-    AllByRecursion-append HasShortWork (option_to_list (option_map (λ flow. work.Finish flow) (evicted_by touch))) (option_to_list (option_map alone fragment) ++ option_to_list (option_map (packet_work way time touch) packet))
+    AllByRecursion-append HasShortWork (option_to_list (option_map (λ flow. work.Finish flow) (evicted_by touch)))
+    (option_to_list (option_map alone fragment) ++ option_to_list (option_map (packet_work way time touch) packet))
     (finish (evicted_by touch))
-    (AllByRecursion-append HasShortWork (option_to_list (option_map alone fragment)) (option_to_list (option_map (packet_work way time touch) packet)) (part fragment) (whole packet h))
+    (AllByRecursion-append HasShortWork (option_to_list (option_map alone fragment))
+    (option_to_list (option_map (packet_work way time touch) packet))
+    (part fragment) (whole packet h))
   where
     finish : (o : Option ℕ) → AllByRecursion HasShortWork (option_to_list (option_map (λ flow. work.Finish flow) o))
     finish None = tt
@@ -76,7 +81,9 @@ touch_in-is : (way : Way) (before : List LinkedRecord) (r : LinkedRecord) → op
 unfolding touch_in
 touch_in-is way before r = refl
 
-works-are : (way : Way) (before : List LinkedRecord) (r : LinkedRecord) → works_by way (time_by (begin_of before) r) (touch_in way before r) (fragment_item way r) (packet_in way before r) ≡ works way before r
+works-are : (way : Way) (before : List LinkedRecord) (r : LinkedRecord)
+    → works_by way (time_by (begin_of before) r) (touch_in way before r) (fragment_item way r) (packet_in way before r) ≡
+    works way before r
 unfolding works
 works-are way before r = refl
 

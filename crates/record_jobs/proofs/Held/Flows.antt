@@ -1,5 +1,6 @@
 -- A flow of which TCP was seen is the flow of a key of TCP that lives.
-use Rattle.std.proofs.Common.{◌≡◌, ℕ, ◌+◌, ◌<◌, ◌⊎◌, inl, inr, ⊎_elim, Bool, true, false, cond, not, ◌&&◌, ◌||◌, ◌==◌, List, [], ◌∷◌, ◌++◌, Option, Some, None, fold, refl, sym, ap, subst, ◌∙◌, arith, append_assoc, append-nil}
+use Rattle.std.proofs.Common.{◌≡◌, ℕ, ◌+◌, ◌<◌, ◌⊎◌, inl, inr, ⊎_elim, Bool, true, false, cond, not, ◌&&◌, ◌||◌, ◌==◌, List, []}
+use Rattle.std.proofs.Common.{◌∷◌, ◌++◌, Option, Some, None, fold, refl, sym, ap, subst, ◌∙◌, arith, append_assoc, append-nil}
 use Rattle.std.specs.Prelude.{option_and_then}
 use Rattle.std.specs.Option.{option_map, option_to_list}
 use Rattle.std.proofs.lemmas.Bool.{false≢true, eqb-true}
@@ -46,7 +47,10 @@ unfolding tracked_key
 tracked-tcp stream ip (body.Tcp head) key e is = go stream.tcp e
   where
     go : (b : Bool) → cond b (Some (key_between true ip head.sport head.dport)) None ≡ Some key → key.tcp ≡ true
-    go true e = let same : key ≡ key_between true ip head.sport head.dport = cc in ap (λ (k : Key). k.tcp) same ∙ key_of-tcp true (record { addr = ip.src; port = head.sport }) (record { addr = ip.dst; port = head.dport })
+    go true e =
+        let same : key ≡ key_between true ip head.sport head.dport = cc in
+        ap (λ (k : Key). k.tcp) same
+        ∙ key_of-tcp true (record { addr = ip.src; port = head.sport }) (record { addr = ip.dst; port = head.dport })
     go false e = cc
 tracked-tcp stream ip (body.Udp sport dport) key e is = absurd (false≢true is)
 tracked-tcp stream ip (body.Icmp kind code id seq) key e is = cc
@@ -72,7 +76,11 @@ pub record IsOfTcp (max : MaxFlows) (touches : List Key) (flow : ℕ) : Type 0 w
   pub live : is_live max touches key ≡ true
   pub number : flow_number max touches key ≡ flow
 
-tcp-stays : (max : MaxFlows) (touches : List Key) (key : Key) (flow : ℕ) → 0 < max_for max key.tcp → IsOfTcp max touches flow → (evicted_flow max touches key ≡ Some flow → ⊥) → IsOfTcp max (key ∷ touches) flow
+tcp-stays : (max : MaxFlows) (touches : List Key) (key : Key) (flow : ℕ)
+    → 0 < max_for max key.tcp
+    → IsOfTcp max touches flow
+    → (evicted_flow max touches key ≡ Some flow → ⊥)
+    → IsOfTcp max (key ∷ touches) flow
 tcp-stays max touches key flow some old told = by_live (is_live max (key ∷ touches) old.key) refl
   where
     by_live : (b : Bool) → is_live max (key ∷ touches) old.key ≡ b → IsOfTcp max (key ∷ touches) flow
@@ -96,7 +104,10 @@ module _ (flow : ℕ) (moment : Moment) where
     Begins touch packet = (touch.flow ≡ flow) × IsTcp packet
 
     -- the packet, once the fragment by itself is passed over
-    of_packet : (touch : Touch) (packet : Option Item) (was : Bool) (number : ℕ) → after was number (option_to_list (option_map alone fragment) ++ option_to_list (option_map (packet_work way time (Some touch)) packet)) ≡ true
+    of_packet : (touch : Touch) (packet : Option Item) (was : Bool) (number : ℕ)
+        → after was number
+        (option_to_list (option_map alone fragment) ++ option_to_list (option_map (packet_work way time (Some touch)) packet)) ≡
+        true
         → (was ≡ true) ⊎ Begins touch packet
     unfolding flow_packet
     of_packet touch packet was number h = by_fragment fragment packet number h
@@ -116,7 +127,12 @@ module _ (flow : ℕ) (moment : Moment) where
                 (by_was was (is_tcp item.head.body) h)
             by_flow false is h = inl h
 
-        by_fragment : (fragment packet : Option Item) (number : ℕ) → after was number (option_to_list (option_map alone fragment) ++ option_to_list (option_map (packet_work way time (Some touch)) packet)) ≡ true → (was ≡ true) ⊎ Begins touch packet
+        by_fragment : (fragment packet : Option Item) (number : ℕ)
+            → after was number
+            (option_to_list (option_map alone fragment) ++
+            option_to_list (option_map (packet_work way time (Some touch)) packet)) ≡
+            true
+            → (was ≡ true) ⊎ Begins touch packet
         by_fragment None packet number h = by_packet packet number h
         by_fragment (Some item) packet number h = by_packet packet (number + 1) h
 
@@ -135,8 +151,13 @@ module _ (flow : ℕ) (moment : Moment) where
         → ((was ≡ true) × (touch.evicted ≡ Some flow → ⊥)) ⊎ Begins touch packet
     touched touch packet was number h = by_ended touch.evicted refl h
       where
-        by_ended : (ended : Option ℕ) → touch.evicted ≡ ended
-            → after was number (option_to_list (option_map (λ flow. work.Finish flow) ended) ++ (option_to_list (option_map alone fragment) ++ option_to_list (option_map (packet_work way time (Some touch)) packet))) ≡ true
+        by_ended : (ended : Option ℕ)
+            → touch.evicted ≡ ended
+            → after was number
+            (option_to_list (option_map (λ flow. work.Finish flow) ended) ++
+            (option_to_list (option_map alone fragment) ++
+            option_to_list (option_map (packet_work way time (Some touch)) packet))) ≡
+            true
             → ((was ≡ true) × (touch.evicted ≡ Some flow → ⊥)) ⊎ Begins touch packet
         by_ended None is h = ⊎_elim
             (λ (still : was ≡ true). inl (still, λ told. let none = sym is ∙ told in cc))
@@ -178,29 +199,48 @@ module _ (way : Way) (tcp : 0 < way.stream.max_tcp) (udp : 0 < way.stream.max_ud
       let split = ap (is_seen flow) (trail-push (jobs way) before r) ∙ fold-append (seen_of flow) false (trail (jobs way) before) (jobs way before r) in
       by_key flow (key_in way before r) refl (opened flow (sym split ∙ is))
     where
-      opened : (flow : ℕ) → fold (seen_of flow) (is_seen flow (trail (jobs way) before)) (jobs way before r) ≡ true
-          → after flow r.captured.moment (is_seen flow (trail (jobs way) before)) (job_count way before) (works_by way (time_of before r) (touch_in way before r) (fragment_item way r) (packet_in way before r)) ≡ true
+      opened : (flow : ℕ)
+          → fold (seen_of flow) (is_seen flow (trail (jobs way) before)) (jobs way before r) ≡ true
+          → after flow r.captured.moment (is_seen flow (trail (jobs way) before)) (job_count way before)
+          (works_by way (time_of before r) (touch_in way before r) (fragment_item way r) (packet_in way before r)) ≡
+          true
       opened flow h = h
 
       at_touches : (flow : ℕ) (keys : List Key) → touches way (before ++ r ∷ []) ≡ keys → IsOfTcp max keys flow → IsOfTcp max (touches way (before ++ r ∷ [])) flow
       at_touches flow keys is has = subst (λ (ks : List Key). IsOfTcp max ks flow) (sym is) has
 
-      by_key : (flow : ℕ) (key : Option Key) → key_in way before r ≡ key
-          → after flow r.captured.moment (is_seen flow (trail (jobs way) before)) (job_count way before) (works_by way (time_of before r) (touch_in way before r) (fragment_item way r) (packet_in way before r)) ≡ true
+      by_key : (flow : ℕ) (key : Option Key)
+          → key_in way before r ≡ key
+          → after flow r.captured.moment (is_seen flow (trail (jobs way) before)) (job_count way before)
+          (works_by way (time_of before r) (touch_in way before r) (fragment_item way r) (packet_in way before r)) ≡
+          true
           → IsOfTcp max (touches way (before ++ r ∷ [])) flow
       by_key flow None none h =
           let no_touch = ap (option_map (touch_found max (touches way before))) none in
-          let still = untouched flow r.captured.moment way (time_of before r) (fragment_item way r) (packet_in way before r) (is_seen flow (trail (jobs way) before)) (job_count way before)
-          (subst (λ (t : Option Touch). after flow r.captured.moment (is_seen flow (trail (jobs way) before)) (job_count way before) (works_by way (time_of before r) t (fragment_item way r) (packet_in way before r)) ≡ true) no_touch h) in
-          at_touches flow (touches way before) (touches-push way before r ∙ ap (λ (o : Option Key). option_to_list o ++ touches way before) none) (seen flow still)
+          let still =
+          untouched flow r.captured.moment way (time_of before r) (fragment_item way r) (packet_in way before r)
+          (is_seen flow (trail (jobs way) before)) (job_count way before)
+          (subst (λ (t : Option Touch). after flow r.captured.moment (is_seen flow (trail (jobs way) before))
+          (job_count way before) (works_by way (time_of before r) t (fragment_item way r) (packet_in way before r)) ≡
+          true) no_touch h) in
+          at_touches flow (touches way before)
+          (touches-push way before r ∙ ap (λ (o : Option Key). option_to_list o ++ touches way before) none)
+          (seen flow still)
       by_key flow (Some key) found h =
           let touch = touch_found max (touches way before) key in
           let one_touch = ap (option_map (touch_found max (touches way before))) found in
-          let why = touched flow r.captured.moment way (time_of before r) (fragment_item way r) touch (packet_in way before r) (is_seen flow (trail (jobs way) before)) (job_count way before)
-          (subst (λ (t : Option Touch). after flow r.captured.moment (is_seen flow (trail (jobs way) before)) (job_count way before) (works_by way (time_of before r) t (fragment_item way r) (packet_in way before r)) ≡ true) one_touch h) in
-          at_touches flow (key ∷ touches way before) (touches-push way before r ∙ ap (λ (o : Option Key). option_to_list o ++ touches way before) found)
+          let why =
+          touched flow r.captured.moment way (time_of before r) (fragment_item way r) touch (packet_in way before r)
+          (is_seen flow (trail (jobs way) before)) (job_count way before)
+          (subst (λ (t : Option Touch). after flow r.captured.moment (is_seen flow (trail (jobs way) before))
+          (job_count way before) (works_by way (time_of before r) t (fragment_item way r) (packet_in way before r)) ≡
+          true) one_touch h) in
+          at_touches flow (key ∷ touches way before)
+          (touches-push way before r ∙ ap (λ (o : Option Key). option_to_list o ++ touches way before) found)
           (⊎_elim
-          (λ (stays : (is_seen flow (trail (jobs way) before) ≡ true) × (evicted_flow max (touches way before) key ≡ Some flow → ⊥)). tcp-stays max (touches way before) key flow (some key) (seen flow stays.0) stays.1)
+          (λ
+          (stays : (is_seen flow (trail (jobs way) before) ≡ true) × (evicted_flow max (touches way before) key ≡ Some flow → ⊥)).
+          tcp-stays max (touches way before) key flow (some key) (seen flow stays.0) stays.1)
           (λ (own : (flow_number max (key ∷ touches way before) key ≡ flow) × IsTcp (packet_in way before r)).
           tcp-own max (touches way before) key flow (some key) (key-tcp way (packet_in way before r) key found own.1) own.0)
           why)

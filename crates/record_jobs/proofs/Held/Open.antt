@@ -1,5 +1,6 @@
 -- A flow that is open after a capture's jobs lives.
-use Rattle.std.proofs.Common.{◌≡◌, ℕ, ◌+◌, ◌<◌, ◌⊎◌, inl, inr, ⊎_elim, Bool, true, false, cond, ◌==◌, List, [], ◌∷◌, ◌++◌, Option, Some, None, Contains, fold, refl, sym, ap, subst, ◌∙◌, arith, append_assoc, append-nil}
+use Rattle.std.proofs.Common.{◌≡◌, ℕ, ◌+◌, ◌<◌, ◌⊎◌, inl, inr, ⊎_elim, Bool, true, false, cond, ◌==◌, List, [], ◌∷◌, ◌++◌, Option}
+use Rattle.std.proofs.Common.{Some, None, Contains, fold, refl, sym, ap, subst, ◌∙◌, arith, append_assoc, append-nil}
 use Rattle.std.specs.Option.{option_map, option_to_list}
 use Rattle.std.proofs.lemmas.Bool.{false≢true, eqb-true}
 use Rattle.std.proofs.lemmas.Bool.Decides.{nat_tests}
@@ -29,7 +30,10 @@ module _ (flow : ℕ) (moment : Moment) where
 
   module _ (way : Way) (time : Time) (fragment : Option Item) where
     -- the packet, once the fragment by itself is passed over
-    of_packet : (touch : Touch) (packet : Option Item) (was : Bool) (number : ℕ) → after was number (option_to_list (option_map alone fragment) ++ option_to_list (option_map (packet_work way time (Some touch)) packet)) ≡ true
+    of_packet : (touch : Touch) (packet : Option Item) (was : Bool) (number : ℕ)
+        → after was number
+        (option_to_list (option_map alone fragment) ++ option_to_list (option_map (packet_work way time (Some touch)) packet)) ≡
+        true
         → (was ≡ true) ⊎ (touch.flow ≡ flow)
     unfolding flow_packet
     of_packet touch packet was number h = by_fragment fragment packet number h
@@ -42,7 +46,12 @@ module _ (flow : ℕ) (moment : Moment) where
             by_flow true is h = inr (sym (eqb-true flow touch.flow is))
             by_flow false is h = inl h
 
-        by_fragment : (fragment packet : Option Item) (number : ℕ) → after was number (option_to_list (option_map alone fragment) ++ option_to_list (option_map (packet_work way time (Some touch)) packet)) ≡ true → (was ≡ true) ⊎ (touch.flow ≡ flow)
+        by_fragment : (fragment packet : Option Item) (number : ℕ)
+            → after was number
+            (option_to_list (option_map alone fragment) ++
+            option_to_list (option_map (packet_work way time (Some touch)) packet)) ≡
+            true
+            → (was ≡ true) ⊎ (touch.flow ≡ flow)
         by_fragment None packet number h = by_packet packet number h
         by_fragment (Some item) packet number h = by_packet packet (number + 1) h
 
@@ -61,8 +70,13 @@ module _ (flow : ℕ) (moment : Moment) where
         → ((was ≡ true) × (touch.evicted ≡ Some flow → ⊥)) ⊎ (touch.flow ≡ flow)
     touched touch packet was number h = by_ended touch.evicted refl h
       where
-        by_ended : (ended : Option ℕ) → touch.evicted ≡ ended
-            → after was number (option_to_list (option_map (λ flow. work.Finish flow) ended) ++ (option_to_list (option_map alone fragment) ++ option_to_list (option_map (packet_work way time (Some touch)) packet))) ≡ true
+        by_ended : (ended : Option ℕ)
+            → touch.evicted ≡ ended
+            → after was number
+            (option_to_list (option_map (λ flow. work.Finish flow) ended) ++
+            (option_to_list (option_map alone fragment) ++
+            option_to_list (option_map (packet_work way time (Some touch)) packet))) ≡
+            true
             → ((was ≡ true) × (touch.evicted ≡ Some flow → ⊥)) ⊎ (touch.flow ≡ flow)
         by_ended None is h = ⊎_elim
             (λ (open_still : was ≡ true). inl (open_still, λ told. let none = sym is ∙ told in cc))
@@ -78,7 +92,12 @@ module _ (flow : ℕ) (moment : Moment) where
                 (λ (own : touch.flow ≡ flow). inr own)
                 (of_packet touch packet false (number + 1) h)
             by_flow false apart h = ⊎_elim
-                (λ (open_still : was ≡ true). inl (open_still, λ told. let same : other ≡ flow = cc in let test : (flow == other) ≡ true = grind (arith, nat_tests, same) in false≢true (sym apart ∙ test)))
+                (λ (open_still : was ≡ true). inl (
+                  open_still,
+                  λ told.
+                      let same : other ≡ flow = cc in
+                      let test : (flow == other) ≡ true = grind (arith, nat_tests, same) in false≢true (sym apart ∙ test),
+                ))
                 (λ (own : touch.flow ≡ flow). inr own)
                 (of_packet touch packet was (number + 1) h)
 
@@ -104,30 +123,51 @@ module _ (way : Way) (tcp : 0 < way.stream.max_tcp) (udp : 0 < way.stream.max_ud
       let split = ap (is_open flow) (trail-push (jobs way) before r) ∙ fold-append (open_after flow) false (trail (jobs way) before) (jobs way before r) in
       by_key flow (key_in way before r) refl (opened flow (sym split ∙ is))
     where
-      opened : (flow : ℕ) → fold (open_after flow) (is_open flow (trail (jobs way) before)) (jobs way before r) ≡ true
-          → after flow r.captured.moment (is_open flow (trail (jobs way) before)) (job_count way before) (works_by way (time_of before r) (touch_in way before r) (fragment_item way r) (packet_in way before r)) ≡ true
+      opened : (flow : ℕ)
+          → fold (open_after flow) (is_open flow (trail (jobs way) before)) (jobs way before r) ≡ true
+          → after flow r.captured.moment (is_open flow (trail (jobs way) before)) (job_count way before)
+          (works_by way (time_of before r) (touch_in way before r) (fragment_item way r) (packet_in way before r)) ≡
+          true
       opened flow h = h
 
       at_touches : (flow : ℕ) (keys : List Key) → touches way (before ++ r ∷ []) ≡ keys → Contains (live_flows max keys) flow → Contains (live_flows max (touches way (before ++ r ∷ []))) flow
       at_touches flow keys is has = subst (λ (ks : List Key). Contains (live_flows max ks) flow) (sym is) has
 
-      by_key : (flow : ℕ) (key : Option Key) → key_in way before r ≡ key
-          → after flow r.captured.moment (is_open flow (trail (jobs way) before)) (job_count way before) (works_by way (time_of before r) (touch_in way before r) (fragment_item way r) (packet_in way before r)) ≡ true
+      by_key : (flow : ℕ) (key : Option Key)
+          → key_in way before r ≡ key
+          → after flow r.captured.moment (is_open flow (trail (jobs way) before)) (job_count way before)
+          (works_by way (time_of before r) (touch_in way before r) (fragment_item way r) (packet_in way before r)) ≡
+          true
           → Contains (live_flows max (touches way (before ++ r ∷ []))) flow
       by_key flow None none h =
           let no_touch = ap (option_map (touch_found max (touches way before))) none in
-          let still = untouched flow r.captured.moment way (time_of before r) (fragment_item way r) (packet_in way before r) (is_open flow (trail (jobs way) before)) (job_count way before)
-          (subst (λ (t : Option Touch). after flow r.captured.moment (is_open flow (trail (jobs way) before)) (job_count way before) (works_by way (time_of before r) t (fragment_item way r) (packet_in way before r)) ≡ true) no_touch h) in
-          at_touches flow (touches way before) (touches-push way before r ∙ ap (λ (o : Option Key). option_to_list o ++ touches way before) none) (live flow still)
+          let still =
+          untouched flow r.captured.moment way (time_of before r) (fragment_item way r) (packet_in way before r)
+          (is_open flow (trail (jobs way) before)) (job_count way before)
+          (subst (λ (t : Option Touch). after flow r.captured.moment (is_open flow (trail (jobs way) before))
+          (job_count way before) (works_by way (time_of before r) t (fragment_item way r) (packet_in way before r)) ≡
+          true) no_touch h) in
+          at_touches flow (touches way before)
+          (touches-push way before r ∙ ap (λ (o : Option Key). option_to_list o ++ touches way before) none)
+          (live flow still)
       by_key flow (Some key) found h =
           let touch = touch_found max (touches way before) key in
           let one_touch = ap (option_map (touch_found max (touches way before))) found in
-          let why = touched flow r.captured.moment way (time_of before r) (fragment_item way r) touch (packet_in way before r) (is_open flow (trail (jobs way) before)) (job_count way before)
-          (subst (λ (t : Option Touch). after flow r.captured.moment (is_open flow (trail (jobs way) before)) (job_count way before) (works_by way (time_of before r) t (fragment_item way r) (packet_in way before r)) ≡ true) one_touch h) in
-          at_touches flow (key ∷ touches way before) (touches-push way before r ∙ ap (λ (o : Option Key). option_to_list o ++ touches way before) found)
+          let why =
+          touched flow r.captured.moment way (time_of before r) (fragment_item way r) touch (packet_in way before r)
+          (is_open flow (trail (jobs way) before)) (job_count way before)
+          (subst (λ (t : Option Touch). after flow r.captured.moment (is_open flow (trail (jobs way) before))
+          (job_count way before) (works_by way (time_of before r) t (fragment_item way r) (packet_in way before r)) ≡
+          true) one_touch h) in
+          at_touches flow (key ∷ touches way before)
+          (touches-push way before r ∙ ap (λ (o : Option Key). option_to_list o ++ touches way before) found)
           (⊎_elim
-          (λ (stays : (is_open flow (trail (jobs way) before) ≡ true) × (evicted_flow max (touches way before) key ≡ Some flow → ⊥)). flow-stays max (touches way before) key flow (some key) (live flow stays.0) stays.1)
-          (λ (own : flow_number max (key ∷ touches way before) key ≡ flow). subst (Contains (live_flows max (key ∷ touches way before))) own (own-lives max (touches way before) key (some key)))
+          (λ
+          (stays : (is_open flow (trail (jobs way) before) ≡ true) × (evicted_flow max (touches way before) key ≡ Some flow → ⊥)).
+          flow-stays max (touches way before) key flow (some key) (live flow stays.0) stays.1)
+          (λ (own : flow_number max (key ∷ touches way before) key ≡ flow). subst
+          (Contains (live_flows max (key ∷ touches way before))) own
+          (own-lives max (touches way before) key (some key)))
           why)
 
   live_all : (before later : List LinkedRecord) → Live before → Live (before ++ later)

@@ -1,5 +1,7 @@
 -- What all lanes hold of all flows together.
-use Rattle.std.proofs.Common.{◌≡◌, ℕ, zero, suc, ◌+◌, ◌*◌, ◌<◌, ◌≤◌, Bool, true, false, cond, not, ◌||◌, ltb, List, [], ◌∷◌, ◌++◌, Option, Some, None, filter, length, max, is_none, refl, sym, ap, subst, ◌∙◌, arith, le_trans, mul-le-mul_right, nat_eq, unwrap_or, append_assoc, append-nil}
+use Rattle.std.proofs.Common.{◌≡◌, ℕ, zero, suc, ◌+◌, ◌*◌, ◌<◌, ◌≤◌, Bool, true, false, cond, not, ◌||◌, ltb, List, [], ◌∷◌, ◌++◌}
+use Rattle.std.proofs.Common.{Option, Some, None, filter, length, max, is_none, refl, sym, ap, subst, ◌∙◌, arith, le_trans}
+use Rattle.std.proofs.Common.{mul-le-mul_right, nat_eq, unwrap_or, append_assoc, append-nil}
 use Rattle.std.specs.Prelude.{slice_get, sum_by, IfSome}
 use Rattle.std.proofs.lemmas.Cmp.{nat_eq_equiv}
 use Rattle.std.specs.List.{All, AllByRecursion, IsDistinct, list_any, position_or_len}
@@ -88,7 +90,10 @@ module _ (limit : StreamEngine → ℕ) where
   pub address-most : (engines : List StreamEngine) (addr : Addr) → limit (stream_engine_at engines (stream_place engines addr)) ≤ greatest limit (engines_used engines)
   address-most engines addr = by (list_any (λ (e : StreamEngine). is_none e.bind) engines) refl
     where
-      by : (b : Bool) → list_any (λ (e : StreamEngine). is_none e.bind) engines ≡ b → limit (stream_engine_at engines (stream_place engines addr)) ≤ greatest limit (cond b engines (default_stream_engine ∷ engines))
+      by : (b : Bool)
+          → list_any (λ (e : StreamEngine). is_none e.bind) engines ≡ b
+          → limit (stream_engine_at engines (stream_place engines addr)) ≤
+          greatest limit (cond b engines (default_stream_engine ∷ engines))
       by true some = engine-most engines (stream_place engines addr) (place-within engines addr some)
       by false none = any-most engines (stream_place engines addr)
 
@@ -162,7 +167,8 @@ module _ (way : Way) (making : Making) (same : making.stream ≡ way.stream) whe
       (subst (All LimitedJob) (sym (trail-push (jobs way) before r)) (All-append LimitedJob (trail (jobs way) before) (jobs way before r) limited (record-limited before r))))
 
   pub jobs-limited : (records : List LinkedRecord)
-      → All (IsLimitedJob making (greatest (λ (e : StreamEngine). e.bytes_limit) (engines_used way.stream.engines)) (greatest (λ (e : StreamEngine). e.segs_limit) (engines_used way.stream.engines))) (trail (jobs way) records)
+      → All (IsLimitedJob making (greatest (λ (e : StreamEngine). e.bytes_limit) (engines_used way.stream.engines))
+      (greatest (λ (e : StreamEngine). e.segs_limit) (engines_used way.stream.engines))) (trail (jobs way) records)
   jobs-limited records = all-limited [] records (All-nil LimitedJob)
 
 -- ---- a sum over flows that are named once each

@@ -33,10 +33,16 @@ had_last max (touch ∷ earlier) key h = go (had_last max earlier key) (same_key
 had_begun : (max : MaxFlows) (touches : List Key) (key : Key) (flow : ℕ) → HadFlow max touches key flow → flow < begun max touches
 had_begun max [] key flow h = absurd h
 had_begun max (touch ∷ earlier) key flow h =
-    go (λ live. had_begun max earlier touch (flow_number max earlier touch) (had_last max earlier touch (is_touched-live max earlier touch live))) (had_begun max earlier key flow) (is_live max earlier touch) refl h
+    go (λ live. had_begun max earlier touch (flow_number max earlier touch)
+    (had_last max earlier touch (is_touched-live max earlier touch live)))
+    (had_begun max earlier key flow) (is_live max earlier touch) refl h
   where
-    go : (is_live max earlier touch ≡ true → flow_number max earlier touch < begun max earlier) → (HadFlow max earlier key flow → flow < begun max earlier)
-        → (l : Bool) → is_live max earlier touch ≡ l → ((key ≡ touch) × (flow ≡ cond l (flow_number max earlier touch) (begun max earlier))) ⊎ HadFlow max earlier key flow → flow < cond l (begun max earlier) (begun max earlier + 1)
+    go : (is_live max earlier touch ≡ true → flow_number max earlier touch < begun max earlier)
+        → (HadFlow max earlier key flow → flow < begun max earlier)
+        → (l : Bool)
+        → is_live max earlier touch ≡ l
+        → ((key ≡ touch) × (flow ≡ cond l (flow_number max earlier touch) (begun max earlier))) ⊎ HadFlow max earlier key flow
+        → flow < cond l (begun max earlier) (begun max earlier + 1)
     go last before true live (inl now) = let began = last live in omega (arith, began, now.1)
     go last before true live (inr then) = before then
     go last before false live (inl now) = omega (arith, now.1)

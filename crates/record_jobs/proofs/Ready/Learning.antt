@@ -17,7 +17,9 @@ use Rattle.record_jobs.proofs.Ready.Running.{head_is, range_with_len-append, tai
 
 -- ---- what is known of flows
 
-more_known : (other : Job) (earlier jobs : List Job) → facts_after (facts_after None (filter (same_flow other) earlier)) (filter (same_flow other) jobs) ≡ facts_after None (filter (same_flow other) (earlier ++ jobs))
+more_known : (other : Job) (earlier jobs : List Job)
+    → facts_after (facts_after None (filter (same_flow other) earlier)) (filter (same_flow other) jobs) ≡
+    facts_after None (filter (same_flow other) (earlier ++ jobs))
 more_known other earlier jobs =
     sym (ap (facts_after None) (filter-append (same_flow other) earlier jobs) ∙ fold-append facts_after_one None (filter (same_flow other) earlier) (filter (same_flow other) jobs))
 
@@ -86,7 +88,10 @@ above (job ∷ jobs) a g are below =
     let first : job.number ≡ a = head_is job.number a (map (λ (job : Job). job.number) jobs) (range_with_len (a + 1) (length jobs)) are in
     (omega arith, above jobs (a + 1) g (tail_is job.number a (map (λ (job : Job). job.number) jobs) (range_with_len (a + 1) (length jobs)) are) (omega arith))
 
-greatest_below : (jobs : List Job) (a : ℕ) (o : Option ℕ) → map (λ (job : Job). job.number) jobs ≡ range_with_len a (length jobs) → IfSome o (λ g. g < a) → IfSome (fold (λ most (job : Job). Some job.number) o jobs) (λ g. g < a + length jobs)
+greatest_below : (jobs : List Job) (a : ℕ) (o : Option ℕ)
+    → map (λ (job : Job). job.number) jobs ≡ range_with_len a (length jobs)
+    → IfSome o (λ g. g < a)
+    → IfSome (fold (λ most (job : Job). Some job.number) o jobs) (λ g. g < a + length jobs)
 greatest_below [] a None are below = tt
 greatest_below [] a (Some g) are below = omega (arith, below)
 greatest_below (job ∷ jobs) a o are below =
@@ -101,7 +106,11 @@ greatest_below (job ∷ jobs) a o are below =
 
 -- ---- a batch
 
-pub ready : (engines : ℕ) (lanes : LanesState) (earlier batch rest : List Job) → HaveLearnt lanes earlier → AreSound engines (earlier ++ (batch ++ rest)) → AreNumbered (earlier ++ (batch ++ rest)) → AreReady engines lanes batch
+pub ready : (engines : ℕ) (lanes : LanesState) (earlier batch rest : List Job)
+    → HaveLearnt lanes earlier
+    → AreSound engines (earlier ++ (batch ++ rest))
+    → AreNumbered (earlier ++ (batch ++ rest))
+    → AreReady engines lanes batch
 ready engines lanes earlier batch rest has sound numbered = record {
   sound = λ front job later e.
       subst (λ (facts : Option FlowFacts). IsSoundFor engines facts job)
@@ -119,14 +128,19 @@ ready engines lanes earlier batch rest has sound numbered = record {
         ∙ ap (λ (xs : List Job). earlier ++ xs) (append_assoc front (job ∷ later) rest)
         ∙ sym (append_assoc earlier front (job ∷ (later ++ rest)))
 
-    after : (map (λ (job : Job). job.number) earlier ≡ range_with_len 0 (length earlier)) × (map (λ (job : Job). job.number) (batch ++ rest) ≡ range_with_len (0 + length earlier) (length (batch ++ rest)))
+    after : (map (λ (job : Job). job.number) earlier ≡ range_with_len 0 (length earlier))
+        × (map (λ (job : Job). job.number) (batch ++ rest) ≡ range_with_len (0 + length earlier) (length (batch ++ rest)))
     after = part_numbers earlier (batch ++ rest) numbered
 
     batch_numbers : map (λ (job : Job). job.number) batch ≡ range_with_len (0 + length earlier) (length batch)
     batch_numbers =
-        (same_parts (map (λ (job : Job). job.number) batch) (map (λ (job : Job). job.number) rest) (range_with_len (0 + length earlier) (length batch)) (range_with_len (0 + length earlier + length batch) (length rest))
+        (same_parts (map (λ (job : Job). job.number) batch) (map (λ (job : Job). job.number) rest)
+        (range_with_len (0 + length earlier) (length batch))
+        (range_with_len (0 + length earlier + length batch) (length rest))
         (length-map_number batch ∙ sym (length-range_with_len (0 + length earlier) (length batch)))
-        (sym (map-append (λ (job : Job). job.number) batch rest) ∙ after.1 ∙ ap (range_with_len (0 + length earlier)) (length-append batch rest) ∙ range_with_len-append (0 + length earlier) (length batch) (length rest))).0
+        (sym (map-append (λ (job : Job). job.number) batch rest) ∙ after.1 ∙
+        ap (range_with_len (0 + length earlier)) (length-append batch rest) ∙
+        range_with_len-append (0 + length earlier) (length batch) (length rest))).0
 
     highest : (o : Option ℕ) → o ≡ fold (λ most (job : Job). Some job.number) None earlier → IfSome o (λ greatest. All (λ (job : Job). greatest < job.number) batch)
     highest None e = tt

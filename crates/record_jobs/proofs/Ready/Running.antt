@@ -44,9 +44,15 @@ IsShortItem : Way → Option Item → Type 0
 IsShortItem way None = ⊤
 IsShortItem way (Some item) = IfSome (item_key way item) (λ (_ : Key). length item.payload ≤ 65535)
 
-packet_part : (way : Way) (keys : List Key) (packets : ℕ) (earlier : List Job) (number : ℕ) (time : Time) (packet : Option Item) → KnowsAll way keys packets earlier → packets < 2 ^ 32 → IsShortItem way packet
+packet_part : (way : Way) (keys : List Key) (packets : ℕ) (earlier : List Job) (number : ℕ) (time : Time) (packet : Option Item)
+    → KnowsAll way keys packets earlier
+    → packets < 2 ^ 32
+    → IsShortItem way packet
     → Goes way (option_to_list (option_and_then (item_key way) packet) ++ keys) (packets + 1) earlier
-    (numbered number time.now (option_to_list (option_map (packet_work way time (option_map (touch_found (most_flows way.stream) keys) (option_and_then (item_key way) packet))) packet)))
+    (numbered number time.now
+    (option_to_list (option_map
+    (packet_work way time (option_map (touch_found (most_flows way.stream) keys) (option_and_then (item_key way) packet)))
+    packet)))
 unfolding IsShortItem
 packet_part way keys packets earlier number time None knows few short = no_job way keys (packets + 1) earlier (later_all way None keys packets earlier knows)
 packet_part way keys packets earlier number time (Some item) knows few short = go (item_key way item) refl short
@@ -54,7 +60,9 @@ packet_part way keys packets earlier number time (Some item) knows few short = g
     go : (key : Option Key) → item_key way item ≡ key → IfSome key (λ (_ : Key). length item.payload ≤ 65535)
         → Goes way (option_to_list key ++ keys) (packets + 1) earlier (numbered number time.now (packet_work way time (option_map (touch_found (most_flows way.stream) keys) key) item ∷ []))
     go None is short = alone_job way keys (packets + 1) earlier number time.now item (later_all way None keys packets earlier knows)
-    go (Some key) is short = packet_job way keys packets earlier number time item key (touch_found (most_flows way.stream) keys key).flow knows is (flow_number-touched (most_flows way.stream) keys key) few short
+    go (Some key) is short =
+        packet_job way keys packets earlier number time item key (touch_found (most_flows way.stream) keys key).flow knows is
+        (flow_number-touched (most_flows way.stream) keys key) few short
 
 -- ---- a packet of a flow is among the jobs
 
@@ -67,7 +75,11 @@ short_work number moment [] all = tt
 short_work number moment (x ∷ xs) all = (all.0, short_work (number + 1) moment xs all.1)
 
 short_item : (way : Way) (keys : List Key) (time : Time) (packet : Option Item)
-    → AllByRecursion HasShortWork (option_to_list (option_map (packet_work way time (option_map (touch_found (most_flows way.stream) keys) (option_and_then (item_key way) packet))) packet)) → IsShortItem way packet
+    → AllByRecursion HasShortWork
+    (option_to_list (option_map
+    (packet_work way time (option_map (touch_found (most_flows way.stream) keys) (option_and_then (item_key way) packet)))
+    packet))
+    → IsShortItem way packet
 unfolding IsShortItem flow_packet
 short_item way keys time None all = tt
 short_item way keys time (Some item) all = go (item_key way item) all.0
@@ -78,8 +90,12 @@ short_item way keys time (Some item) all = go (item_key way item) all.0
 
 -- ---- the step
 
-works_so : (way : Way) (before : List LinkedRecord) (r : LinkedRecord) → works way before r
-    ≡ works_by way (time_of before r) (option_map (touch_found (most_flows way.stream) (touches way before)) (option_and_then (item_key way) (packet_in way before r))) (fragment_item way r) (packet_in way before r)
+works_so : (way : Way) (before : List LinkedRecord) (r : LinkedRecord)
+    → works way before r
+    ≡ works_by way (time_of before r)
+    (option_map (touch_found (most_flows way.stream) (touches way before))
+    (option_and_then (item_key way) (packet_in way before r)))
+    (fragment_item way r) (packet_in way before r)
 unfolding works touch_in key_in
 works_so way before r = refl
 
@@ -184,7 +200,11 @@ knows_none way flow = tt
 -- ends of flows are sound anywhere
 finishes_sound : (engines : ℕ) (earlier : List Job) (number : ℕ) (moment : Moment) (flows : List ℕ) → Sounds engines earlier (numbered number moment (map (λ flow. work.Finish flow) flows))
 finishes_sound engines earlier number moment [] = tt
-finishes_sound engines earlier number moment (flow ∷ flows) = (tt, finishes_sound engines (earlier ++ record { number = number; moment = moment; work = work.Finish flow } ∷ []) (number + 1) moment flows)
+finishes_sound engines earlier number moment (flow ∷ flows) = (
+  tt,
+  finishes_sound engines (earlier ++ record { number = number; moment = moment; work = work.Finish flow } ∷ [])
+      (number + 1) moment flows,
+)
 
 all_sound : (way : Way) (records : List LinkedRecord) → length records ≤ 2 ^ 32 → All HasShortData (trail (jobs way) records) → Sounds (length way.stream.engines) [] (all_jobs way records)
 unfolding finishes
@@ -235,7 +255,9 @@ job_count-after way before r =
     job_count-push way before r
     ∙ ap (λ (n : ℕ). job_count way before + n) (sym (ap length (jobs_so way before r) ∙ length-numbered (job_count way before) r.captured.moment (works way before r)))
 
-run_numbers : (way : Way) (before records : List LinkedRecord) → map (λ (job : Job). job.number) (trail_from (jobs way) before records) ≡ range_with_len (job_count way before) (length (trail_from (jobs way) before records))
+run_numbers : (way : Way) (before records : List LinkedRecord)
+    → map (λ (job : Job). job.number) (trail_from (jobs way) before records) ≡
+    range_with_len (job_count way before) (length (trail_from (jobs way) before records))
 run_numbers way before [] = refl
 run_numbers way before (r ∷ records) =
     map-append (λ (job : Job). job.number) (jobs way before r) rest
@@ -252,8 +274,11 @@ run_numbers way before (r ∷ records) =
 run_count : (way : Way) (before records : List LinkedRecord) → job_count way before + length (trail_from (jobs way) before records) ≡ job_count way (before ++ records)
 run_count way before [] = let e : job_count way before + 0 ≡ job_count way before = omega arith in e ∙ ap (job_count way) (sym (append-nil before))
 run_count way before (r ∷ records) =
-    ap (λ (n : ℕ). job_count way before + n) (length-append (jobs way before r) (trail_from (jobs way) (before ++ r ∷ []) records))
-    ∙ (let e : job_count way before + (length (jobs way before r) + length (trail_from (jobs way) (before ++ r ∷ []) records)) ≡ job_count way before + length (jobs way before r) + length (trail_from (jobs way) (before ++ r ∷ []) records) = omega arith in e)
+    ap (λ (n : ℕ). job_count way before + n)
+    (length-append (jobs way before r) (trail_from (jobs way) (before ++ r ∷ []) records))
+    ∙ (let e : job_count way before + (length (jobs way before r) + length (trail_from (jobs way) (before ++ r ∷ []) records)) ≡
+    job_count way before + length (jobs way before r) +
+    length (trail_from (jobs way) (before ++ r ∷ []) records) = omega arith in e)
     ∙ ap (λ (n : ℕ). n + length (trail_from (jobs way) (before ++ r ∷ []) records)) (sym (job_count-after way before r))
     ∙ run_count way (before ++ r ∷ []) records
     ∙ ap (job_count way) (append_assoc before (r ∷ []) records)

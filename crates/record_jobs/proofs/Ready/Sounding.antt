@@ -1,5 +1,6 @@
 -- Jobs of a capture are sound after the earlier jobs of their flows.
-use Rattle.std.proofs.Common.{◌≡◌, ℕ, ◌+◌, ◌^◌, ◌<◌, ◌≤◌, Bool, true, false, cond, eqb, List, [], ◌∷◌, ◌++◌, length, Option, Some, None, refl, sym, ap, ◌∙◌, subst, IfSome, append_assoc, arith, inl, inr, ◌⊎◌, ◌&&◌}
+use Rattle.std.proofs.Common.{◌≡◌, ℕ, ◌+◌, ◌^◌, ◌<◌, ◌≤◌, Bool, true, false, cond, eqb, List, [], ◌∷◌, ◌++◌, length, Option, Some}
+use Rattle.std.proofs.Common.{None, refl, sym, ap, ◌∙◌, subst, IfSome, append_assoc, arith, inl, inr, ◌⊎◌, ◌&&◌}
 use Rattle.std.specs.Bool.{⊤}
 use Rattle.std.specs.Prelude.{filter}
 use Rattle.std.specs.Option.{option_map_or, option_to_list}
@@ -92,7 +93,9 @@ low_is : (tcp : Bool) (a b : End) → ((key_of tcp a b).low ≡ a) ⊎ ((key_of 
 unfolding key_of
 low_is tcp a b = go (is_end_before b a)
   where
-    go : (before : Bool) → ((cond {A = Key} before (record { tcp = tcp; low = b; high = a }) (record { tcp = tcp; low = a; high = b })).low ≡ a) ⊎ ((cond {A = Key} before (record { tcp = tcp; low = b; high = a }) (record { tcp = tcp; low = a; high = b })).low ≡ b)
+    go : (before : Bool)
+        → ((cond {A = Key} before (record { tcp = tcp; low = b; high = a }) (record { tcp = tcp; low = a; high = b })).low ≡ a) ⊎
+        ((cond {A = Key} before (record { tcp = tcp; low = b; high = a }) (record { tcp = tcp; low = a; high = b })).low ≡ b)
     go true = inr refl
     go false = inl refl
 
@@ -100,7 +103,9 @@ high_is : (tcp : Bool) (a b : End) → ((key_of tcp a b).high ≡ a) ⊎ ((key_o
 unfolding key_of
 high_is tcp a b = go (is_end_before b a)
   where
-    go : (before : Bool) → ((cond {A = Key} before (record { tcp = tcp; low = b; high = a }) (record { tcp = tcp; low = a; high = b })).high ≡ a) ⊎ ((cond {A = Key} before (record { tcp = tcp; low = b; high = a }) (record { tcp = tcp; low = a; high = b })).high ≡ b)
+    go : (before : Bool)
+        → ((cond {A = Key} before (record { tcp = tcp; low = b; high = a }) (record { tcp = tcp; low = a; high = b })).high ≡ a) ⊎
+        ((cond {A = Key} before (record { tcp = tcp; low = b; high = a }) (record { tcp = tcp; low = a; high = b })).high ≡ b)
     go true = inl refl
     go false = inr refl
 
@@ -126,8 +131,10 @@ tracked_is way ip (body.Stream sport dport) len moment key e = cc
 -- the ends of a packet are those of its key
 ends_are : (way : Way) (time : Time) (item : Item) (key : Key) → item_key way item ≡ Some key → ends_of (packet_of way time item) ≡ ends_at way key
 ends_are way time item key e =
-    ap (λ (w : EndWay). made (key_of_packet p) w (way_of (toward p (key_of_packet p).high))) (toward_end way time item (key_of_packet p).low (low_is (is_tcp item.head.body) (sender p) (receiver p)) from to)
-    ∙ ap (made (key_of_packet p) (way_at way (key_of_packet p).low.addr)) (toward_end way time item (key_of_packet p).high (high_is (is_tcp item.head.body) (sender p) (receiver p)) from to)
+    ap (λ (w : EndWay). made (key_of_packet p) w (way_of (toward p (key_of_packet p).high)))
+    (toward_end way time item (key_of_packet p).low (low_is (is_tcp item.head.body) (sender p) (receiver p)) from to)
+    ∙ ap (made (key_of_packet p) (way_at way (key_of_packet p).low.addr))
+    (toward_end way time item (key_of_packet p).high (high_is (is_tcp item.head.body) (sender p) (receiver p)) from to)
     ∙ ap (ends_at way) (sym (tracked_is way item.head.ip item.head.body (length item.payload) time.now key e).0)
   where
     p : Packet
@@ -176,12 +183,16 @@ known-push jobs job flow =
     go false = ap (facts_after None) (append-nil front)
 
 -- one touch more, perhaps, and one packet more
-later_knows : (way : Way) (key : Option Key) (touches : List Key) (packets flow : ℕ) (facts : Option FlowFacts) → Knows way touches packets flow facts → Knows way (option_to_list key ++ touches) (packets + 1) flow facts
+later_knows : (way : Way) (key : Option Key) (touches : List Key) (packets flow : ℕ) (facts : Option FlowFacts)
+    → Knows way touches packets flow facts
+    → Knows way (option_to_list key ++ touches) (packets + 1) flow facts
 later_knows way key touches packets flow None knows = tt
 later_knows way None touches packets flow (Some facts) knows = record { key = knows.key; had = knows.had; ends = knows.ends; few = omega (arith, knows.few) }
 later_knows way (Some touch) touches packets flow (Some facts) knows = record { key = knows.key; had = inr knows.had; ends = knows.ends; few = omega (arith, knows.few) }
 
-pub later_all : (way : Way) (key : Option Key) (touches : List Key) (packets : ℕ) (jobs : List Job) → KnowsAll way touches packets jobs → KnowsAll way (option_to_list key ++ touches) (packets + 1) jobs
+pub later_all : (way : Way) (key : Option Key) (touches : List Key) (packets : ℕ) (jobs : List Job)
+    → KnowsAll way touches packets jobs
+    → KnowsAll way (option_to_list key ++ touches) (packets + 1) jobs
 later_all way key touches packets jobs knows flow = later_knows way key touches packets flow (known jobs flow) (knows flow)
 
 -- ---- jobs one by one
@@ -201,7 +212,10 @@ pub record Goes (way : Way) (touches : List Key) (packets : ℕ) (earlier jobs :
   pub sounds : Sounds (length way.stream.engines) earlier jobs
   pub knows : KnowsAll way touches packets (earlier ++ jobs)
 
-pub Goes-append : (way : Way) (touches later : List Key) (packets more : ℕ) (earlier xs ys : List Job) → Goes way touches packets earlier xs → Goes way later more (earlier ++ xs) ys → Goes way later more earlier (xs ++ ys)
+pub Goes-append : (way : Way) (touches later : List Key) (packets more : ℕ) (earlier xs ys : List Job)
+    → Goes way touches packets earlier xs
+    → Goes way later more (earlier ++ xs) ys
+    → Goes way later more earlier (xs ++ ys)
 Goes-append way touches later packets more earlier xs ys first then = record {
   sounds = Sounds-append (length way.stream.engines) earlier xs ys first.sounds then.sounds;
   knows = subst (KnowsAll way later more) (append_assoc earlier xs ys) then.knows;
@@ -210,13 +224,17 @@ Goes-append way touches later packets more earlier xs ys first then = record {
 pub no_job : (way : Way) (touches : List Key) (packets : ℕ) (earlier : List Job) → KnowsAll way touches packets earlier → Goes way touches packets earlier []
 no_job way touches packets earlier knows = record { sounds = tt; knows = subst (KnowsAll way touches packets) (sym (append-nil earlier)) knows }
 
-pub alone_job : (way : Way) (touches : List Key) (packets : ℕ) (earlier : List Job) (number : ℕ) (moment : Moment) (item : Item) → KnowsAll way touches packets earlier → Goes way touches packets earlier (numbered number moment (alone item ∷ []))
+pub alone_job : (way : Way) (touches : List Key) (packets : ℕ) (earlier : List Job) (number : ℕ) (moment : Moment) (item : Item)
+    → KnowsAll way touches packets earlier
+    → Goes way touches packets earlier (numbered number moment (alone item ∷ []))
 alone_job way touches packets earlier number moment item knows = record {
   sounds = (tt, tt);
   knows = λ flow. subst (Knows way touches packets flow) (sym (known-push earlier (record { number = number; moment = moment; work = alone item }) flow)) (knows flow);
 }
 
-pub finish_job : (way : Way) (touches : List Key) (packets : ℕ) (earlier : List Job) (number : ℕ) (moment : Moment) (ended : ℕ) → KnowsAll way touches packets earlier → Goes way touches packets earlier (numbered number moment (work.Finish ended ∷ []))
+pub finish_job : (way : Way) (touches : List Key) (packets : ℕ) (earlier : List Job) (number : ℕ) (moment : Moment) (ended : ℕ)
+    → KnowsAll way touches packets earlier
+    → Goes way touches packets earlier (numbered number moment (work.Finish ended ∷ []))
 finish_job way touches packets earlier number moment ended knows = record {
   sounds = (tt, tt);
   knows = λ flow. subst (Knows way touches packets flow) (sym (known-push earlier (record { number = number; moment = moment; work = work.Finish ended }) flow)) (go flow (eqb flow ended));

@@ -1,6 +1,8 @@
 -- Where there is room for all fragments, a datagram is made of its own fragments alone, and so by a part of a capture as
 -- by the whole.
-use Rattle.std.proofs.Common.{◌≡◌, ℕ, suc, ◌+◌, ◌*◌, ◌<◌, ◌≤◌, Bool, true, false, cond, List, [], ◌∷◌, ◌++◌, length, Option, Some, None, Result, Ok, Err, fold, unwrap_or, nat_lt, refl, sym, ap, subst, ◌∙◌, inl, inr, append-nil, length-append, arith}
+use Rattle.std.proofs.Common.{◌≡◌, ℕ, suc, ◌+◌, ◌*◌, ◌<◌, ◌≤◌, Bool, true, false, cond, List, [], ◌∷◌, ◌++◌, length, Option, Some}
+use Rattle.std.proofs.Common.{None, Result, Ok, Err, fold, unwrap_or, nat_lt, refl, sym, ap, subst, ◌∙◌, inl, inr, append-nil}
+use Rattle.std.proofs.Common.{length-append, arith}
 use Rattle.std.specs.Prelude.{IfSome, option_and_then}
 use Rattle.std.specs.List.{cons_option, filter, filter_map}
 use Rattle.std.specs.Map.{lookup, remove_entry}
@@ -21,7 +23,9 @@ use Rattle.frag3_core.specs.declared.answer.Taken.{Taken}
 use Rattle.frag3_core.specs.declared.answer.Taken.TheVariants as answer
 use Rattle.frag3_core.specs.declared.key.DatagramKey.{DatagramKey}
 use Rattle.frag3_core.specs.Sound.{AreTrackers}
-use Rattle.frag3_core.specs.Trackers.{Frag3State, Fragment, TrackerState, Trackers, after, answer_of, begun, datagram_of, found, held_count, ignored, in_time, is_timed_out, joined, key_of, others, own, same_key, state_after, taken, tracker_of, trackers_after, with_own, with_room, without}
+use Rattle.frag3_core.specs.Trackers.{Frag3State, Fragment, TrackerState, Trackers, after, answer_of, begun, datagram_of, found}
+use Rattle.frag3_core.specs.Trackers.{held_count, ignored, in_time, is_timed_out, joined, key_of, others, own, same_key}
+use Rattle.frag3_core.specs.Trackers.{state_after, taken, tracker_of, trackers_after, with_own, with_room, without}
 use Rattle.frag3_core.proofs.Entries.{AreTrackers-nil, AreTrackers-push, AreTrackers-remove, frags_of, held_count-push, held_count-remove, lookup-removed}
 use Rattle.frag3_core.proofs.Keys.{one_key, same_key-equivalence, same_key-refl, same_key-true}
 use Rattle.frag3_core.proofs.Laws.{state_after-push}
@@ -59,7 +63,10 @@ lookup-push : (test : DatagramKey → Bool) (ts : Trackers) (key : DatagramKey) 
 lookup-push test [] key t none is = rw is refl
 lookup-push test (e ∷ ts) key t none is = by_first (test e.0) none (lookup-push test ts key t)
   where
-    by_first : (b : Bool) → cond b (Some e.1) (lookup test ts) ≡ None → (lookup test ts ≡ None → test key ≡ true → lookup test (ts ++ (key, t) ∷ []) ≡ Some t) → cond b (Some e.1) (lookup test (ts ++ (key, t) ∷ [])) ≡ Some t
+    by_first : (b : Bool)
+        → cond b (Some e.1) (lookup test ts) ≡ None
+        → (lookup test ts ≡ None → test key ≡ true → lookup test (ts ++ (key, t) ∷ []) ≡ Some t)
+        → cond b (Some e.1) (lookup test (ts ++ (key, t) ∷ [])) ≡ Some t
     by_first true none rest = absurd cc
     by_first false none rest = rest none is
 
@@ -262,7 +269,8 @@ taken-alike most fs gs f short short_too same =
     let few_too = there.few in
     let max_too = there.max in
     taken-own (state_after most fs) f here.are (omega (arith, few, max, short))
-    ∙ ap (λ (t : Option TrackerState). option_map_or answer.Ignored (ignored f.ip f.part f.rules) (answer_of f.ip (datagram_of (joined_own f t)))) (here.each (key_of f.ip) ∙ same ∙ sym (there.each (key_of f.ip)))
+    ∙ ap (λ (t : Option TrackerState). option_map_or answer.Ignored (ignored f.ip f.part f.rules)
+    (answer_of f.ip (datagram_of (joined_own f t)))) (here.each (key_of f.ip) ∙ same ∙ sym (there.each (key_of f.ip)))
     ∙ sym (taken-own (state_after most gs) f there.are (omega (arith, few_too, max_too, short_too)))
 
 -- ---- the fragments of records
@@ -317,7 +325,10 @@ module _ (way : Way) (part : Part) (records : List LinkedRecord) (by_pair : IsBy
     fields-of : (s : LinkedRecord) (f : Fragment) → fragment_in way config s ≡ Some f → (more : Fields) × (said_by way s ≡ Ok more) × (f.ip ≡ more.ip)
     fields-of s f is = by_said (said_by way s) refl is
       where
-        by_said : (o : Result Fields Skip) → said_by way s ≡ o → option_map (fragment_of way config s.captured.moment) (fragment_fields o) ≡ Some f → (more : Fields) × (said_by way s ≡ Ok more) × (f.ip ≡ more.ip)
+        by_said : (o : Result Fields Skip)
+            → said_by way s ≡ o
+            → option_map (fragment_of way config s.captured.moment) (fragment_fields o) ≡ Some f
+            → (more : Fields) × (said_by way s ≡ Ok more) × (f.ip ≡ more.ip)
         by_said (Err why) told is = absurd cc
         by_said (Ok more) told is = by_fragment (is_fragment more.body) is
           where
@@ -421,8 +432,13 @@ module _ (way : Way) (part : Part) (records : List LinkedRecord) (by_pair : IsBy
           let same = own some refl in
           by_config some (said ∙ ap Ok (sym same)) read way.frag few
 
-      by_said : (said : Result Fields Skip) → said_by way r ≡ said → option_and_then (made way.frag (filter part before)) (fragment_fields (said_by way r)) ≡ option_and_then (made way.frag before) (fragment_fields (said_by way r))
-      by_said (Err why) told = ap (λ (o : Result Fields Skip). option_and_then (made way.frag (filter part before)) (fragment_fields o)) told ∙ sym (ap (λ (o : Result Fields Skip). option_and_then (made way.frag before) (fragment_fields o)) told)
+      by_said : (said : Result Fields Skip)
+          → said_by way r ≡ said
+          → option_and_then (made way.frag (filter part before)) (fragment_fields (said_by way r)) ≡
+          option_and_then (made way.frag before) (fragment_fields (said_by way r))
+      by_said (Err why) told =
+          ap (λ (o : Result Fields Skip). option_and_then (made way.frag (filter part before)) (fragment_fields o)) told
+          ∙ sym (ap (λ (o : Result Fields Skip). option_and_then (made way.frag before) (fragment_fields o)) told)
       by_said (Ok fields) told = by_fields fields told (fragment_fields (said_by way r)) refl (λ some is. own some (sym is ∙ ap fragment_fields told))
         where
           own : (some : Fields) → Some some ≡ fragment_fields (Ok fields) → some ≡ fields

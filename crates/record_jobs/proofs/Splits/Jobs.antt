@@ -142,10 +142,16 @@ module _ (way : Way) (time : Time) (moment : Moment) (flow : ℕ) where
       → chosen number (works_by way time (Some touch) fragment (Some item)) ≡ cond (flow == touch.flow) (record { number = 0; moment = moment; work = flow_packet way time item 0 } ∷ []) []
   unfolding flow_packet
   chosen-some number touch fragment item none =
-      ap (λ (o : Option ℕ). chosen number (option_to_list (option_map (λ ended. work.Finish ended) o) ++ (option_to_list (option_map alone fragment) ++ option_to_list (option_map (packet_work way time (Some touch)) (Some item))))) none
+      ap (λ (o : Option ℕ). chosen number
+      (option_to_list (option_map (λ ended. work.Finish ended) o) ++
+      (option_to_list (option_map alone fragment) ++
+      option_to_list (option_map (packet_work way time (Some touch)) (Some item)))))
+      none
       ∙ by_fragment fragment
     where
-      by_flow : (at : ℕ) (b : Bool) → map nameless (cond b (record { number = at; moment = moment; work = flow_packet way time item touch.flow } ∷ []) []) ≡ cond b (record { number = 0; moment = moment; work = flow_packet way time item 0 } ∷ []) []
+      by_flow : (at : ℕ) (b : Bool)
+          → map nameless (cond b (record { number = at; moment = moment; work = flow_packet way time item touch.flow } ∷ []) []) ≡
+          cond b (record { number = 0; moment = moment; work = flow_packet way time item 0 } ∷ []) []
       by_flow at true = refl
       by_flow at false = refl
 
@@ -202,7 +208,9 @@ module _ (way : Way) (records : List LinkedRecord) (room : HasRoomFor way record
 
         Told : Option Item → Type 0
         Told packet =
-            chosen way time moment number (job_count way before) (works_by way time (option_map (touch_found most (touches way before)) (option_and_then (item_key way) packet)) (fragment_item way r) packet)
+            chosen way time moment number (job_count way before)
+            (works_by way time (option_map (touch_found most (touches way before)) (option_and_then (item_key way) packet))
+            (fragment_item way r) packet)
             ≡ own_packet way time moment key packet
 
         of_tracked : (item : Item) (other : Key) → packet_in way before r ≡ Some item → item_key way item ≡ Some other
@@ -322,26 +330,37 @@ module _ (d : Detection) (way : Way) where
         of_tracked item key found tracked =
             let touch : Touch = touch_found most_here (touches way before) key in
             let pushed : touches way (before ++ r ∷ []) ≡ key ∷ touches way before =
-            touches-push way before r ∙ ap (λ (o : Option Item). option_to_list (option_and_then (item_key way) o) ++ touches way before) found
+            touches-push way before r
+            ∙ ap (λ (o : Option Item). option_to_list (option_and_then (item_key way) o) ++ touches way before) found
             ∙ ap (λ (o : Option Key). option_to_list o ++ touches way before) tracked in
             let room_here : Room most_here (key ∷ touches way before) = subst (Room most_here) pushed room in
             let here : is_touched (touches way (before ++ r ∷ [])) key ≡ true =
-            ap (λ (keys : List Key). is_touched keys key) pushed ∙ ap (λ (b : Bool). b || is_touched (touches way before) key) (same_key-self key) in
-            let flow_is : touch.flow ≡ flow_number most_here (touches way (before ++ r ∷ [])) key = ap (λ (keys : List Key). flow_number most_here keys key) (sym pushed) in
+            ap (λ (keys : List Key). is_touched keys key) pushed
+            ∙ ap (λ (b : Bool). b || is_touched (touches way before) key) (same_key-self key) in
+            let flow_is : touch.flow ≡ flow_number most_here (touches way (before ++ r ∷ [])) key =
+            ap (λ (keys : List Key). flow_number most_here keys key) (sym pushed) in
             let own : map nameless (filter (of_number d touch.flow) earlier) ≡ trail (of_key way key) before =
-            ap (λ (n : ℕ). map nameless (filter (of_number d n) earlier)) flow_is ∙ flow-of_key way (before ++ r ∷ []) room key here before (r ∷ []) refl in
-            let last : (number : ℕ) (more : List Job) → Passed more → given number (earlier ++ more) (flow_packet way time item touch.flow ∷ []) ≡ plain_tracked before r item (Some key) =
+            ap (λ (n : ℕ). map nameless (filter (of_number d n) earlier)) flow_is
+            ∙ flow-of_key way (before ++ r ∷ []) room key here before (r ∷ []) refl in
+            let last : (number : ℕ) (more : List Job)
+            → Passed more
+            → given number (earlier ++ more) (flow_packet way time item touch.flow ∷ []) ≡
+            plain_tracked before r item (Some key) =
             λ (number : ℕ) (more : List Job) (passed : Passed more).
             let kept : map nameless (filter (of_number d touch.flow) (earlier ++ more)) ≡ trail (of_key way key) before =
             ap (map nameless) (filter-append (of_number d touch.flow) earlier more
             ∙ ap (λ (js : List Job). filter (of_number d touch.flow) earlier ++ js) (passed touch.flow)
             ∙ append-nil (filter (of_number d touch.flow) earlier))
             ∙ own in
-            append-nil (items_of_job d (earlier ++ more) (record { number = number; moment = moment; work = flow_packet way time item touch.flow }))
+            append-nil (items_of_job d (earlier ++ more)
+            (record { number = number; moment = moment; work = flow_packet way time item touch.flow }))
             ∙ packet-items d way time moment item number touch.flow (earlier ++ more) (trail (of_key way key) before) kept in
-            ap (λ (o : Option ℕ). given (job_count way before) earlier (option_to_list (option_map (λ flow. work.Finish flow) o) ++ (option_to_list (option_map alone (fragment_item way r)) ++ (flow_packet way time item touch.flow ∷ []))))
+            ap (λ (o : Option ℕ). given (job_count way before) earlier
+            (option_to_list (option_map (λ flow. work.Finish flow) o) ++
+            (option_to_list (option_map alone (fragment_item way r)) ++ (flow_packet way time item touch.flow ∷ []))))
             (none-ended most_here key (touches way before) room_here)
-            ∙ after_fragment (fragment_item way r) (flow_packet way time item touch.flow ∷ []) (plain_tracked before r item (Some key)) last
+            ∙ after_fragment (fragment_item way r) (flow_packet way time item touch.flow ∷ [])
+            (plain_tracked before r item (Some key)) last
 
         by_key : (item : Item) (at : Option Key) → packet_in way before r ≡ Some item → item_key way item ≡ at
             → given (job_count way before) earlier (works_by way time (option_map (touch_found most_here (touches way before)) at) (fragment_item way r) (Some item))

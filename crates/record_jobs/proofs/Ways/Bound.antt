@@ -19,8 +19,12 @@ use Rattle.record_jobs.specs.Way.{frag_engine, frag_rules, is_bound, stream_plac
 abbrev pub rules_by : Option FragPolicy → FragEngine → FragRules
 rules_by host engine = record { preference = frag_preference (unwrap_or host engine.policy); timeout = engine.timeout; min_ttl = engine.min_ttl }
 
-pub rules_by-engine : (hosts : List HostLine) (config : FragConfig) (addr : Addr) (engines : List FragEngine) (host : Option FragPolicy) (engine : FragEngine)
-    → engines ≡ config.engines → host ≡ frag_policy_at hosts addr → Some engine ≡ option_or (find (λ (e : FragEngine). is_bound addr e.bind) engines) (find (λ (e : FragEngine). is_none e.bind) engines)
+pub rules_by-engine : (hosts : List HostLine) (config : FragConfig) (addr : Addr) (engines : List FragEngine)
+    (host : Option FragPolicy) (engine : FragEngine)
+    → engines ≡ config.engines
+    → host ≡ frag_policy_at hosts addr
+    → Some engine ≡
+    option_or (find (λ (e : FragEngine). is_bound addr e.bind) engines) (find (λ (e : FragEngine). is_none e.bind) engines)
     → rules_by host engine ≡ frag_rules hosts config addr
 unfolding frag_rules frag_engine
 rules_by-engine hosts config addr engines host engine all said found =

@@ -63,11 +63,17 @@ ports-unique text a b first second = same_list (list_parts port_bounds text) a b
 
 address_word : (variables : Variables) (text : List ℕ) → IsOne (IsAddressWord variables text)
 unfolding IsAddressWord
-address_word variables text = after (λ answer. answer ≡ expanded_word variables text) (IsReadAs address_bounds fault.Address) (equal (expanded_word variables text)) (as_list address_bounds addresses-unique fault.Address)
+address_word variables text =
+    after (λ answer. answer ≡ expanded_word variables text)
+    (IsReadAs address_bounds fault.Address) (equal (expanded_word variables text))
+    (as_list address_bounds addresses-unique fault.Address)
 
 port_word : (variables : Variables) (text : List ℕ) → IsOne (IsPortWord variables text)
 unfolding IsPortWord
-port_word variables text = after (λ answer. answer ≡ expanded_word variables text) (IsReadAs port_bounds fault.Port) (equal (expanded_word variables text)) (as_list port_bounds ports-unique fault.Port)
+port_word variables text =
+    after (λ answer. answer ≡ expanded_word variables text)
+    (IsReadAs port_bounds fault.Port) (equal (expanded_word variables text))
+    (as_list port_bounds ports-unique fault.Port)
 
 header-one : (variables : Variables) (line : List ℕ) → IsOne (IsHeader variables line)
 unfolding IsHeader

@@ -1,5 +1,6 @@
 -- The fold over options, option by option, as the loop over a rule's options goes through it.
-use Rattle.std.proofs.Common.{◌≡◌, ℕ, ◌+◌, ◌-◌, ◌<◌, Bool, true, false, Option, Some, None, Result, Ok, Err, List, [], ◌∷◌, length, take, drop, refl, ap, sym, ◌∙◌, cond, arith, length-drop, length-take}
+use Rattle.std.proofs.Common.{◌≡◌, ℕ, ◌+◌, ◌-◌, ◌<◌, Bool, true, false, Option, Some, None, Result, Ok, Err, List, [], ◌∷◌}
+use Rattle.std.proofs.Common.{length, take, drop, refl, ap, sym, ◌∙◌, cond, arith, length-drop, length-take}
 use Rattle.std.proofs.lemmas.List.{take_rest}
 use Rattle.std.specs.List.{list_all}
 use Rattle.conf_types.specs.declared.classes.Class.{Class}
@@ -80,7 +81,8 @@ options-stop classes (Wrong why) whole names later draft text option after left 
 abbrev pub at_end : Bool → Draft → List (List ℕ) → Result (Draft × List (List ℕ)) Fault
 at_end blank draft names = cond blank (Ok (draft, names)) (Err OptionSyntax)
 
-options-last : (classes : List Class) (names : List (List ℕ)) (draft : Draft) (text : List ℕ) (left : ℕ) → rule_options classes names draft left (text ∷ []) ≡ at_end (list_all is_blank text) draft names
+options-last : (classes : List Class) (names : List (List ℕ)) (draft : Draft) (text : List ℕ) (left : ℕ)
+    → rule_options classes names draft left (text ∷ []) ≡ at_end (list_all is_blank text) draft names
 unfolding rule_options
 options-last classes names draft text left = refl
 

@@ -1,5 +1,7 @@
 -- Options on numbers in the payload keep a rule sound.
-use Rattle.std.proofs.Common.{◌≡◌, ℕ, ◌+◌, ◌-◌, ◌<◌, ◌≤◌, ◌==◌, ◌&&◌, ◌||◌, ◌++◌, ◌⊎◌, Bool, true, false, not, cond, ℤ, pos, negsuc, Option, Some, None, Ok, Err, List, [], ◌∷◌, length, nat_le, is_some, bytes_eq, codes, refl, arith, inl, inr, IfSome, IfOk, IsTrue, Contains}
+use Rattle.std.proofs.Common.{◌≡◌, ℕ, ◌+◌, ◌-◌, ◌<◌, ◌≤◌, ◌==◌, ◌&&◌, ◌||◌, ◌++◌, ◌⊎◌, Bool, true, false, not, cond, ℤ, pos}
+use Rattle.std.proofs.Common.{negsuc, Option, Some, None, Ok, Err, List, [], ◌∷◌, length, nat_le, is_some, bytes_eq, codes, refl}
+use Rattle.std.proofs.Common.{arith, inl, inr, IfSome, IfOk, IsTrue, Contains}
 use Rattle.std.specs.Option.{unwrap_or}
 use Rattle.std.proofs.lemmas.Bool.Decides.{nat_tests}
 use Rattle.std.proofs.lemmas.Grind.{common_steps}
@@ -18,7 +20,12 @@ use Rattle.rule_types.specs.declared.option.Base.TheVariants as base
 use Rattle.rule_types.specs.declared.option.Cmp.{Cmp}
 use Rattle.rule_types.specs.declared.option.Num.{Num}
 use Rattle.rule_types.specs.declared.option.Opt.{Opt}
-use Rattle.rule_parser.specs.ByteOptions.{Part, first_part, next_part, no_words, once_only, with_times, with_post, with_multiple, shared_word, jump_word, extract_word, word_of, words_of, lacks_string, fetch_of, extract_of, Comparison, comparison_of, operator_of, offset_of, byte_test, byte_test_option, byte_jump, byte_jump_option, Extraction, with_name, byte_extract, with_extraction, byte_extract_option, data_words, parts_after, isdataat, isdataat_option}
+use Rattle.rule_parser.specs.ByteOptions.{Part, first_part, next_part, no_words, once_only, with_times, with_post, with_multiple}
+use Rattle.rule_parser.specs.ByteOptions.{shared_word, jump_word, extract_word, word_of, words_of, lacks_string, fetch_of}
+use Rattle.rule_parser.specs.ByteOptions.{extract_of, Comparison, comparison_of, operator_of, offset_of, byte_test}
+use Rattle.rule_parser.specs.ByteOptions.{byte_test_option, byte_jump, byte_jump_option, Extraction, with_name, byte_extract}
+use Rattle.rule_parser.specs.ByteOptions.{with_extraction, byte_extract_option, data_words, parts_after, isdataat}
+use Rattle.rule_parser.specs.ByteOptions.{isdataat_option}
 use Rattle.rule_parser.specs.Contents.{negation}
 use Rattle.rule_parser.specs.Drafts.{kept_count, kept}
 use Rattle.net_lists.specs.Variables.{is_name}
@@ -44,14 +51,21 @@ once-words is_given next h = if_ok AreWords is_given (Err OptionValue) (Ok next)
 times-words : (words : Words) (number : List ℕ) → AreWords words → IfOk (with_times words number) AreWords
 unfolding with_times
 times-words words number h =
-    then_ok (IsIn 0 65535) AreWords (or_kind OptionValue (number_in 0 65535 number)) _ (kind_ok (IsIn 0 65535) OptionValue (number_in 0 65535 number) (number_in-within 0 65535 number)) (λ times within.
-    once-words (is_some words.times) (record words { times = Some times }) (record { base = h.base; times = within.1; align = h.align; post = h.post }))
+    then_ok (IsIn 0 65535) AreWords (or_kind OptionValue (number_in 0 65535 number)) _
+    (kind_ok (IsIn 0 65535) OptionValue (number_in 0 65535 number) (number_in-within 0 65535 number))
+    (λ times within.
+    once-words (is_some words.times) (record words { times = Some times })
+    (record { base = h.base; times = within.1; align = h.align; post = h.post }))
 
 post-words : (words : Words) (number : List ℕ) → AreWords words → IfOk (with_post words number) AreWords
 unfolding with_post
 post-words words number h =
-    then_ok (IsSignedIn (negsuc 65534) (pos 65535)) AreWords (or_kind OptionValue (signed_in (negsuc 65534) (pos 65535) number)) _ (kind_ok (IsSignedIn (negsuc 65534) (pos 65535)) OptionValue (signed_in (negsuc 65534) (pos 65535) number) (signed_in-within (negsuc 65534) (pos 65535) number)) (λ post within.
-    once-words (is_some words.post) (record words { post = Some post }) (record { base = h.base; times = h.times; align = h.align; post = within }))
+    then_ok (IsSignedIn (negsuc 65534) (pos 65535)) AreWords (or_kind OptionValue (signed_in (negsuc 65534) (pos 65535) number)) _
+    (kind_ok (IsSignedIn (negsuc 65534) (pos 65535)) OptionValue (signed_in (negsuc 65534) (pos 65535) number)
+    (signed_in-within (negsuc 65534) (pos 65535) number))
+    (λ post within.
+    once-words (is_some words.post) (record words { post = Some post })
+    (record { base = h.base; times = h.times; align = h.align; post = within }))
 
 aligned-words : (words : Words) (align : ℕ) → IsTrue (align == 2 || align == 4) → AreWords words → IfOk (once_only (is_some words.align) (record words { align = Some align })) AreWords
 aligned-words words align two h = once-words (is_some words.align) (record words { align = Some align }) (record { base = h.base; times = h.times; align = two; post = h.post })
@@ -68,10 +82,22 @@ based-words words base ten h = once-words (is_some words.base) (record words { b
 shared-words : (words : Words) (part : List ℕ) → AreWords words → IfOk (shared_word words part) AreWords
 unfolding shared_word
 shared-words words part h =
-    if_ok AreWords (bytes_eq part (codes "relative")) _ _ (λ _. once-words words.relative (record words { relative = true }) (record { base = h.base; times = h.times; align = h.align; post = h.post })) (λ _.
-    if_ok AreWords (bytes_eq part (codes "big")) _ _ (λ _. once-words words.big (record words { big = true }) (record { base = h.base; times = h.times; align = h.align; post = h.post })) (λ _.
-    if_ok AreWords (bytes_eq part (codes "little")) _ _ (λ _. once-words words.little (record words { little = true }) (record { base = h.base; times = h.times; align = h.align; post = h.post })) (λ _.
-    if_ok AreWords (bytes_eq part (codes "string")) _ _ (λ _. once-words words.string (record words { string = true }) (record { base = h.base; times = h.times; align = h.align; post = h.post })) (λ _.
+    if_ok AreWords (bytes_eq part (codes "relative")) _ _
+    (λ _. once-words words.relative (record words { relative = true })
+    (record { base = h.base; times = h.times; align = h.align; post = h.post }))
+    (λ _.
+    if_ok AreWords (bytes_eq part (codes "big")) _ _
+    (λ _. once-words words.big (record words { big = true })
+    (record { base = h.base; times = h.times; align = h.align; post = h.post }))
+    (λ _.
+    if_ok AreWords (bytes_eq part (codes "little")) _ _
+    (λ _. once-words words.little (record words { little = true })
+    (record { base = h.base; times = h.times; align = h.align; post = h.post }))
+    (λ _.
+    if_ok AreWords (bytes_eq part (codes "string")) _ _
+    (λ _. once-words words.string (record words { string = true })
+    (record { base = h.base; times = h.times; align = h.align; post = h.post }))
+    (λ _.
     if_ok AreWords (bytes_eq part (codes "dec")) _ _ (λ _. based-words words base.Dec refl h) (λ _.
     if_ok AreWords (bytes_eq part (codes "hex")) _ _ (λ _. based-words words base.Hex refl h) (λ _.
     if_ok AreWords (bytes_eq part (codes "oct")) _ _ (λ _. based-words words base.Oct refl h) (λ _.
@@ -83,7 +109,10 @@ jump-words words part h =
     if_ok AreWords (bytes_eq (first_word part) (codes "multiplier")) _ _ (λ _. times-words words (after_word part) h) (λ _.
     if_ok AreWords (bytes_eq (first_word part) (codes "post_offset")) _ _ (λ _. post-words words (after_word part) h) (λ _.
     if_ok AreWords (bytes_eq part (codes "align")) _ _ (λ _. aligned-words words 4 refl h) (λ _.
-    if_ok AreWords (bytes_eq part (codes "from_beginning")) _ _ (λ _. once-words words.beginning (record words { beginning = true }) (record { base = h.base; times = h.times; align = h.align; post = h.post })) (λ _. shared-words words part h))))
+    if_ok AreWords (bytes_eq part (codes "from_beginning")) _ _
+    (λ _. once-words words.beginning (record words { beginning = true })
+    (record { base = h.base; times = h.times; align = h.align; post = h.post }))
+    (λ _. shared-words words part h))))
 
 extract-words : (words : Words) (part : List ℕ) → AreWords words → IfOk (extract_word words part) AreWords
 unfolding extract_word
@@ -102,16 +131,29 @@ words_of-words which None = none-words
 words_of-words which (Some text) = fold_ok AreWords (word_of which) (word_of-words which) no_words none-words (comma_parts text)
 
 -- as many bytes as the base allows
-fetched : (string : Bool) (based : Option Base) (little : Bool) (bytes : ℕ) → bytes ≤ 10 → IfSome based (λ base. bytes_of_base base ≡ 10) → (not string && (is_some based || not (nat_le bytes 4))) ≡ false → bytes ≤ bytes_of_base (cond string (unwrap_or based base.Dec) (base.Binary little))
+fetched : (string : Bool) (based : Option Base) (little : Bool) (bytes : ℕ)
+    → bytes ≤ 10
+    → IfSome based (λ base. bytes_of_base base ≡ 10)
+    → (not string && (is_some based || not (nat_le bytes 4))) ≡ false
+    → bytes ≤ bytes_of_base (cond string (unwrap_or based base.Dec) (base.Binary little))
 fetched true None little bytes ten h e = ten
 fetched true (Some which) little bytes ten h e = omega (arith, h)
 fetched false None little bytes ten h e = grind (arith, nat_tests)
 fetched false (Some which) little bytes ten h e = cc
 
-fetch-of : (names : List ℕ) (count bytes : ℕ) (offset : Num) (words : Words) → AreNamed names count → IsIn 1 10 bytes → IsNumBelow count (negsuc 65534) (pos 65535) offset → AreWords words → IfOk (fetch_of bytes offset words) (IsFetch names)
+fetch-of : (names : List ℕ) (count bytes : ℕ) (offset : Num) (words : Words)
+    → AreNamed names count
+    → IsIn 1 10 bytes
+    → IsNumBelow count (negsuc 65534) (pos 65535) offset
+    → AreWords words
+    → IfOk (fetch_of bytes offset words) (IsFetch names)
 unfolding fetch_of
 fetch-of names count bytes offset words named within below h =
-    if_ok (IsFetch names) (lacks_string bytes words) (Err OptionValue) _ (λ _. tt) (λ e. ((within.0, fetched words.string words.base words.little bytes within.1 h.base e), num-named names count (negsuc 65534) (pos 65535) offset named below))
+    if_ok (IsFetch names) (lacks_string bytes words) (Err OptionValue) _ (λ _. tt)
+    (λ e. (
+      (within.0, fetched words.string words.base words.little bytes within.1 h.base e),
+      num-named names count (negsuc 65534) (pos 65535) offset named below,
+    ))
 
 unwrapped : (o : Option ℕ) (default most : ℕ) → default ≤ most → IfSome o (λ n. n ≤ most) → unwrap_or o default ≤ most
 unwrapped None default most h k = h
@@ -158,9 +200,14 @@ module _ (classes : ℕ) (draft : Draft) (sound : IsSoundDraft classes draft) wh
   unfolding comparison_of IsCompared
   comparison_ok count =
       then_ok (λ _. Unit {0}) IsCompared (next_part count) _ (any_ok (next_part count)) (λ operator _.
-      then_ok (λ how. IsTrue (is_test how)) IsCompared (operator_of (negation operator.text).0 (negation operator.text).1) _ (operator-tests (negation operator.text).0 (negation operator.text).1) (λ how tests.
+      then_ok (λ how. IsTrue (is_test how)) IsCompared (operator_of (negation operator.text).0 (negation operator.text).1) _
+      (operator-tests (negation operator.text).0 (negation operator.text).1)
+      (λ how tests.
       then_ok (λ _. Unit {0}) IsCompared (next_part operator) _ (any_ok (next_part operator)) (λ against _.
-      then_ok (IsNumBelow (length draft.names) (pos 0) (pos 4294967295)) IsCompared (number_or_named 0 4294967295 draft.names against.left against.text) _ (number_or_named-below 0 4294967295 draft.names against.left against.text) (λ number below. (below, tests)))))
+      then_ok (IsNumBelow (length draft.names) (pos 0) (pos 4294967295)) IsCompared
+      (number_or_named 0 4294967295 draft.names against.left against.text) _
+      (number_or_named-below 0 4294967295 draft.names against.left against.text)
+      (λ number below. (below, tests)))))
 
   -- an option that may come after the names of the draft, and is kept
   MayCome : Opt → Type 0
@@ -205,7 +252,9 @@ module _ (classes : ℕ) (draft : Draft) (sound : IsSoundDraft classes draft) wh
   byte_jump-sound left value = then_ok MayCome (IsSoundDraft classes) (byte_jump draft.names left value) (kept draft) (byte_jump-is_given left value) is_given-sound
 
   -- the names after one more: each is one of those before, or the new one
-  name_ok : (name : List ℕ) → IfOk (with_name draft.names name (place_among name draft.names)) (λ found. (length found.0 ≤ 2) × (found.1 < 2) × ((k : ℕ) → k < length found.0 → (k < length draft.names) ⊎ (found.1 ≡ k)))
+  name_ok : (name : List ℕ)
+      → IfOk (with_name draft.names name (place_among name draft.names))
+      (λ found. (length found.0 ≤ 2) × (found.1 < 2) × ((k : ℕ) → k < length found.0 → (k < length draft.names) ⊎ (found.1 ≡ k)))
   name_ok name = go (place_among name draft.names) (place_among-below name draft.names)
     where
       few : length draft.names ≤ 2
@@ -220,10 +269,21 @@ module _ (classes : ℕ) (draft : Draft) (sound : IsSoundDraft classes draft) wh
       last : (k count : ℕ) → k < count + 1 → (k < count) ⊎ (count ≡ k)
       last k count h = grind arith
 
-      go : (o : Option ℕ) → IfSome o (λ place. place < length draft.names) → IfOk (with_name draft.names name o) (λ found. (length found.0 ≤ 2) × (found.1 < 2) × ((k : ℕ) → k < length found.0 → (k < length draft.names) ⊎ (found.1 ≡ k)))
+      go : (o : Option ℕ)
+          → IfSome o (λ place. place < length draft.names)
+          → IfOk (with_name draft.names name o)
+          (λ found. (length found.0 ≤ 2) × (found.1 < 2) ×
+          ((k : ℕ) → k < length found.0 → (k < length draft.names) ⊎ (found.1 ≡ k)))
       go (Some place) h = (few, omega arith, λ k kh. inl kh)
-      go None h = if_ok (λ found. (length found.0 ≤ 2) × (found.1 < 2) × ((k : ℕ) → k < length found.0 → (k < length draft.names) ⊎ (found.1 ≡ k))) (nat_le 2 (length draft.names)) (Err Limit) (Ok (draft.names ++ name ∷ [], length draft.names)) (λ _. tt)
-          (λ room. let lt = below (length draft.names) room in let len = pushed draft.names name in (omega arith, lt, λ k kh. last k (length draft.names) (omega arith)))
+      go None h =
+          if_ok (λ found. (length found.0 ≤ 2) × (found.1 < 2) ×
+          ((k : ℕ) → k < length found.0 → (k < length draft.names) ⊎ (found.1 ≡ k)))
+          (nat_le 2 (length draft.names)) (Err Limit)
+          (Ok (draft.names ++ name ∷ [], length draft.names))
+          (λ _. tt)
+          (λ room.
+          let lt = below (length draft.names) room in
+          let len = pushed draft.names name in (omega arith, lt, λ k kh. last k (length draft.names) (omega arith)))
 
   -- a name that was extracted, or this one
   named_more : (names : List ℕ) (place k : ℕ) → (k < length draft.names) ⊎ (place ≡ k) → AreNamed names (length draft.names) → Contains (place ∷ names) k
@@ -242,18 +302,35 @@ module _ (classes : ℕ) (draft : Draft) (sound : IsSoundDraft classes draft) wh
       let count = first_part left value in
       then_ok (IsIn 1 10) IsExtraction (or_kind OptionValue (number_in 1 10 count.text)) _ (count_ok count.text) (λ bytes within.
       then_ok (λ _. Unit {0}) IsExtraction (next_part count) _ (any_ok (next_part count)) (λ place _.
-      then_ok (IsNumBelow (length draft.names) (negsuc 65534) (pos 65535)) IsExtraction (offset_of draft.names place) _ (offset_ok place) (λ offset below.
+      then_ok (IsNumBelow (length draft.names) (negsuc 65534) (pos 65535)) IsExtraction
+      (offset_of draft.names place) _ (offset_ok place) (λ offset below.
       then_ok (λ _. Unit {0}) IsExtraction (next_part place) _ (any_ok (next_part place)) (λ name _.
-      then_ok AreWords IsExtraction (cond (is_name name.text) (words_of Extract name.after) (Err OptionValue)) _ (if_ok AreWords (is_name name.text) (words_of Extract name.after) (Err OptionValue) (λ _. words_of-words Extract name.after) (λ _. tt)) (λ words h.
-      then_ok (IsFetch names) IsExtraction (fetch_of bytes offset words) _ (fetch-of names (length draft.names) bytes offset words sound.kept.named within below h) (λ fetch is_fetch. record { fetch = is_fetch; words = h }))))))
+      then_ok AreWords IsExtraction (cond (is_name name.text) (words_of Extract name.after) (Err OptionValue)) _
+      (if_ok AreWords (is_name name.text) (words_of Extract name.after) (Err OptionValue) (λ _. words_of-words Extract name.after)
+      (λ _. tt))
+      (λ words h.
+      then_ok (IsFetch names) IsExtraction (fetch_of bytes offset words) _
+      (fetch-of names (length draft.names) bytes offset words sound.kept.named within below h)
+      (λ fetch is_fetch. record { fetch = is_fetch; words = h }))))))
 
   with_extraction-sound : (found : Extraction) → IsExtraction found → IfOk (with_extraction draft found) (IsSoundDraft classes)
   unfolding with_extraction kept
   with_extraction-sound found h =
       let names = names_after [] draft.opts in
-      then_ok (λ placed. (length placed.0 ≤ 2) × (placed.1 < 2) × ((k : ℕ) → k < length placed.0 → (k < length draft.names) ⊎ (placed.1 ≡ k))) (IsSoundDraft classes) (with_name draft.names found.name (place_among found.name draft.names)) _ (name_ok found.name) (λ placed ok.
+      then_ok (λ placed. (length placed.0 ≤ 2) × (placed.1 < 2) ×
+      ((k : ℕ) → k < length placed.0 → (k < length draft.names) ⊎ (placed.1 ≡ k)))
+      (IsSoundDraft classes)
+      (with_name draft.names found.name (place_among found.name draft.names)) _
+      (name_ok found.name) (λ placed ok.
       if_ok (IsSoundDraft classes) (nat_le 64 (kept_count draft)) (Err Limit) _ (λ _. tt) (λ room. record {
-        kept = kept-more draft.opts draft.held draft.names placed.0 draft.fast (extract_of found.fetch placed.1 found.words) sound.kept (h.fetch, ok.1, unwrapped found.words.times 1 65535 (omega arith) h.words.times, unwrapped_align found.words.align h.words.align) refl (λ k kh. named_more names placed.1 k (ok.2 k kh) sound.kept.named) ok.0 room;
+        kept =
+            kept-more draft.opts draft.held draft.names placed.0 draft.fast (extract_of found.fetch placed.1 found.words)
+            sound.kept (
+              h.fetch,
+              ok.1,
+              unwrapped found.words.times 1 65535 (omega arith) h.words.times,
+              unwrapped_align found.words.align h.words.align,
+            ) refl (λ k kh. named_more names placed.1 k (ok.2 k kh) sound.kept.named) ok.0 room;
         msg = sound.msg;
         gid = sound.gid;
         sid = sound.sid;
@@ -271,8 +348,12 @@ module _ (classes : ℕ) (draft : Draft) (sound : IsSoundDraft classes draft) wh
       let names = names_after [] draft.opts in
       let place = first_part left value in
       let sign = negation place.text in
-      then_ok (IsNumBelow (length draft.names) (pos 0) (pos 65535)) MayCome (number_or_named 0 65535 draft.names (place.left - cond sign.0 1 0) sign.1) _ (number_or_named-below 0 65535 draft.names (place.left - cond sign.0 1 0) sign.1) (λ at below.
-      then_ok (λ _. Unit {0}) MayCome (data_words (parts_after place.after)) _ (any_ok (data_words (parts_after place.after))) (λ relative _.
+      then_ok (IsNumBelow (length draft.names) (pos 0) (pos 65535)) MayCome
+      (number_or_named 0 65535 draft.names (place.left - cond sign.0 1 0) sign.1) _
+      (number_or_named-below 0 65535 draft.names (place.left - cond sign.0 1 0) sign.1)
+      (λ at below.
+      then_ok (λ _. Unit {0}) MayCome (data_words (parts_after place.after)) _ (any_ok (data_words (parts_after place.after)))
+      (λ relative _.
       (num-named names (length draft.names) (pos 0) (pos 65535) at sound.kept.named below, (refl, λ names. refl))))
 
   pub isdataat-sound : (left : ℕ) (value : List ℕ) → IfOk (isdataat_option draft left value) (IsSoundDraft classes)

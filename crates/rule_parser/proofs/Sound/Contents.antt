@@ -1,5 +1,7 @@
 -- Contents and their modifiers keep a rule sound.
-use Rattle.std.proofs.Common.{◌≡◌, ℕ, ◌+◌, ◌≤◌, ◌==◌, ◌&&◌, ◌||◌, Bool, true, false, not, cond, ℤ, pos, negsuc, ◌≤ℤ◌, Option, Some, None, Result, Ok, Err, List, [], ◌∷◌, length, take, nat_le, is_some, bytes_eq, codes, refl, sym, ap, subst, ◌∙◌, arith, IfSome, IfOk, count_by, length-take}
+use Rattle.std.proofs.Common.{◌≡◌, ℕ, ◌+◌, ◌≤◌, ◌==◌, ◌&&◌, ◌||◌, Bool, true, false, not, cond, ℤ, pos, negsuc, ◌≤ℤ◌, Option}
+use Rattle.std.proofs.Common.{Some, None, Result, Ok, Err, List, [], ◌∷◌, length, take, nat_le, is_some, bytes_eq, codes, refl}
+use Rattle.std.proofs.Common.{sym, ap, subst, ◌∙◌, arith, IfSome, IfOk, count_by, length-take}
 use Rattle.std.proofs.lemmas.Bool.Decides.{nat_tests}
 use Rattle.std.proofs.lemmas.Int.{ints}
 use Rattle.std.proofs.lemmas.List.{take_all}
@@ -20,7 +22,10 @@ use Rattle.rule_types.specs.declared.option.Num.TheVariants as num
 use Rattle.rule_types.specs.declared.option.Opt.{Opt}
 use Rattle.rule_parser.specs.declared.quoted.Style.TheVariants.{Bytes}
 use Rattle.rule_parser.specs.declared.quoted.Place.TheVariants.{Plain}
-use Rattle.rule_parser.specs.Contents.{negation, plain_content, with_content, with_bytes, content_option, apart, with_last, nocase, nocase_option, rawbytes, rawbytes_option, is_relative, bars_from, bars_room, place_text, known_before, with_from, from_option, room_of, with_room, room_option, fast_part, fast_mode, is_only, fast_on, has_room, bars_fast, fast_pattern_option}
+use Rattle.rule_parser.specs.Contents.{negation, plain_content, with_content, with_bytes, content_option, apart, with_last}
+use Rattle.rule_parser.specs.Contents.{nocase, nocase_option, rawbytes, rawbytes_option, is_relative, bars_from, bars_room}
+use Rattle.rule_parser.specs.Contents.{place_text, known_before, with_from, from_option, room_of, with_room, room_option}
+use Rattle.rule_parser.specs.Contents.{fast_part, fast_mode, is_only, fast_on, has_room, bars_fast, fast_pattern_option}
 use Rattle.rule_parser.specs.Drafts.{kept_count, settled}
 use Rattle.rule_parser.specs.Names.{signed_or_named}
 use Rattle.rule_parser.specs.Quotes.{meaning}
@@ -31,7 +36,12 @@ use Rattle.rule_parser.proofs.Sound.Steps.{then_ok, any_ok, kind_ok, if_ok}
 use Rattle.rule_parser.proofs.Sound.Values.{IsIn, IsNumBelow, number_in-within, signed_or_named-below, named-below, num-named}
 
 -- a new content comes after all options that there are
-held-new : (classes : ℕ) (draft : Draft) (content : Content) → IsSoundDraft classes draft → ((names : List ℕ) → IsContent names content) → content.fast ≡ fast.No → IsHeld (settled draft) (record { content = content; place = length (settled draft); known = length draft.names; raw = false; placeless = false })
+held-new : (classes : ℕ) (draft : Draft) (content : Content)
+    → IsSoundDraft classes draft
+    → ((names : List ℕ) → IsContent names content)
+    → content.fast ≡ fast.No
+    → IsHeld (settled draft)
+    (record { content = content; place = length (settled draft); known = length draft.names; raw = false; placeless = false })
 unfolding settled
 held-new classes draft content sound is_content plain =
     let all = settled draft in
@@ -56,8 +66,12 @@ kept-new classes draft content sound is_content plain room =
       named = subst At (sym (settled-names draft.opts draft.held)) sound.kept.named;
       few = sound.kept.few;
       held = held-new classes draft content sound is_content plain;
-      count = fits (length draft.opts) (count_held draft.held) (length (settled draft)) (settled-length draft.opts draft.held sound.kept.held) room;
-      chosen = same (count_by is_fast draft.opts) (count_by is_fast (settled draft)) (fast_held draft.held) (cond draft.fast 1 0) (is_chosen content.fast) (settled-fast draft.opts draft.held) (ap is_chosen plain) sound.kept.chosen;
+      count =
+          fits (length draft.opts) (count_held draft.held) (length (settled draft))
+          (settled-length draft.opts draft.held sound.kept.held) room;
+      chosen =
+          same (count_by is_fast draft.opts) (count_by is_fast (settled draft)) (fast_held draft.held) (cond draft.fast 1 0)
+          (is_chosen content.fast) (settled-fast draft.opts draft.held) (ap is_chosen plain) sound.kept.chosen;
     }
   where
     fits : (len held all : ℕ) → all ≡ len + held → nat_le 64 (len + held) ≡ false → all + 1 ≤ 64
@@ -110,7 +124,12 @@ record IsModified (opts : List Opt) (held next : Held) : Type 0 where
   same : is_chosen next.content.fast ≡ is_chosen held.content.fast
 
 -- a draft with its last content changed
-last-sound : (classes : ℕ) (draft rest : Draft) (held next : Held) → IsSoundDraft classes draft → draft.held ≡ Some held → rest ≡ record draft { held = None } → IsModified draft.opts held next → IsSoundDraft classes (with_last rest next)
+last-sound : (classes : ℕ) (draft rest : Draft) (held next : Held)
+    → IsSoundDraft classes draft
+    → draft.held ≡ Some held
+    → rest ≡ record draft { held = None }
+    → IsModified draft.opts held next
+    → IsSoundDraft classes (with_last rest next)
 last-sound classes draft rest held next sound e r modified =
     let Kept : Option Held → Type 0 = λ o. AreKept draft.opts o draft.names draft.fast in
     let Sound : Draft → Type 0 = λ d. IsSoundDraft classes (with_last d next) in
@@ -135,7 +154,10 @@ last-sound classes draft rest held next sound e r modified =
     as_many count b before most e h = let number : Bool → ℕ = λ b. cond b 1 0 in omega (arith, ap number e)
 
 -- a modifier, by what it makes of the last content among these names
-modified-sound : (classes : ℕ) (draft : Draft) → IsSoundDraft classes draft → (modify : Held → List (List ℕ) → Result Held Fault) → ((held : Held) → IfOk (modify held draft.names) (IsModified draft.opts held))
+modified-sound : (classes : ℕ) (draft : Draft)
+    → IsSoundDraft classes draft
+    → (modify : Held → List (List ℕ) → Result Held Fault)
+    → ((held : Held) → IfOk (modify held draft.names) (IsModified draft.opts held))
     → IfOk (apart draft >>= λ parts. modify parts.0 parts.1.names >>= λ held. Ok (with_last parts.1 held)) (IsSoundDraft classes)
 modified-sound classes draft sound modify h =
     then_ok (IsApart draft) (IsSoundDraft classes) (apart draft) _ (apart_ok draft) (λ parts e.
@@ -159,7 +181,10 @@ rawbytes-sound classes draft sound value = modified-sound classes draft sound (�
     record { keeps = λ h. record { place = h.place; known = h.known; content = h.content; placeless = h.placeless }; same = refl })))
 
 -- a place goes with any fast pattern but `only`
-fast-placed : (content : Content) (relative : Bool) (from room : Option Num) (mode : FastMode) → is_only mode ≡ false → IsFast content mode → IsFast (record content { relative = relative; from = from; room = room }) mode
+fast-placed : (content : Content) (relative : Bool) (from room : Option Num) (mode : FastMode)
+    → is_only mode ≡ false
+    → IsFast content mode
+    → IsFast (record content { relative = relative; from = from; room = room }) mode
 fast-placed content relative from room fast.No other h = tt
 fast-placed content relative from room fast.Yes other h = h
 fast-placed content relative from room fast.Only other h = absurd (true≢ other)
@@ -182,39 +207,73 @@ below-known known count least most (num.Name place) h = omega (arith, length-tak
 
 pub from-sound : (classes : ℕ) (name : Modifier) (draft : Draft) → IsSoundDraft classes draft → (left : ℕ) (value : Option (List ℕ)) → IfOk (from_option name draft left value) (IsSoundDraft classes)
 unfolding from_option with_from
-from-sound classes name draft sound left value = modified-sound classes draft sound (λ held names. with_from name held names left value) (λ held.
-    then_ok (λ _. held.placeless ≡ false) (IsModified draft.opts held) (place_text (bars_from name held.content) held.placeless value) _ (place_text-ok (bars_from name held.content) held.placeless value) (λ text placed.
-    then_ok (IsNumBelow (length (known_before draft.names held)) (negsuc 65534) (pos 65535)) (IsModified draft.opts held) (signed_or_named (negsuc 65534) (pos 65535) (known_before draft.names held) left text) _ (signed_or_named-below (negsuc 65534) (pos 65535) (known_before draft.names held) left text) (λ from below.
+from-sound classes name draft sound left value =
+    modified-sound classes draft sound (λ held names. with_from name held names left value) (λ held.
+    then_ok (λ _. held.placeless ≡ false) (IsModified draft.opts held)
+    (place_text (bars_from name held.content) held.placeless value) _
+    (place_text-ok (bars_from name held.content) held.placeless value)
+    (λ text placed.
+    then_ok (IsNumBelow (length (known_before draft.names held)) (negsuc 65534) (pos 65535))
+    (IsModified draft.opts held)
+    (signed_or_named (negsuc 65534) (pos 65535) (known_before draft.names held) left text) _
+    (signed_or_named-below (negsuc 65534) (pos 65535) (known_before draft.names held) left text)
+    (λ from below.
     let names = names_after [] (take held.place draft.opts) in
     record {
       keeps = λ h. record {
         place = h.place;
         known = h.known;
-        content = (h.content.0, num-named names held.known (negsuc 65534) (pos 65535) from h.known (below-known draft.names held.known (negsuc 65534) (pos 65535) from below), h.content.2, fast-placed held.content (is_relative name) (Some from) held.content.room held.content.fast (h.placeless placed) h.content.3);
+        content = (
+          h.content.0,
+          num-named names held.known (negsuc 65534) (pos 65535) from h.known
+              (below-known draft.names held.known (negsuc 65534) (pos 65535) from below),
+          h.content.2,
+          fast-placed held.content (is_relative name) (Some from) held.content.room held.content.fast (h.placeless placed)
+              h.content.3,
+        );
         placeless = h.placeless;
       };
       same = refl;
     })))
 
-room_of-below : (size : ℕ) (known : List (List ℕ)) (left : ℕ) (text : List ℕ) (o : Option ℕ) → IfSome o (IsIn 0 65535) → IfOk (room_of size known left text o) (IsNumBelow (length known) (pos size) (pos 65535))
+room_of-below : (size : ℕ) (known : List (List ℕ)) (left : ℕ) (text : List ℕ) (o : Option ℕ)
+    → IfSome o (IsIn 0 65535)
+    → IfOk (room_of size known left text o) (IsNumBelow (length known) (pos size) (pos 65535))
 room_of-below size known left text None h = named-below (pos size) (pos 65535) known left text
-room_of-below size known left text (Some number) h = if_ok (IsNumBelow (length known) (pos size) (pos 65535)) (nat_le size number) (Ok (num.Value (pos number))) (Err OptionValue) (λ e. (least e, omega (arith, ints))) (λ _. tt)
+room_of-below size known left text (Some number) h =
+    if_ok (IsNumBelow (length known) (pos size) (pos 65535))
+    (nat_le size number) (Ok (num.Value (pos number))) (Err OptionValue) (λ e. (least e, omega (arith, ints))) (λ _. tt)
   where
     least : nat_le size number ≡ true → pos size ≤ℤ pos number
     least e = let le : size ≤ number = grind (arith, nat_tests) in omega (arith, ints)
 
 pub room-sound : (classes : ℕ) (name : Modifier) (draft : Draft) → IsSoundDraft classes draft → (left : ℕ) (value : Option (List ℕ)) → IfOk (room_option name draft left value) (IsSoundDraft classes)
 unfolding room_option with_room
-room-sound classes name draft sound left value = modified-sound classes draft sound (λ held names. with_room name held names left value) (λ held.
-    then_ok (λ _. held.placeless ≡ false) (IsModified draft.opts held) (place_text (bars_room name held.content) held.placeless value) _ (place_text-ok (bars_room name held.content) held.placeless value) (λ text placed.
+room-sound classes name draft sound left value =
+    modified-sound classes draft sound (λ held names. with_room name held names left value) (λ held.
+    then_ok (λ _. held.placeless ≡ false) (IsModified draft.opts held)
+    (place_text (bars_room name held.content) held.placeless value) _
+    (place_text-ok (bars_room name held.content) held.placeless value)
+    (λ text placed.
     let size = length held.content.bytes in
-    then_ok (IsNumBelow (length (known_before draft.names held)) (pos size) (pos 65535)) (IsModified draft.opts held) (room_of size (known_before draft.names held) left text (number_in 0 65535 text)) _ (room_of-below size (known_before draft.names held) left text (number_in 0 65535 text) (number_in-within 0 65535 text)) (λ room below.
+    then_ok (IsNumBelow (length (known_before draft.names held)) (pos size) (pos 65535))
+    (IsModified draft.opts held)
+    (room_of size (known_before draft.names held) left text (number_in 0 65535 text)) _
+    (room_of-below size (known_before draft.names held) left text (number_in 0 65535 text) (number_in-within 0 65535 text))
+    (λ room below.
     let names = names_after [] (take held.place draft.opts) in
     record {
       keeps = λ h. record {
         place = h.place;
         known = h.known;
-        content = (h.content.0, h.content.1, num-named names held.known (pos size) (pos 65535) room h.known (below-known draft.names held.known (pos size) (pos 65535) room below), fast-placed held.content (is_relative name) held.content.from (Some room) held.content.fast (h.placeless placed) h.content.3);
+        content = (
+          h.content.0,
+          h.content.1,
+          num-named names held.known (pos size) (pos 65535) room h.known
+              (below-known draft.names held.known (pos size) (pos 65535) room below),
+          fast-placed held.content (is_relative name) held.content.from (Some room) held.content.fast (h.placeless placed)
+              h.content.3,
+        );
         placeless = h.placeless;
       };
       same = refl;
@@ -252,7 +311,11 @@ unplaced None (Some room) e = cc
 unplaced (Some from) room e = cc
 
 -- a fast pattern that may be given for a content
-fast-on : (content : Content) (mode : FastMode) (negated : Bool) → content.negated ≡ negated → IsMode (length content.bytes) mode → ((is_only mode && negated) || ((is_only mode || negated) && has_room content)) ≡ false → IsFast (record content { fast = fast_on negated mode }) (fast_on negated mode)
+fast-on : (content : Content) (mode : FastMode) (negated : Bool)
+    → content.negated ≡ negated
+    → IsMode (length content.bytes) mode
+    → ((is_only mode && negated) || ((is_only mode || negated) && has_room content)) ≡ false
+    → IsFast (record content { fast = fast_on negated mode }) (fast_on negated mode)
 fast-on content mode true e h bars = tt
 fast-on content fast.No false e h bars = tt
 fast-on content fast.Yes false e h bars = e
@@ -272,8 +335,13 @@ only-on (fast.Part from len) false e = refl
 pub fast_pattern-sound : (classes : ℕ) (draft : Draft) → IsSoundDraft classes draft → (value : Option (List ℕ)) → IfOk (fast_pattern_option draft value) (IsSoundDraft classes)
 unfolding fast_pattern_option
 fast_pattern-sound classes draft sound value =
-    then_ok (λ held. (draft.fast ≡ false) × (draft.held ≡ Some held)) (IsSoundDraft classes) (cond draft.fast (Err Misplaced) (or_kind Misplaced draft.held)) _ (first draft.fast draft.held) (λ held found.
-    then_ok (IsMode (length held.content.bytes)) (IsSoundDraft classes) (fast_mode (length held.content.bytes) value) _ (fast_mode-ok (length held.content.bytes) value) (λ mode fits.
+    then_ok (λ held. (draft.fast ≡ false) × (draft.held ≡ Some held))
+    (IsSoundDraft classes)
+    (cond draft.fast (Err Misplaced) (or_kind Misplaced draft.held)) _
+    (first draft.fast draft.held) (λ held found.
+    then_ok (IsMode (length held.content.bytes)) (IsSoundDraft classes) (fast_mode (length held.content.bytes) value) _
+    (fast_mode-ok (length held.content.bytes) value)
+    (λ mode fits.
     if_ok (IsSoundDraft classes) (bars_fast mode held.content) (Err OptionValue) _ (λ _. tt) (λ is_given.
     let Kept : Option Held → Type 0 = λ o. AreKept draft.opts o draft.names draft.fast in
     let before : AreKept draft.opts (Some held) draft.names draft.fast = subst Kept found.1 sound.kept in
@@ -285,11 +353,18 @@ fast_pattern-sound classes draft sound value =
         held = record {
           place = before.held.place;
           known = before.held.known;
-          content = (before.held.content.0, before.held.content.1, before.held.content.2, fast-on held.content mode held.content.negated refl fits is_given);
+          content = (
+            before.held.content.0,
+            before.held.content.1,
+            before.held.content.2,
+            fast-on held.content mode held.content.negated refl fits is_given,
+          );
           placeless = only-on mode held.content.negated;
         };
         count = before.count;
-        chosen = one (count_by is_fast draft.opts) (is_chosen held.content.fast) (is_chosen (fast_on held.content.negated mode)) draft.fast found.0 before.chosen;
+        chosen =
+            one (count_by is_fast draft.opts) (is_chosen held.content.fast) (is_chosen (fast_on held.content.negated mode))
+            draft.fast found.0 before.chosen;
       };
       msg = sound.msg;
       gid = sound.gid;

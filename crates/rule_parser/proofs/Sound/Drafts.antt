@@ -1,5 +1,7 @@
 -- A rule that is sound as far as its options are read.
-use Rattle.std.proofs.Common.{◌≡◌, ℕ, zero, suc, ◌+◌, ◌<◌, ◌≤◌, Bool, false, cond, Option, Some, None, Ok, Err, List, [], ◌∷◌, ◌++◌, length, take, insert, refl, sym, ap, subst, arith, IfSome, IfOk, Contains, count_by, nat_le, is_some}
+use Rattle.std.proofs.Common.{◌≡◌, ℕ, zero, suc, ◌+◌, ◌<◌, ◌≤◌, Bool, false, cond, Option, Some, None, Ok, Err, List, [], ◌∷◌}
+use Rattle.std.proofs.Common.{◌++◌, length, take, insert, refl, sym, ap, subst, arith, IfSome, IfOk, Contains, count_by, nat_le}
+use Rattle.std.proofs.Common.{is_some}
 use Rattle.std.proofs.lemmas.List.{take-append-le}
 use Rattle.std.proofs.lemmas.List.Edits.{length-insert}
 use Rattle.std.proofs.lemmas.List.Sums.{sum_by-append, sum_by-insert}
@@ -32,7 +34,10 @@ AreOptions-append names [] ys h k = k
 AreOptions-append names (x ∷ xs) ys h k = (h.0, AreOptions-append (names_after_one names x) xs ys h.1 k)
 
 -- a content in its place: it extracts no name
-pub AreOptions-insert : (names : List ℕ) (xs : List Opt) (place : ℕ) (content : Content) → AreOptions names xs → IsContent (names_after names (take place xs)) content → AreOptions names (insert xs place (opt.Content content))
+pub AreOptions-insert : (names : List ℕ) (xs : List Opt) (place : ℕ) (content : Content)
+    → AreOptions names xs
+    → IsContent (names_after names (take place xs)) content
+    → AreOptions names (insert xs place (opt.Content content))
 AreOptions-insert names xs zero content h k = (k, h)
 AreOptions-insert names [] (suc place) content h k = (k, h)
 AreOptions-insert names (x ∷ xs) (suc place) content h k = (h.0, AreOptions-insert (names_after_one names x) xs place content h.1 k)
@@ -150,11 +155,21 @@ kept-more opts held names after fast option sound is_option plain named few room
     same e plain h = let chosen : Bool → ℕ = λ b. cond b 1 0 in omega (arith, e, ap chosen plain)
 
 -- one more option that extracts no name
-pub kept-sound : (classes : ℕ) (draft : Draft) (option : Opt) → IsSoundDraft classes draft → IsOption (names_after [] draft.opts) option → IsPlain option → IfOk (kept draft option) (IsSoundDraft classes)
+pub kept-sound : (classes : ℕ) (draft : Draft) (option : Opt)
+    → IsSoundDraft classes draft
+    → IsOption (names_after [] draft.opts) option
+    → IsPlain option
+    → IfOk (kept draft option) (IsSoundDraft classes)
 unfolding kept
-kept-sound classes draft option sound is_option plain = if_ok (IsSoundDraft classes) (nat_le 64 (kept_count draft)) (Err Limit) (Ok (record draft { opts = draft.opts ++ option ∷ [] })) (λ _. tt)
+kept-sound classes draft option sound is_option plain =
+    if_ok (IsSoundDraft classes) (nat_le 64 (kept_count draft)) (Err Limit)
+    (Ok (record draft { opts = draft.opts ++ option ∷ [] }))
+    (λ _. tt)
     (λ room. record {
-      kept = kept-more draft.opts draft.held draft.names draft.names draft.fast option sound.kept is_option plain.0 (subst At (sym (plain.1 (names_after [] draft.opts))) sound.kept.named) sound.kept.few room;
+      kept =
+          kept-more draft.opts draft.held draft.names draft.names draft.fast option sound.kept is_option plain.0
+          (subst At (sym (plain.1 (names_after [] draft.opts))) sound.kept.named)
+          sound.kept.few room;
       msg = sound.msg;
       gid = sound.gid;
       sid = sound.sid;

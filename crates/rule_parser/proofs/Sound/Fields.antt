@@ -1,5 +1,6 @@
 -- Options on numbers of a header keep a rule sound.
-use Rattle.std.proofs.Common.{ℕ, ◌+◌, ◌≤◌, ◌≡◌, ◌==◌, ◌&&◌, ◌||◌, Bool, true, false, not, cond, Option, Some, None, Ok, Err, List, [], length, take, drop, is_some, refl, arith, inl, inr, IfSome, IfOk, IsTrue}
+use Rattle.std.proofs.Common.{ℕ, ◌+◌, ◌≤◌, ◌≡◌, ◌==◌, ◌&&◌, ◌||◌, Bool, true, false, not, cond, Option, Some, None, Ok, Err, List}
+use Rattle.std.proofs.Common.{[], length, take, drop, is_some, refl, arith, inl, inr, IfSome, IfOk, IsTrue}
 use Rattle.std.proofs.lemmas.Bool.{and_parts}
 use Rattle.net_lists.specs.Numbers.{number_in}
 use Rattle.net_lists.specs.Stops.{or_kind}
@@ -13,7 +14,9 @@ use Rattle.rule_types.specs.declared.option.Field.TheVariants as field
 use Rattle.rule_types.specs.declared.option.Opt.{Opt}
 use Rattle.rule_types.specs.declared.option.Opt.TheVariants as opt
 use Rattle.rule_parser.specs.Drafts.{kept}
-use Rattle.rule_parser.specs.Fields.{sign_of, cmp_of, is_equals, is_ttl, allows, signed_compare, end_of, ttl_range, dsize_range, place_of, ttl_to, after_above, dsize_to, dsize_at, protocol_of, protocol_to, compare_of, field_option, dsize_option, sameip_option}
+use Rattle.rule_parser.specs.Fields.{sign_of, cmp_of, is_equals, is_ttl, allows, signed_compare, end_of, ttl_range, dsize_range}
+use Rattle.rule_parser.specs.Fields.{place_of, ttl_to, after_above, dsize_to, dsize_at, protocol_of, protocol_to, compare_of}
+use Rattle.rule_parser.specs.Fields.{field_option, dsize_option, sameip_option}
 use Rattle.rule_types.specs.Sound.{most_of, compares, AreEnds, IsOption}
 use Rattle.rule_parser.proofs.Sound.Drafts.{IsSoundDraft, IsPlain, names_after, kept-sound}
 use Rattle.rule_parser.proofs.Sound.Steps.{then_ok, kind_ok, if_ok, some_weaken}
@@ -32,7 +35,12 @@ pub anywhere : (option : Opt) → ((names : List ℕ) → IsOption names option)
 unfolding IsAnywhere
 anywhere option h plain = (h, plain)
 
-compare-anywhere : (field : Field) (how : Cmp) (low high : ℕ) → low ≤ most_of field → high ≤ most_of field → IsTrue (compares field how) → AreEnds how low high → IsAnywhere (opt.Compare field how low high)
+compare-anywhere : (field : Field) (how : Cmp) (low high : ℕ)
+    → low ≤ most_of field
+    → high ≤ most_of field
+    → IsTrue (compares field how)
+    → AreEnds how low high
+    → IsAnywhere (opt.Compare field how low high)
 compare-anywhere field how low high least most has ends = anywhere (opt.Compare field how low high) (λ names. (least, most, has, ends)) (refl, λ names. refl)
 
 -- a field compares by each sign that it has
@@ -45,8 +53,14 @@ signed-anywhere field text =
     let Fits : ℕ → Type 0 = λ number. IsIn 0 (most_of field) number × (allows field (sign_of text).0 ≡ true) in
     let number = number_in 0 (most_of field) (sign_of text).1 in
     then_ok Fits IsAnywhere (cond (allows field (sign_of text).0) (or_kind OptionValue number) (Err OptionValue)) _
-    (if_ok Fits (allows field (sign_of text).0) _ (Err OptionValue) (λ e. kind_ok Fits OptionValue number (some_weaken (IsIn 0 (most_of field)) Fits number (λ _ within. (within, e)) (number_in-within 0 (most_of field) (sign_of text).1))) (λ _. tt))
-    (λ found fits. compare-anywhere field (cmp_of (sign_of text).0) found found fits.0.1 fits.0.1 (allowed-compares field (sign_of text).0 fits.1) (inr refl))
+    (if_ok Fits (allows field (sign_of text).0) _ (Err OptionValue)
+    (λ e. kind_ok Fits OptionValue number
+    (some_weaken (IsIn 0 (most_of field)) Fits number (λ _ within. (within, e))
+    (number_in-within 0 (most_of field) (sign_of text).1)))
+    (λ _. tt))
+    (λ found fits. compare-anywhere field (cmp_of (sign_of text).0) found found fits.0.1 fits.0.1
+    (allowed-compares field (sign_of text).0 fits.1)
+    (inr refl))
 
 end_of-most : (lacking : ℕ) (text : List ℕ) → lacking ≤ 4294967295 → IfSome (end_of lacking text) (λ number. number ≤ 4294967295)
 end_of-most lacking text h = go (length text == 0)
@@ -62,9 +76,15 @@ end_of-most lacking text h = go (length text == 0)
 ttl_range-anywhere : (low high : List ℕ) → IfOk (ttl_range low high) IsAnywhere
 unfolding ttl_range
 ttl_range-anywhere low high =
-    then_ok (λ number. number ≤ 4294967295) IsAnywhere (or_kind OptionValue (end_of 0 low)) _ (kind_ok (λ number. number ≤ 4294967295) OptionValue (end_of 0 low) (end_of-most 0 low (omega arith))) (λ least first.
-    then_ok (λ number. number ≤ 4294967295) IsAnywhere (or_kind OptionValue (end_of 4294967295 high)) _ (kind_ok (λ number. number ≤ 4294967295) OptionValue (end_of 4294967295 high) (end_of-most 4294967295 high (omega arith))) (λ most last.
-    if_ok IsAnywhere (length low == 0 && length high == 0) (Err OptionValue) (Ok (opt.Compare field.Ttl cmp.Within least most)) (λ _. tt) (λ _. compare-anywhere field.Ttl cmp.Within least most first last refl (inl refl))))
+    then_ok (λ number. number ≤ 4294967295) IsAnywhere (or_kind OptionValue (end_of 0 low)) _
+    (kind_ok (λ number. number ≤ 4294967295) OptionValue (end_of 0 low) (end_of-most 0 low (omega arith)))
+    (λ least first.
+    then_ok (λ number. number ≤ 4294967295) IsAnywhere (or_kind OptionValue (end_of 4294967295 high)) _
+    (kind_ok (λ number. number ≤ 4294967295) OptionValue (end_of 4294967295 high) (end_of-most 4294967295 high (omega arith)))
+    (λ most last.
+    if_ok IsAnywhere (length low == 0 && length high == 0) (Err OptionValue) (Ok (opt.Compare field.Ttl cmp.Within least most))
+    (λ _. tt)
+    (λ _. compare-anywhere field.Ttl cmp.Within least most first last refl (inl refl))))
 
 dsize_range-anywhere : (low high : List ℕ) → IfOk (dsize_range low high) IsAnywhere
 unfolding dsize_range

@@ -1,5 +1,6 @@
 -- Options on a session, on flags, on bits and on streams keep a rule sound.
-use Rattle.std.proofs.Common.{◌≡◌, ℕ, ◌^◌, ◌<◌, ◌≤◌, ◌==◌, ◌||◌, ◌++◌, Bool, true, false, cond, Option, Some, None, Result, Ok, Err, List, [], ◌∷◌, length, nat_le, is_some, bytes_eq, codes, refl, arith, IfSome, IfOk, IsTrue}
+use Rattle.std.proofs.Common.{◌≡◌, ℕ, ◌^◌, ◌<◌, ◌≤◌, ◌==◌, ◌||◌, ◌++◌, Bool, true, false, cond, Option, Some, None, Result, Ok}
+use Rattle.std.proofs.Common.{Err, List, [], ◌∷◌, length, nat_le, is_some, bytes_eq, codes, refl, arith, IfSome, IfOk, IsTrue}
 use Rattle.std.specs.Option.{unwrap_or}
 use Rattle.std.proofs.lemmas.Bool.Decides.{nat_tests}
 use Rattle.std.proofs.lemmas.Grind.{common_steps}
@@ -21,7 +22,9 @@ use Rattle.rule_types.specs.declared.option.Opt.TheVariants as opt
 use Rattle.rule_types.specs.declared.option.Side.{Side}
 use Rattle.rule_parser.specs.ByteOptions.{Part, first_part, next_part}
 use Rattle.rule_parser.specs.Drafts.{kept}
-use Rattle.rule_parser.specs.Flags.{no_flow, flow_word, flow_option, no_letters, mode_of, flag_bit, frag_bit, with_bit, with_mode, if_any, flag_step, frag_step, flag_letters, frag_letters, frag_signed, mask_of, flags_parts, flags_of, flags_option, fragbits_option}
+use Rattle.rule_parser.specs.Flags.{no_flow, flow_word, flow_option, no_letters, mode_of, flag_bit, frag_bit, with_bit, with_mode}
+use Rattle.rule_parser.specs.Flags.{if_any, flag_step, frag_step, flag_letters, frag_letters, frag_signed, mask_of, flags_parts}
+use Rattle.rule_parser.specs.Flags.{flags_of, flags_option, fragbits_option}
 use Rattle.rule_parser.specs.Flowbits.{bit_option, bit_word, numbered, with_names, last_name, bit_parts, noalert, flowbits_parts, flowbits_option}
 use Rattle.rule_parser.specs.Names.{place_among}
 use Rattle.rule_types.specs.Sound.{is_order, is_named_side}
@@ -34,9 +37,14 @@ use Rattle.rule_parser.proofs.Sound.Values.{IsIn, number_in-within, place_among-
 pub flow-sound : (classes : ℕ) (draft : Draft) → IsSoundDraft classes draft → (value : List ℕ) → IfOk (flow_option draft value) (IsSoundDraft classes)
 unfolding flow_option
 flow-sound classes draft sound value =
-    then_ok (λ _. Unit {0}) (IsSoundDraft classes) (draft_after flow_word no_flow (comma_parts value)) _ (any_ok (draft_after flow_word no_flow (comma_parts value))) (λ flow _.
-    if_ok (IsSoundDraft classes) draft.flow (Err OptionValue) (kept (record draft { flow = true }) (opt.Flow flow)) (λ _. tt) (λ _.
-    kept-sound classes (record draft { flow = true }) (opt.Flow flow) (record { kept = sound.kept; msg = sound.msg; gid = sound.gid; sid = sound.sid; class = sound.class; period = sound.period }) tt (refl, λ names. refl)))
+    then_ok (λ _. Unit {0}) (IsSoundDraft classes) (draft_after flow_word no_flow (comma_parts value)) _
+    (any_ok (draft_after flow_word no_flow (comma_parts value)))
+    (λ flow _.
+    if_ok (IsSoundDraft classes) draft.flow (Err OptionValue) (kept (record draft { flow = true }) (opt.Flow flow))
+    (λ _. tt) (λ _.
+    kept-sound classes (record draft { flow = true }) (opt.Flow flow)
+    (record { kept = sound.kept; msg = sound.msg; gid = sound.gid; sid = sound.sid; class = sound.class; period = sound.period })
+    tt (refl, λ names. refl)))
 
 -- letters whose bits are below a power of two
 abbrev AreBelow : ℕ → Letters → Type 0
@@ -46,7 +54,10 @@ with_bit-below : (width : ℕ) (letters : Letters) (bit : Option ℕ) → AreBel
 with_bit-below width letters None h k = tt
 with_bit-below width letters (Some bit) h k = or_lt width letters.bits bit h k
 
-with_mode-below : (width : ℕ) (letters : Letters) (else_ : Option Letters) (sign : Option Mode) → AreBelow width letters → IfSome else_ (AreBelow width) → IfSome (with_mode letters else_ sign) (AreBelow width)
+with_mode-below : (width : ℕ) (letters : Letters) (else_ : Option Letters) (sign : Option Mode)
+    → AreBelow width letters
+    → IfSome else_ (AreBelow width)
+    → IfSome (with_mode letters else_ sign) (AreBelow width)
 with_mode-below width letters else_ None h k = k
 with_mode-below width letters else_ (Some sign) h k = go (is_some letters.mode)
   where
@@ -62,7 +73,9 @@ frag_bit-below byte = grind arith
 
 flag_step-below : (signs : Bool) (letters : Letters) (byte : ℕ) → AreBelow 8 letters → IfSome (flag_step signs letters byte) (AreBelow 8)
 unfolding flag_step
-flag_step-below signs letters byte h = with_mode-below 8 letters (with_bit letters (flag_bit byte)) (cond signs (mode_of byte) None) h (with_bit-below 8 letters (flag_bit byte) h (flag_bit-below byte))
+flag_step-below signs letters byte h =
+    with_mode-below 8 letters (with_bit letters (flag_bit byte)) (cond signs (mode_of byte) None) h
+    (with_bit-below 8 letters (flag_bit byte) h (flag_bit-below byte))
 
 frag_step-below : (last : Bool) (letters : Letters) (byte : ℕ) → AreBelow 3 letters → IfSome (frag_step last letters byte) (AreBelow 3)
 unfolding frag_step
@@ -98,13 +111,19 @@ frag_letters-below (byte ∷ rest) letters h = go (frag_step (length rest == 0) 
 mask_of-below : (rest : List (List ℕ)) → IfOk (mask_of rest) (λ mask. mask < 2 ^ 8)
 mask_of-below [] = omega arith
 mask_of-below (mask ∷ []) =
-    then_ok (AreBelow 8) (λ mask. mask < 2 ^ 8) (or_kind OptionValue (flag_letters false no_letters mask)) _ (kind_ok (AreBelow 8) OptionValue (flag_letters false no_letters mask) (flag_letters-below false mask no_letters (omega arith))) (λ letters h. h)
+    then_ok (AreBelow 8) (λ mask. mask < 2 ^ 8) (or_kind OptionValue (flag_letters false no_letters mask)) _
+    (kind_ok (AreBelow 8) OptionValue (flag_letters false no_letters mask)
+    (flag_letters-below false mask no_letters (omega arith)))
+    (λ letters h. h)
 mask_of-below (mask ∷ more ∷ rest) = tt
 
 flags_parts-anywhere : (parts : List (List ℕ)) → IfOk (flags_parts parts) IsAnywhere
 flags_parts-anywhere [] = tt
 flags_parts-anywhere (first ∷ rest) =
-    then_ok (AreBelow 8) IsAnywhere (or_kind OptionValue (flag_letters true no_letters first)) _ (kind_ok (AreBelow 8) OptionValue (flag_letters true no_letters first) (flag_letters-below true first no_letters (omega arith))) (λ letters h.
+    then_ok (AreBelow 8) IsAnywhere (or_kind OptionValue (flag_letters true no_letters first)) _
+    (kind_ok (AreBelow 8) OptionValue (flag_letters true no_letters first)
+    (flag_letters-below true first no_letters (omega arith)))
+    (λ letters h.
     then_ok (λ mask. mask < 2 ^ 8) IsAnywhere (mask_of rest) _ (mask_of-below rest) (λ mask k.
     anywhere (opt.Flags (unwrap_or letters.mode mode.Exact) letters.bits mask) (λ names. (h, k)) (refl, λ names. refl)))
 
@@ -117,7 +136,11 @@ frag_signed-below : (text : List ℕ) → IfSome (frag_signed text) (AreBelow 3)
 frag_signed-below [] = tt
 frag_signed-below (byte ∷ rest) = go (mode_of byte)
   where
-    go : (o : Option Mode) → IfSome (elim o as (λ _. Option Letters) [ None ↦ frag_letters no_letters (byte ∷ rest) | Some sign ↦ frag_letters (record no_letters { mode = Some sign }) rest ]) (AreBelow 3)
+    go : (o : Option Mode)
+        → IfSome (elim o as (λ _. Option Letters) [
+          | None ↦ frag_letters no_letters (byte ∷ rest)
+          | Some sign ↦ frag_letters (record no_letters { mode = Some sign }) rest
+        ]) (AreBelow 3)
     go None = frag_letters-below (byte ∷ rest) no_letters (omega arith)
     go (Some sign) = frag_letters-below rest (record no_letters { mode = Some sign }) (omega arith)
 
@@ -139,14 +162,22 @@ bit-sound classes draft sound word.IsNotSet place h = kept-sound classes draft (
 abbrev pub IsSoundBeside : ℕ → Draft × List (List ℕ) → Type 0
 IsSoundBeside classes after = IsSoundDraft classes after.0 × (length after.1 ≤ 1024)
 
-pub beside-sound : (classes : ℕ) (names : List (List ℕ)) (result : Result Draft Fault) → length names ≤ 1024 → IfOk result (IsSoundDraft classes) → IfOk (with_names names result) (IsSoundBeside classes)
+pub beside-sound : (classes : ℕ) (names : List (List ℕ)) (result : Result Draft Fault)
+    → length names ≤ 1024
+    → IfOk result (IsSoundDraft classes)
+    → IfOk (with_names names result) (IsSoundBeside classes)
 beside-sound classes names (Ok draft) few h = (h, few)
 beside-sound classes names (Err why) few h = tt
 
-numbered-below : (names : List (List ℕ)) (name : List ℕ) (place : Option ℕ) → length names ≤ 1024 → IfSome place (λ place. place < length names) → IfOk (numbered names name place) (λ found. (length found.0 ≤ 1024) × (found.1 < 1024))
+numbered-below : (names : List (List ℕ)) (name : List ℕ) (place : Option ℕ)
+    → length names ≤ 1024
+    → IfSome place (λ place. place < length names)
+    → IfOk (numbered names name place) (λ found. (length found.0 ≤ 1024) × (found.1 < 1024))
 numbered-below names name (Some place) few h = (few, omega arith)
 numbered-below names name None few h =
-    if_ok (λ found. (length found.0 ≤ 1024) × (found.1 < 1024)) (nat_le 1024 (length names)) (Err Limit) (Ok (names ++ name ∷ [], length names)) (λ _. tt) (λ room. (longer names name (below (length names) room), below (length names) room))
+    if_ok (λ found. (length found.0 ≤ 1024) × (found.1 < 1024))
+    (nat_le 1024 (length names)) (Err Limit) (Ok (names ++ name ∷ [], length names)) (λ _. tt)
+    (λ room. (longer names name (below (length names) room), below (length names) room))
   where
     below : (count : ℕ) → nat_le 1024 count ≡ false → count < 1024
     below count room = grind (arith, nat_tests)
@@ -154,21 +185,40 @@ numbered-below names name None few h =
     longer : (names : List (List ℕ)) (name : List ℕ) → length names < 1024 → length (names ++ name ∷ []) ≤ 1024
     longer names name h = grind (arith, common_steps)
 
-bit_parts-sound : (classes : ℕ) (names : List (List ℕ)) (draft : Draft) → length names ≤ 1024 → IsSoundDraft classes draft → (first : Part) (bit : BitWord) → IfOk (bit_parts names draft first bit) (IsSoundBeside classes)
+bit_parts-sound : (classes : ℕ) (names : List (List ℕ)) (draft : Draft)
+    → length names ≤ 1024
+    → IsSoundDraft classes draft
+    → (first : Part) (bit : BitWord)
+    → IfOk (bit_parts names draft first bit) (IsSoundBeside classes)
 unfolding bit_parts
 bit_parts-sound classes names draft few sound first bit =
     then_ok (λ _. Unit {0}) (IsSoundBeside classes) (next_part first) _ (any_ok (next_part first)) (λ part _.
     then_ok (λ _. Unit {0}) (IsSoundBeside classes) (last_name part) _ (any_ok (last_name part)) (λ name _.
-    then_ok (λ found. (length found.0 ≤ 1024) × (found.1 < 1024)) (IsSoundBeside classes) (numbered names name (place_among name names)) _ (numbered-below names name (place_among name names) few (place_among-below name names)) (λ numbering h.
-    beside-sound classes numbering.0 (kept draft (bit_option bit numbering.1)) h.0 (bit-sound classes draft sound bit numbering.1 h.1))))
+    then_ok (λ found. (length found.0 ≤ 1024) × (found.1 < 1024))
+    (IsSoundBeside classes)
+    (numbered names name (place_among name names)) _
+    (numbered-below names name (place_among name names) few (place_among-below name names))
+    (λ numbering h.
+    beside-sound classes numbering.0 (kept draft (bit_option bit numbering.1))
+    h.0
+    (bit-sound classes draft sound bit numbering.1 h.1))))
 
-pub flowbits-sound : (classes : ℕ) (names : List (List ℕ)) (draft : Draft) → length names ≤ 1024 → IsSoundDraft classes draft → (value : List ℕ) → IfOk (flowbits_option names draft value) (IsSoundBeside classes)
+pub flowbits-sound : (classes : ℕ) (names : List (List ℕ)) (draft : Draft)
+    → length names ≤ 1024
+    → IsSoundDraft classes draft
+    → (value : List ℕ)
+    → IfOk (flowbits_option names draft value) (IsSoundBeside classes)
 unfolding flowbits_option flowbits_parts
 flowbits-sound classes names draft few sound value =
     let first = first_part 0 value in
-    if_ok (IsSoundBeside classes) (bytes_eq first.text (codes "noalert")) (with_names names (noalert draft first)) (bit_word first.text >>= bit_parts names draft first)
-    (λ _. beside-sound classes names (noalert draft first) few (if_ok (IsSoundDraft classes) (is_some first.after) (Err OptionValue) (Ok (record draft { noalert = true })) (λ _. tt) (λ _. record { kept = sound.kept; msg = sound.msg; gid = sound.gid; sid = sound.sid; class = sound.class; period = sound.period })))
-    (λ _. then_ok (λ _. Unit {0}) (IsSoundBeside classes) (bit_word first.text) (bit_parts names draft first) (any_ok (bit_word first.text)) (λ bit _. bit_parts-sound classes names draft few sound first bit))
+    if_ok (IsSoundBeside classes) (bytes_eq first.text (codes "noalert")) (with_names names (noalert draft first))
+    (bit_word first.text >>= bit_parts names draft first)
+    (λ _. beside-sound classes names (noalert draft first) few
+    (if_ok (IsSoundDraft classes) (is_some first.after) (Err OptionValue) (Ok (record draft { noalert = true })) (λ _. tt)
+    (λ _.
+    record { kept = sound.kept; msg = sound.msg; gid = sound.gid; sid = sound.sid; class = sound.class; period = sound.period })))
+    (λ _. then_ok (λ _. Unit {0}) (IsSoundBeside classes) (bit_word first.text) (bit_parts names draft first)
+    (any_ok (bit_word first.text)) (λ bit _. bit_parts-sound classes names draft few sound first bit))
 
 -- streams
 size_cmp-order : (text : List ℕ) → IfOk (size_cmp text) (λ how. IsTrue (is_order how))
@@ -187,7 +237,9 @@ size_parts-anywhere (first ∷ second ∷ []) = tt
 size_parts-anywhere (first ∷ second ∷ third ∷ []) =
     then_ok (λ _. Unit {0}) IsAnywhere (sized_side first) _ (any_ok (sized_side first)) (λ side _.
     then_ok (λ how. IsTrue (is_order how)) IsAnywhere (size_cmp second) _ (size_cmp-order second) (λ how order.
-    then_ok (IsIn 0 4294967295) IsAnywhere (or_kind OptionValue (number_in 0 4294967295 third)) _ (kind_ok (IsIn 0 4294967295) OptionValue (number_in 0 4294967295 third) (number_in-within 0 4294967295 third)) (λ number within.
+    then_ok (IsIn 0 4294967295) IsAnywhere (or_kind OptionValue (number_in 0 4294967295 third)) _
+    (kind_ok (IsIn 0 4294967295) OptionValue (number_in 0 4294967295 third) (number_in-within 0 4294967295 third))
+    (λ number within.
     anywhere (opt.StreamSize side how number) (λ names. (order, within.1)) (refl, λ names. refl))))
 size_parts-anywhere (first ∷ second ∷ third ∷ fourth ∷ more) = tt
 
@@ -212,5 +264,10 @@ reassemble_parts-named (first ∷ second ∷ rest) =
 pub stream_reassemble-sound : (classes : ℕ) (draft : Draft) → IsSoundDraft classes draft → (value : List ℕ) → IfOk (stream_reassemble_option draft value) (IsSoundDraft classes)
 unfolding stream_reassemble_option
 stream_reassemble-sound classes draft sound value =
-    then_ok IsNamedSide (IsSoundDraft classes) (reassemble_parts (comma_parts value)) _ (reassemble_parts-named (comma_parts value)) (λ said named.
-    kept-sound classes (record draft { noalert = draft.noalert || said.2 }) (opt.Reassemble said.0 said.1) (record { kept = sound.kept; msg = sound.msg; gid = sound.gid; sid = sound.sid; class = sound.class; period = sound.period }) named (refl, λ names. refl))
+    then_ok IsNamedSide (IsSoundDraft classes) (reassemble_parts (comma_parts value)) _
+    (reassemble_parts-named (comma_parts value))
+    (λ said named.
+    kept-sound classes (record draft { noalert = draft.noalert || said.2 })
+    (opt.Reassemble said.0 said.1)
+    (record { kept = sound.kept; msg = sound.msg; gid = sound.gid; sid = sound.sid; class = sound.class; period = sound.period })
+    named (refl, λ names. refl))

@@ -65,7 +65,9 @@ module _ (classes : List Class) (draft : Draft) (sound : IsSoundDraft (length cl
   text-sound text.Sid value = value-ok (IsSoundDraft (length classes)) value (sid_option draft) (sid-sound (length classes) draft sound)
   text-sound text.Rev value = value-ok (IsSoundDraft (length classes)) value (rev_option draft) (rev-sound (length classes) draft sound)
   text-sound text.Priority value = value-ok (IsSoundDraft (length classes)) value (priority_option draft) (priority-sound (length classes) draft sound)
-  text-sound text.Classtype value = value-ok (IsSoundDraft (length classes)) value (classtype_option (class_place classes) draft) (classtype-sound (length classes) draft sound (class_place classes) (class_place-there classes))
+  text-sound text.Classtype value =
+      value-ok (IsSoundDraft (length classes)) value (classtype_option (class_place classes) draft)
+      (classtype-sound (length classes) draft sound (class_place classes) (class_place-there classes))
   text-sound text.Ignored value = sound
 
   modifier-sound : (n : Modifier) (left : ℕ) (value : Option (List ℕ)) → IfOk (modifier_option draft n left value) (IsSoundDraft (length classes))
@@ -101,9 +103,13 @@ module _ (classes : List Class) (draft : Draft) (sound : IsSoundDraft (length cl
   named-sound : (names : List (List ℕ)) → length names ≤ 1024 → (left : ℕ) (value : Option (List ℕ)) (n : Name) → IfOk (named_option classes names draft left value n) (IsSoundBeside (length classes))
   named-sound names few left value (name.Text n) = beside-sound (length classes) names (text_option classes draft n value) few (text-sound n value)
   named-sound names few left value (name.Modifier n) = beside-sound (length classes) names (modifier_option draft n left value) few (modifier-sound n left value)
-  named-sound names few left value (name.Payload n) = beside-sound (length classes) names (with_value value (payload_option draft n left)) few (value-ok (IsSoundDraft (length classes)) value (payload_option draft n left) (payload-sound n left))
+  named-sound names few left value (name.Payload n) =
+      beside-sound (length classes) names (with_value value (payload_option draft n left)) few
+      (value-ok (IsSoundDraft (length classes)) value (payload_option draft n left) (payload-sound n left))
   named-sound names few left value (name.Session n) = beside-sound (length classes) names (session_option draft n value) few (session-sound n value)
-  named-sound names few left value (name.Field n) = beside-sound (length classes) names (with_value value (field_option n draft)) few (value-ok (IsSoundDraft (length classes)) value (field_option n draft) (field-sound (length classes) n draft sound))
+  named-sound names few left value (name.Field n) =
+      beside-sound (length classes) names (with_value value (field_option n draft)) few
+      (value-ok (IsSoundDraft (length classes)) value (field_option n draft) (field-sound (length classes) n draft sound))
   named-sound names few left value name.Flowbits = value-ok (IsSoundBeside (length classes)) value (flowbits_option names draft) (flowbits-sound (length classes) names draft few sound)
 
   -- an option keeps what is read sound, beside at most 1024 flowbit names
@@ -115,7 +121,10 @@ module _ (classes : List Class) (draft : Draft) (sound : IsSoundDraft (length cl
       named-sound names few option.left option.value n)
 
 -- all options keep what is read sound, beside at most 1024 flowbit names
-pub rule_options-sound : (classes : List Class) (texts : List (List ℕ)) (names : List (List ℕ)) (draft : Draft) (left : ℕ) → length names ≤ 1024 → IsSoundDraft (length classes) draft → IfOk (rule_options classes names draft left texts) (IsSoundBeside (length classes))
+pub rule_options-sound : (classes : List Class) (texts : List (List ℕ)) (names : List (List ℕ)) (draft : Draft) (left : ℕ)
+    → length names ≤ 1024
+    → IsSoundDraft (length classes) draft
+    → IfOk (rule_options classes names draft left texts) (IsSoundBeside (length classes))
 unfolding rule_options
 rule_options-sound classes [] names draft left few sound = (sound, few)
 rule_options-sound classes (text ∷ []) names draft left few sound = if_ok (IsSoundBeside (length classes)) (list_all is_blank text) (Ok (draft, names)) (Err OptionSyntax) (λ _. (sound, few)) (λ _. tt)
@@ -169,9 +178,22 @@ finished-sound classes header draft short_lists sound =
     first (Some gid) h = h
 
 -- what comes after a header with short lists gives a sound rule, beside at most 1024 flowbit names
-pub rule_body-sound : (classes : List Class) (names : List (List ℕ)) (header : Header) (body : List ℕ) → AreShort header → length names ≤ 1024 → IfOk (rule_body classes names header body) (λ found. IsSound classes found.0 × (length found.1 ≤ 1024))
+pub rule_body-sound : (classes : List Class) (names : List (List ℕ)) (header : Header) (body : List ℕ)
+    → AreShort header
+    → length names ≤ 1024
+    → IfOk (rule_body classes names header body) (λ found. IsSound classes found.0 × (length found.1 ≤ 1024))
 unfolding rule_body
 rule_body-sound classes names header body short_lists few =
-    then_ok (λ _. Unit {0}) (λ found. IsSound classes found.0 × (length found.1 ≤ 1024)) (or_kind OptionSyntax (in_parentheses body)) _ (any_ok (or_kind OptionSyntax (in_parentheses body))) (λ inside _.
-    then_ok (IsSoundBeside (length classes)) (λ found. IsSound classes found.0 × (length found.1 ≤ 1024)) (rule_options classes names empty_draft (length inside + 1) (option_texts outside inside)) _ (rule_options-sound classes (option_texts outside inside) names empty_draft (length inside + 1) few (empty-sound (length classes))) (λ after h.
-    then_ok (IsSound classes) (λ found. IsSound classes found.0 × (length found.1 ≤ 1024)) (finished classes header after.0) _ (finished-sound classes header after.0 short_lists h.0) (λ rule is_sound. (is_sound, h.1))))
+    then_ok (λ _. Unit {0}) (λ found. IsSound classes found.0 × (length found.1 ≤ 1024))
+    (or_kind OptionSyntax (in_parentheses body)) _
+    (any_ok (or_kind OptionSyntax (in_parentheses body)))
+    (λ inside _.
+    then_ok (IsSoundBeside (length classes)) (λ found. IsSound classes found.0 × (length found.1 ≤ 1024))
+    (rule_options classes names empty_draft (length inside + 1) (option_texts outside inside)) _
+    (rule_options-sound classes (option_texts outside inside) names empty_draft (length inside + 1) few
+    (empty-sound (length classes)))
+    (λ after h.
+    then_ok (IsSound classes) (λ found. IsSound classes found.0 × (length found.1 ≤ 1024))
+    (finished classes header after.0) _
+    (finished-sound classes header after.0 short_lists h.0)
+    (λ rule is_sound. (is_sound, h.1))))

@@ -62,7 +62,10 @@ module _ (classes : ℕ) (draft : Draft) (sound : IsSoundDraft classes draft) wh
       then_ok (λ msg. length msg ≤ 1024) (IsSoundDraft classes) (message (is_some draft.msg) value) _ (message-short (is_some draft.msg) value)
       (λ msg short. record { kept = sound.kept; msg = short; gid = sound.gid; sid = sound.sid; class = sound.class; period = sound.period })
 
-  pub classtype-sound : (find : List ℕ → Option ℕ) → ((name : List ℕ) → IfSome (find name) (λ place. place < classes)) → (value : List ℕ) → IfOk (classtype_option find draft value) (IsSoundDraft classes)
+  pub classtype-sound : (find : List ℕ → Option ℕ)
+      → ((name : List ℕ) → IfSome (find name) (λ place. place < classes))
+      → (value : List ℕ)
+      → IfOk (classtype_option find draft value) (IsSoundDraft classes)
   unfolding classtype_option
   classtype-sound find found value =
       if_ok (IsSoundDraft classes) (length value == 0 || is_some draft.class) (Err OptionValue) (Ok (record draft { class = Some (class_named (find value)) })) (λ _. tt)
@@ -78,8 +81,11 @@ module _ (classes : ℕ) (draft : Draft) (sound : IsSoundDraft classes draft) wh
 
   counted-least : (key part : List ℕ) → IfOk (counted key part) (λ number. 1 ≤ number)
   unfolding counted
-  counted-least key part = then_ok (λ _. Unit {0}) (λ number. 1 ≤ number) (after_key key part) _ (any_ok (after_key key part)) (λ number _.
-      kind_ok (λ number. 1 ≤ number) OptionValue (number_in 1 4294967295 number) (some_weaken (IsIn 1 4294967295) (λ number. 1 ≤ number) (number_in 1 4294967295 number) (λ _ within. within.0) (number_in-within 1 4294967295 number)))
+  counted-least key part =
+      then_ok (λ _. Unit {0}) (λ number. 1 ≤ number) (after_key key part) _ (any_ok (after_key key part)) (λ number _.
+      kind_ok (λ number. 1 ≤ number) OptionValue (number_in 1 4294967295 number)
+      (some_weaken (IsIn 1 4294967295) (λ number. 1 ≤ number) (number_in 1 4294967295 number) (λ _ within. within.0)
+      (number_in-within 1 4294967295 number)))
 
   period_parts-least : (parts : List (List ℕ)) → IfOk (period_parts parts) IsPeriod
   unfolding period_parts

@@ -69,13 +69,18 @@ place_among-below text known = go (position (λ one. bytes_eq one text) known) r
 pub named-below : (least most : ℤ) (known : List (List ℕ)) (left : ℕ) (text : List ℕ) → IfOk (named known left text) (IsNumBelow (length known) least most)
 unfolding named
 named-below least most known left text =
-    if_ok (IsNumBelow (length known) least most) (is_name text) (name_at left text (place_among text known)) (Err OptionValue) (λ _. go (place_among text known) (place_among-below text known)) (λ _. tt)
+    if_ok (IsNumBelow (length known) least most) (is_name text) (name_at left text (place_among text known))
+    (Err OptionValue)
+    (λ _. go (place_among text known) (place_among-below text known))
+    (λ _. tt)
   where
     go : (o : Option ℕ) → IfSome o (λ place. place < length known) → IfOk (name_at left text o) (IsNumBelow (length known) least most)
     go None h = tt
     go (Some place) h = h
 
-or_named-below : (least most : ℤ) (known : List (List ℕ)) (left : ℕ) (text : List ℕ) (o : Option ℤ) → IfSome o (IsSignedIn least most) → IfOk (or_named known left text o) (IsNumBelow (length known) least most)
+or_named-below : (least most : ℤ) (known : List (List ℕ)) (left : ℕ) (text : List ℕ) (o : Option ℤ)
+    → IfSome o (IsSignedIn least most)
+    → IfOk (or_named known left text o) (IsNumBelow (length known) least most)
 or_named-below least most known left text None h = named-below least most known left text
 or_named-below least most known left text (Some number) h = h
 
@@ -85,7 +90,9 @@ signed_or_named-below least most known left text = or_named-below least most kno
 
 pub number_or_named-below : (least most : ℕ) (known : List (List ℕ)) (left : ℕ) (text : List ℕ) → IfOk (number_or_named least most known left text) (IsNumBelow (length known) (pos least) (pos most))
 unfolding number_or_named
-number_or_named-below least most known left text = or_named-below (pos least) (pos most) known left text (as_signed (number_in least most text)) (go (number_in least most text) (number_in-within least most text))
+number_or_named-below least most known left text =
+    or_named-below (pos least) (pos most) known left text (as_signed (number_in least most text))
+    (go (number_in least most text) (number_in-within least most text))
   where
     within : (number : ℕ) → IsIn least most number → IsSignedIn (pos least) (pos most) (pos number)
     within number h = (omega (arith, ints), omega (arith, ints))

@@ -50,7 +50,10 @@ file_way-one name (Some bytes) a b (inr (short, inr bad)) (inr (too, inr as_well
 apart : (before after : Work) (ended : Status) → after.left ≡ before.left → after.opens ≡ before.opens → (ended ≡ status.HostFault → ⊥) → IsApart before after ended
 apart before after ended left opens never = record { left = left; opens = opens; no_host_fault = never }
 
-ahead_lists : (files : Files) (course : Course) (lines : List ℕ) (before after : Work) (ended : Status) → course.way ≡ Lists lines → IsApart before after ended → ReadsAhead files course before after ended
+ahead_lists : (files : Files) (course : Course) (lines : List ℕ) (before after : Work) (ended : Status)
+    → course.way ≡ Lists lines
+    → IsApart before after ended
+    → ReadsAhead files course before after ended
 unfolding ReadsAhead
 ahead_lists files course lines before after ended lists own =
     subst (λ (way : Way). ReadsAheadOn files way before after ended) (sym lists) own

@@ -1,5 +1,6 @@
 -- Where the blocks of the first records end: the shortest beginning of the bytes that holds them.
-use Rattle.std.proofs.Common.{◌≡◌, ℕ, zero, suc, ◌+◌, ◌<◌, ◌≤◌, Bool, true, false, List, [], ◌∷◌, ◌++◌, Option, Some, None, Ok, Err, length, take, drop, refl, sym, ap, subst, ◌∙◌, append_assoc, length-append, arith}
+use Rattle.std.proofs.Common.{◌≡◌, ℕ, zero, suc, ◌+◌, ◌<◌, ◌≤◌, Bool, true, false, List, [], ◌∷◌, ◌++◌, Option, Some, None, Ok}
+use Rattle.std.proofs.Common.{Err, length, take, drop, refl, sym, ap, subst, ◌∙◌, append_assoc, length-append, arith}
 use Rattle.std.specs.Prelude.{if◌then◌else◌, nat_le, nat_lt, ◌==◌, ⊤}
 use Rattle.std.proofs.lemmas.List.{length-drop}
 use Rattle.std.proofs.lemmas.Bool.Decides.{nat_tests}
@@ -11,7 +12,10 @@ use Rattle.pcapng_input.specs.declared.content.Content.TheVariants as content
 use Rattle.pcapng_input.specs.declared.walk.Walk.{Walk}
 use Rattle.pcapng_input.specs.declared.capture.NgFault.{NgFault}
 use Rattle.pcap_input.specs.Cut.{Ending, Clean, Refused, Cut, clean_with, with_first}
-use Rattle.pcapng_input.specs.Blocks.{section_type, Step, Stops, Skips, Gives, refused, bad_block, inner_length, is_sized, order_of, first_walk, is_full, new_section, content_of, section_of, given_by, closing, fronted, known, section_block, section_begun, step_of, opening, Next, Ends, Follows, next_of, records_left}
+use Rattle.pcapng_input.specs.Blocks.{section_type, Step, Stops, Skips, Gives, refused, bad_block, inner_length, is_sized}
+use Rattle.pcapng_input.specs.Blocks.{order_of, first_walk, is_full, new_section, content_of, section_of, given_by, closing}
+use Rattle.pcapng_input.specs.Blocks.{fronted, known, section_block, section_begun, step_of, opening, Next, Ends, Follows}
+use Rattle.pcapng_input.specs.Blocks.{next_of, records_left}
 use Rattle.pcapng_input.proofs.Blocks.Begins.{begun_section, fronted-err, fronted-ok, number_front, step_cut, step_nothing}
 use Rattle.pcapng_input.proofs.Captures.Nexts.{next_of-stops}
 use Rattle.pcapng_input.proofs.Captures.Records.{records_left-ends, records_left-follows}
@@ -154,7 +158,9 @@ few_by : (bytes : List ℕ) (fewer : Bool) → nat_lt (length bytes) 4 ≡ fewer
 few_by [] fewer is some = absurd (none_at first_walk 0 [] Clean (next_of-stops first_walk [] Clean (step_nothing first_walk)) (omega (arith, some)))
 few_by (byte ∷ rest) true is some =
     let short : length (byte ∷ rest) < 8 = grind (arith, nat_tests, is) in
-    absurd (none_at first_walk 0 (byte ∷ rest) (Refused (fault.Truncated 0)) (next_of-stops first_walk (byte ∷ rest) _ (step_cut first_walk (byte ∷ rest) (omega arith) short refl)) (omega (arith, some)))
+    absurd (none_at first_walk 0 (byte ∷ rest) (Refused (fault.Truncated 0))
+    (next_of-stops first_walk (byte ∷ rest) _ (step_cut first_walk (byte ∷ rest) (omega arith) short refl))
+    (omega (arith, some)))
 few_by (byte ∷ rest) false is some = grind (arith, nat_tests, is)
 
 pub four_at_least : (bytes : List ℕ) → 0 < length (records_at first_walk bytes) → 4 ≤ length bytes

@@ -19,7 +19,10 @@ use Rattle.pcapng_input.specs.declared.resolution.Resolution.{Resolution}
 use Rattle.pcapng_input.specs.declared.walk.Interface.{Interface}
 use Rattle.pcapng_input.specs.declared.walk.Walk.{Walk}
 use Rattle.pcapng_input.specs.Options.{resolution_told}
-use Rattle.pcapng_input.specs.Blocks.{Ends, Next, Follows, Step, Stops, Skips, Gives, begun, closing, content_of, cut_up, enhanced_of, front_length, fronted, given_by, inner_length, interface_of, is_full, is_sized, known, link_of, new_section, next_along, next_of, order_of, other_block, packet_of, records_left, section_begun, section_block, section_of, section_type, simple_of, step_of}
+use Rattle.pcapng_input.specs.Blocks.{Ends, Next, Follows, Step, Stops, Skips, Gives, begun, closing, content_of, cut_up}
+use Rattle.pcapng_input.specs.Blocks.{enhanced_of, front_length, fronted, given_by, inner_length, interface_of, is_full, is_sized}
+use Rattle.pcapng_input.specs.Blocks.{known, link_of, new_section, next_along, next_of, order_of, other_block, packet_of}
+use Rattle.pcapng_input.specs.Blocks.{records_left, section_begun, section_block, section_of, section_type, simple_of, step_of}
 use Rattle.pcapng_input.proofs.Blocks.Begins.{fronted-err, fronted-ok}
 use Rattle.pcapng_input.proofs.Blocks.Closing.{given-interface, given-no_resolution}
 use Rattle.unified2_out.specs.Records.{AllFit}
@@ -43,7 +46,10 @@ packet_by walk block interface moment original captured None is = rw (packet_of,
 packet_by walk block interface None original captured (Some link) is =
     rw (packet_of, is) (choice (nat_lt 262144 captured) _ _ tt (λ short. choice (nat_lt (inner_length block) captured) _ _ tt (λ within. tt)))
 packet_by walk block interface (Some moment) original captured (Some link) is =
-    rw (packet_of, is) (choice (nat_lt 262144 captured) _ _ tt (λ short. choice (nat_lt (inner_length block) captured) _ _ tt (λ within. let small : captured ≤ 262144 = grind (arith, nat_tests, short) in small)))
+    rw (packet_of, is)
+    (choice (nat_lt 262144 captured) _ _ tt
+    (λ short. choice (nat_lt (inner_length block) captured) _ _ tt
+    (λ within. let small : captured ≤ 262144 = grind (arith, nat_tests, short) in small)))
 
 packet_short : (walk : Walk) (block : Block) (interface : Interface) (moment : Option Moment) (original captured : ℕ) → IsShort (packet_of walk block interface moment original captured)
 packet_short walk block interface moment original captured = packet_by walk block interface moment original captured _ refl

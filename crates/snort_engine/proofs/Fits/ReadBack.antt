@@ -1,5 +1,6 @@
 -- What is written under `--unified2` is the text of records, each of which can be read back.
-use Rattle.std.proofs.Common.{◌≡◌, ℕ, zero, suc, ◌+◌, ◌/◌, ◌%◌, ◌^◌, ◌<◌, ◌≤◌, List, [], ◌∷◌, ◌++◌, Option, Some, None, length, map, take, drop, refl, sym, ap, subst, ◌∙◌, append_assoc, arith, slice_get, inl, inr}
+use Rattle.std.proofs.Common.{◌≡◌, ℕ, zero, suc, ◌+◌, ◌/◌, ◌%◌, ◌^◌, ◌<◌, ◌≤◌, List, [], ◌∷◌, ◌++◌, Option, Some, None, length}
+use Rattle.std.proofs.Common.{map, take, drop, refl, sym, ap, subst, ◌∙◌, append_assoc, arith, slice_get, inl, inr}
 use Rattle.std.specs.Prelude.{IfSome, fold}
 use Rattle.std.specs.List.{All, flat_map}
 use Rattle.std.proofs.lemmas.List.{take-append-drop, take_at, drop_at}
@@ -215,12 +216,34 @@ event_is before event fits =
     record {
       writable = one_version event.head.ip.src event.head.ip.dst head.version;
       fits = record {
-        words = All-from_recursion IsWord (event_words (event_record before event))
-            (none, (numbered before, (moment.0, (moment.1, (small_word event.rule.sid rule.sid, (small_word event.rule.gid rule.gid, (small_word event.rule.rev rule.rev, (class_fits event.rule.class rule.class, (small_word event.rule.priority rule.priority, tt)))))))));
+        words = All-from_recursion IsWord (event_words (event_record before event)) (
+          none,
+          (
+            numbered before,
+            (
+              moment.0,
+              (
+                moment.1,
+                (
+                  small_word event.rule.sid rule.sid,
+                  (
+                    small_word event.rule.gid rule.gid,
+                    (
+                      small_word event.rule.rev rule.rev,
+                      (class_fits event.rule.class rule.class, (small_word event.rule.priority rule.priority, tt)),
+                    ),
+                  ),
+                ),
+              ),
+            ),
+          ),
+        );
         src = in_range event.head.ip.src head.src;
         dst = in_range event.head.ip.dst head.dst;
         ports = All-from_recursion (λ value. value < 256 ^ 2) (event_ports (event_record before event)) (ports.0, (ports.1, tt));
-        octets = All-from_recursion (λ value. value < 256 ^ 1) (event_octets (event_record before event)) (protocol, (zero_octet, (zero_octet, (zero_octet, tt))));
+        octets =
+            All-from_recursion (λ value. value < 256 ^ 1) (event_octets (event_record before event))
+            (protocol, (zero_octet, (zero_octet, (zero_octet, tt))));
       };
     }
 
@@ -277,8 +300,15 @@ answer_entries plan bytes warnings is rules all = are_entries plan (records_of p
 -- the first of the records of bytes are the records of a beginning of these bytes
 pub first_entries : (bytes : List ℕ) (written : List U2) (count : ℕ) → AreRecordsOf bytes written
     → AreRecordsOf (joined_text (take count written)) (take count written) × IsPrefix (joined_text (take count written)) bytes
-first_entries bytes written count are =
-    (record { each = All-take IsRecord count written are.each; joined = refl }, (joined_text (drop count written), sym (flat_map-append unified2_text (take count written) (drop count written)) ∙ ap joined_text (take-append-drop count written) ∙ are.joined))
+first_entries bytes written count are = (
+  record { each = All-take IsRecord count written are.each; joined = refl },
+  (
+    joined_text (drop count written),
+    sym (flat_map-append unified2_text (take count written) (drop count written))
+        ∙ ap joined_text (take-append-drop count written)
+        ∙ are.joined,
+  ),
+)
 
 -- a file that holds records tells a line for each
 pub tells_entries : (name bytes : List ℕ) (written : List U2) (way : Way) → AreRecordsOf bytes written → length bytes ≤ most_file_bytes

@@ -118,25 +118,40 @@ ends_lacking files course before after part ahead = ends_lacking_so files course
 -- ---- reading ahead
 
 -- a course that stops has opened nothing
-pub ahead_stops : (files : Files) (course : Course) (message : List ℕ) (status_then : Status) (before after : Work) (ended : Status) → course.way ≡ Stops message status_then → ended ≡ status_then → IsUntouched before after → ReadsAhead files course before after ended
+pub ahead_stops : (files : Files) (course : Course) (message : List ℕ) (status_then : Status) (before after : Work)
+    (ended : Status)
+    → course.way ≡ Stops message status_then
+    → ended ≡ status_then
+    → IsUntouched before after
+    → ReadsAhead files course before after ended
 unfolding ReadsAhead
 ahead_stops files course message status_then before after ended stops is unopened =
     subst (λ (way : Way). ReadsAheadOn files way before after ended) (sym stops) (unopened, inl is)
 
 -- a course that goes on has read its capture
-pub ahead_goes : (files : Files) (course : Course) (plan : Plan) (before after : Work) (ended : Status) → course.way ≡ Goes plan → IsReadAhead plan (get files plan.source) before after ended → ReadsAhead files course before after ended
+pub ahead_goes : (files : Files) (course : Course) (plan : Plan) (before after : Work) (ended : Status)
+    → course.way ≡ Goes plan
+    → IsReadAhead plan (get files plan.source) before after ended
+    → ReadsAhead files course before after ended
 unfolding ReadsAhead
 ahead_goes files course plan before after ended goes read =
     subst (λ (way : Way). ReadsAheadOn files way before after ended) (sym goes) (inl read)
 
 -- a run whose course goes on was cut off before its capture was read
-pub ahead_cut : (files : Files) (course : Course) (plan : Plan) (before after : Work) (ended : Status) → course.way ≡ Goes plan → IsCutStatus ended → IsUntouched before after ⊎ IsShut before after → ReadsAhead files course before after ended
+pub ahead_cut : (files : Files) (course : Course) (plan : Plan) (before after : Work) (ended : Status)
+    → course.way ≡ Goes plan
+    → IsCutStatus ended
+    → IsUntouched before after ⊎ IsShut before after
+    → ReadsAhead files course before after ended
 unfolding ReadsAhead
 ahead_cut files course plan before after ended goes cut how =
     subst (λ (way : Way). ReadsAheadOn files way before after ended) (sym goes) (inr (cut, how))
 
 -- a course whose capture is made has left the host alone
-pub ahead_made : (files : Files) (course : Course) (plan : Plan) (seed count : ℕ) (before after : Work) (ended : Status) → course.way ≡ Makes plan seed count → IsApart before after ended → ReadsAhead files course before after ended
+pub ahead_made : (files : Files) (course : Course) (plan : Plan) (seed count : ℕ) (before after : Work) (ended : Status)
+    → course.way ≡ Makes plan seed count
+    → IsApart before after ended
+    → ReadsAhead files course before after ended
 unfolding ReadsAhead
 ahead_made files course plan seed count before after ended makes apart =
     subst (λ (way : Way). ReadsAheadOn files way before after ended) (sym makes) apart
@@ -211,7 +226,16 @@ ends_counted files course before after faults ended message since ends = record 
     by_way : (way : Way) → ReadsAheadOn files way before after ended → ReadsAheadOn files way (counted before faults) after ended
     by_way (Stops text status_then) (u, how) = (unopened_on u, how)
     by_way (Goes plan) (inl r) =
-        inl (record { taken = r.taken; rest = r.rest; of = r.of; still = r.still; more = r.more; wrote = r.wrote; within = r.within; in_batches = λ is. batches_on plan r.taken r.rest (r.in_batches is) })
+        inl (record {
+          taken = r.taken;
+          rest = r.rest;
+          of = r.of;
+          still = r.still;
+          more = r.more;
+          wrote = r.wrote;
+          within = r.within;
+          in_batches = λ is. batches_on plan r.taken r.rest (r.in_batches is);
+        })
     by_way (Goes plan) (inr (cut, inl u)) = inr (cut, inl (unopened_on u))
     by_way (Goes plan) (inr (cut, inr s)) = inr (cut, inr (record { left = s.left; alerts = s.alerts }))
     by_way (Makes plan seed count) apart = record { left = apart.left; opens = apart.opens; no_host_fault = apart.no_host_fault }
@@ -221,8 +245,11 @@ ends_counted files course before after faults ended message since ends = record 
 pub ends_since : (files : Files) (course : Course) (earlier before after : Work) (ended : Status) (message : List ℕ) → IsLater earlier before
     → Ends files course before after ended message → Ends files course earlier after ended message
 ends_since files course earlier before after ended message since ends =
-    let same : counted before earlier.host_faults ≡ earlier = same_work before.left earlier.left before.opens earlier.opens before.alerts earlier.alerts earlier.host_faults since.left since.opens since.alerts in
-    subst (λ (w : Work). Ends files course w after ended message) same (ends_counted files course before after earlier.host_faults ended message since.later ends)
+    let same : counted before earlier.host_faults ≡ earlier =
+    same_work before.left earlier.left before.opens earlier.opens before.alerts earlier.alerts earlier.host_faults since.left
+    since.opens since.alerts in
+    subst (λ (w : Work). Ends files course w after ended message) same
+    (ends_counted files course before after earlier.host_faults ended message since.later ends)
   where
     same_work : (l l' : Option (List ℕ)) (o o' : ℕ) (a a' : Option (List ℕ)) (f : ℕ) → l ≡ l' → o ≡ o' → a ≡ a'
         → ◌≡◌ {A = Work} (record { left = l; opens = o; host_faults = f; alerts = a }) (record { left = l'; opens = o'; host_faults = f; alerts = a' })

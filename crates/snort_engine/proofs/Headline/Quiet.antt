@@ -162,7 +162,14 @@ closes_same old new ended same =
 -- the lines of the last flows were not all written
 pub closes_unwritten : (old new : ℕ) (read : Status) (why : WriteFault) → (why ≡ write.Unwritten → Rose old new) → old ≤ new → ClosesWith old new read (stop_status (write_stop why))
 closes_unwritten old new read write.Unwritten counted later =
-    record { write_fault = λ is. inr (counted refl); read_fault = λ is. absurd cc; uncut = λ uncut. absurd cc; written = λ written. absurd cc; quiet_alerts = λ written. absurd cc; later_alerts = later }
+    record {
+      write_fault = λ is. inr (counted refl);
+      read_fault = λ is. absurd cc;
+      uncut = λ uncut. absurd cc;
+      written = λ written. absurd cc;
+      quiet_alerts = λ written. absurd cc;
+      later_alerts = later;
+    }
 closes_unwritten old new read write.NoMemory counted later =
     record { write_fault = λ is. absurd cc; read_fault = λ is. absurd cc; uncut = λ uncut. absurd cc; written = λ written. absurd cc; quiet_alerts = λ written. absurd cc; later_alerts = later }
 

@@ -69,9 +69,15 @@ tells_more so_far text first middle last at_first at_middle at_last false false 
 }
 
 -- the texts so far were told, and then the next one
-pub tells_step : (texts : List (List ℕ)) (i : ℕ) (item text : List ℕ) (first middle last : Option (List ℕ)) (at_first at_middle at_last : ℕ) (well still : Bool) → i < length texts → item ≡ get_or texts i item → text ≡ item
-    → at_first ≤ at_middle → at_middle ≤ at_last
-    → TellsOn (concat (take i texts)) true first middle (Rose at_first at_middle) well → TellsOn text well middle last (Rose at_middle at_last) still
+pub tells_step : (texts : List (List ℕ)) (i : ℕ) (item text : List ℕ) (first middle last : Option (List ℕ))
+    (at_first at_middle at_last : ℕ) (well still : Bool)
+    → i < length texts
+    → item ≡ get_or texts i item
+    → text ≡ item
+    → at_first ≤ at_middle
+    → at_middle ≤ at_last
+    → TellsOn (concat (take i texts)) true first middle (Rose at_first at_middle) well
+    → TellsOn text well middle last (Rose at_middle at_last) still
     → TellsOn (concat (take (i + 1) texts)) true first last (Rose at_first at_last) still
 tells_step texts i item text first middle last at_first at_middle at_last well still lt is same later on one two =
     let P : List ℕ → Type 0 = λ x. TellsOn x true first last (Rose at_first at_last) still in
@@ -114,5 +120,8 @@ reports_told text made outcome ended well still old new rose is same told =
     inl (is, subst (λ (t : List ℕ). TellsLast t well old new rose) same (tells_last made well still old new rose told))
 
 -- memory was lacking for it
-pub reports_untold : (text : List ℕ) (outcome : Result (Unit {0}) Stop) (well still : Bool) (old new : Option (List ℕ)) (rose : Type 0) → TellsOn no_memory_text well old new rose still → ReportsOn text outcome status.NoMemory well old new rose
+pub reports_untold : (text : List ℕ) (outcome : Result (Unit {0}) Stop) (well still : Bool) (old new : Option (List ℕ))
+    (rose : Type 0)
+    → TellsOn no_memory_text well old new rose still
+    → ReportsOn text outcome status.NoMemory well old new rose
 reports_untold text outcome well still old new rose told = inr (refl, tells_last no_memory_text well still old new rose told)

@@ -39,7 +39,8 @@ use Rattle.snort_engine.proofs.Headline.Finishing.{IsPlain, ends_met, ends_answe
 -- ---- a course that stops
 
 -- the answer of a course that stops
-stops_answered : (files : Files) (course : Course) (message : List ℕ) (ended : Status) → course.way ≡ Stops message ended → answer_of files course ≡ record { alerts = []; errors = concat course.warnings ++ message; status = ended }
+stops_answered : (files : Files) (course : Course) (message : List ℕ) (ended : Status) → course.way ≡ Stops message ended
+    → answer_of files course ≡ record { alerts = []; errors = concat course.warnings ++ message; status = ended }
 stops_answered files course message ended is = ap (way_answer files (concat course.warnings)) is
 
 -- what stops a course before its capture: a status that is plain, or that of a file that is lacking
@@ -54,7 +55,8 @@ stops_ends files course message ended before after is early unopened =
     (λ (plain : IsPlain ended). ends_met files course before after ended [] text plain wrote answered ahead)
     (λ (lacks : ended ≡ status.HostFault).
     subst (λ (s : Status). Ends files course before after s text) (sym lacks)
-    (ends_answered files course before after [] text wrote (subst (λ (s : Status). IsAnswered (answer_of files course) s [] text) lacks answered) (subst (λ (s : Status). ReadsAhead files course before after s) lacks ahead)))
+    (ends_answered files course before after [] text wrote (subst (λ (s : Status). IsAnswered (answer_of files course) s [] text) lacks answered)
+    (subst (λ (s : Status). ReadsAhead files course before after s) lacks ahead)))
     early
   where
     text : List ℕ
@@ -79,16 +81,20 @@ stops_ends files course message ended before after is early unopened =
 -- ---- a run that was stopped before its capture
 
 -- a course of this way, over these files
-on_course : (asked : Option Asked) (here : Given) (warnings : List (List ℕ)) (message : List ℕ) (ended : Status) (before after : Work) → HasWay asked here warnings (Stops message ended) → IsEarlyStatus ended → IsUntouched before after
+on_course : (asked : Option Asked) (here : Given) (warnings : List (List ℕ)) (message : List ℕ) (ended : Status) (before after : Work) → HasWay asked here warnings (Stops message ended)
+    → IsEarlyStatus ended → IsUntouched before after
     → EndsOnCourse asked here before after ended (concat warnings ++ message)
 on_course asked here warnings message ended before after has early unopened = record {
   course = has.course;
   is = has.is;
-  ends = subst (λ (w : List (List ℕ)). Ends here.files has.course before after ended (concat w ++ message)) has.warnings_are (stops_ends here.files has.course message ended before after has.way_is early unopened);
+  ends =
+      subst (λ (w : List (List ℕ)). Ends here.files has.course before after ended (concat w ++ message)) has.warnings_are
+      (stops_ends here.files has.course message ended before after has.way_is early unopened);
 }
 
 -- a course of this way, where memory was lacking for the message
-on_course_untold : (asked : Option Asked) (here : Given) (warnings : List (List ℕ)) (message : List ℕ) (ended : Status) (before after : Work) → HasWay asked here warnings (Stops message ended) → IsEarlyStatus ended → IsUntouched before after
+on_course_untold : (asked : Option Asked) (here : Given) (warnings : List (List ℕ)) (message : List ℕ) (ended : Status) (before after : Work) → HasWay asked here warnings (Stops message ended)
+    → IsEarlyStatus ended → IsUntouched before after
     → EndsOnCourse asked here before after status.NoMemory (concat warnings ++ no_memory_text)
 on_course_untold asked here warnings message ended before after has early unopened = record {
   course = has.course;
@@ -99,7 +105,8 @@ on_course_untold asked here warnings message ended before after has early unopen
 
 module _ {A : Type 0} (view : A → Way) (asked : Option Asked) (here : Given) (before after : Work) (warnings : List (List ℕ)) (unopened : IsUntouched before after) where
   -- how a stop ends a run
-  stop_ends : (host : Option Files) (why : Stop) → HasCause (Rose before.host_faults after.host_faults) host why → Prepares view asked here (Rose before.host_faults after.host_faults) (Err why) warnings
+  stop_ends : (host : Option Files) (why : Stop) → HasCause (Rose before.host_faults after.host_faults) host why
+      → Prepares view asked here (Rose before.host_faults after.host_faults) (Err why) warnings
       → EndsRun asked here before after (stop_status why) (concat warnings ++ stop_text [] why)
   unfolding stop_text
   stop_ends host stop.Usage cause has = inl (on_course asked here warnings _ _ before after has (inl tt) unopened)
@@ -117,7 +124,8 @@ module _ {A : Type 0} (view : A → Way) (asked : Option Asked) (here : Given) (
   stop_ends host why cause has = absurd cause
 
   -- how a stop ends a run where memory was lacking for its message
-  stop_untold : (host : Option Files) (why : Stop) → HasCause (Rose before.host_faults after.host_faults) host why → Prepares view asked here (Rose before.host_faults after.host_faults) (Err why) warnings
+  stop_untold : (host : Option Files) (why : Stop) → HasCause (Rose before.host_faults after.host_faults) host why
+      → Prepares view asked here (Rose before.host_faults after.host_faults) (Err why) warnings
       → EndsRun asked here before after status.NoMemory (concat warnings ++ no_memory_text)
   stop_untold host stop.Usage cause has = inl (on_course_untold asked here warnings _ _ before after has (inl tt) unopened)
   stop_untold host stop.Version cause has = inl (on_course_untold asked here warnings _ _ before after has (inl tt) unopened)
@@ -171,7 +179,8 @@ pub record IsRun (asked : Option Asked) (means : Means) (before after : Outside)
   pub counts : NoCountFell before after
 
 -- where no count rose, the status is the answer's, unless memory is lacking
-complete_on : (files : Files) (course : Course) (before after : Outside) (ended : Status) (message : List ℕ) (s : Status) → ended ≡ s → (s ≡ status.WriteFault → Rose before.alert_faults after.alert_faults)
+complete_on : (files : Files) (course : Course) (before after : Outside) (ended : Status) (message : List ℕ) (s : Status) → ended ≡ s
+    → (s ≡ status.WriteFault → Rose before.alert_faults after.alert_faults)
     → Ends files course (work_of before) (work_of after) ended message → NoFault before after → (ended ≡ (answer_of files course).status) ⊎ (ended ≡ status.NoMemory)
 complete_on files course before after ended message status.NoMemory is write ends calm = inr is
 complete_on files course before after ended message status.WriteFault is write ends calm = absurd (calm.alerts (write refl))
@@ -184,7 +193,8 @@ complete_on files course before after ended message status.Refused is write ends
 complete_on files course before after ended message status.BadCapture is write ends calm =
     inl (ends.ended_as_stated (subst (λ (x : Status). IsStated x (Rose before.host_faults after.host_faults)) (sym is) tt)).status
 
-complete_by : (asked : Option Asked) (here : Given) (before after : Outside) (ended : Status) → (ended ≡ status.WriteFault → Rose before.alert_faults after.alert_faults) → EndsSo asked here before after ended → NoFault before after
+complete_by : (asked : Option Asked) (here : Given) (before after : Outside) (ended : Status) → (ended ≡ status.WriteFault → Rose before.alert_faults after.alert_faults)
+    → EndsSo asked here before after ended → NoFault before after
     → HasAnswer asked here ended ⊎ (ended ≡ status.NoMemory)
 complete_by asked here before after ended write so calm =
     ⊎_elim
@@ -235,7 +245,8 @@ headline words means before after ended run = record {
 -- ---- a run that was stopped before its capture
 
 -- a stop at a file that couldn't be read has its answer, or the host's count rose
-stop_answered : {A : Type 0} (view : A → Way) (asked : Option Asked) (here : Given) (rose : Type 0) (host : Option Files) (why : Stop) (warnings : List (List ℕ)) → HasCause rose host why → Prepares view asked here rose (Err why) warnings
+stop_answered : {A : Type 0} (view : A → Way) (asked : Option Asked) (here : Given) (rose : Type 0) (host : Option Files) (why : Stop) (warnings : List (List ℕ)) → HasCause rose host why
+    → Prepares view asked here rose (Err why) warnings
     → stop_status why ≡ status.HostFault → rose ⊎ HasAnswer asked here status.HostFault
 stop_answered view asked here rose host (stop.CannotReadFile name) warnings cause has failed =
     ⊎_elim
@@ -276,12 +287,14 @@ pub record IsTold (warnings : List (List ℕ)) (text : List ℕ) (outcome : Resu
   pub reports : ReportsOn text outcome ended well middle after.errors (Rose at_middle after.error_faults)
 
 -- a status other than NoMemory is that of the outcome
-by_outcome : (warnings : List (List ℕ)) (text : List ℕ) (outcome : Result (Unit {0}) Stop) (before after : Outside) (ended other : Status) → IsTold warnings text outcome before after ended → (status.NoMemory ≡ other → ⊥) → ended ≡ other → outcome_status outcome ≡ other
+by_outcome : (warnings : List (List ℕ)) (text : List ℕ) (outcome : Result (Unit {0}) Stop) (before after : Outside) (ended other : Status) → IsTold warnings text outcome before after ended
+    → (status.NoMemory ≡ other → ⊥) → ended ≡ other → outcome_status outcome ≡ other
 by_outcome warnings text outcome before after ended other told apart is =
     ⊎_elim (λ said. sym said.0 ∙ is) (λ untold. absurd (apart (sym untold.0 ∙ is))) told.reports
 
 -- a run that isn't cut short has an outcome that isn't
-uncut_by_outcome : (warnings : List (List ℕ)) (text : List ℕ) (outcome : Result (Unit {0}) Stop) (before after : Outside) (ended : Status) → IsTold warnings text outcome before after ended → IsUncut ended → is_uncut (outcome_status outcome) ≡ true
+uncut_by_outcome : (warnings : List (List ℕ)) (text : List ℕ) (outcome : Result (Unit {0}) Stop) (before after : Outside) (ended : Status) → IsTold warnings text outcome before after ended
+    → IsUncut ended → is_uncut (outcome_status outcome) ≡ true
 uncut_by_outcome warnings text outcome before after ended told uncut =
     ⊎_elim
     (λ said. ap is_uncut (sym said.0) ∙ status_uncut ended uncut)
@@ -302,7 +315,8 @@ quiet_alerts_run warnings text outcome before after ended told writes failed =
     writes (ap is_written (by_outcome warnings text outcome before after ended status.HostFault told (λ e. cc) failed))
 
 -- a run that ends so by its outcome, and so where memory is lacking for the message
-ends_told : (asked : Option Asked) (here : Given) (warnings : List (List ℕ)) (text : List ℕ) (outcome : Result (Unit {0}) Stop) (before after : Outside) (ended : Status) → IsTold warnings text outcome before after ended
+ends_told : (asked : Option Asked) (here : Given) (warnings : List (List ℕ)) (text : List ℕ) (outcome : Result (Unit {0}) Stop) (before after : Outside) (ended : Status)
+    → IsTold warnings text outcome before after ended
     → EndsRun asked here (work_of before) (work_of after) (outcome_status outcome) (concat warnings ++ text)
     → EndsRun asked here (work_of before) (work_of after) status.NoMemory (concat warnings ++ no_memory_text)
     → EndsSo asked here before after ended
@@ -317,7 +331,9 @@ ends_told asked here warnings text outcome before after ended told ends untold =
     (λ (lacking : (ended ≡ status.NoMemory) × TellsLast no_memory_text told.well told.middle after.errors (Rose told.at_middle after.error_faults)).
     record {
       message = concat warnings ++ no_memory_text;
-      tells = tells_message (concat warnings) no_memory_text before.errors told.middle after.errors before.error_faults told.at_middle after.error_faults told.well told.later told.on told.warned lacking.1;
+      tells =
+          tells_message (concat warnings) no_memory_text before.errors told.middle after.errors before.error_faults told.at_middle after.error_faults told.well told.later told.on told.warned
+          lacking.1;
       ends = subst (λ (s : Status). EndsRun asked here (work_of before) (work_of after) s (concat warnings ++ no_memory_text)) (sym lacking.0) untold;
     })
     told.reports
@@ -329,7 +345,8 @@ same_other asked here warnings way has other =
     subst (BeginsOtherwise (Some here.files)) (ap (λ (c : Course). c.way) same ∙ has.way_is) other.other
 
 -- a run that was stopped before a capture that begins as no savefile does was cut short
-stop_cut : {A : Type 0} (view : A → Way) (asked : Option Asked) (here : Given) (before after : Outside) (ended : Status) (host : Option Files) (why : Stop) (warnings : List (List ℕ)) (text : List ℕ) → HasCause (Rose before.host_faults after.host_faults) host why
+stop_cut : {A : Type 0} (view : A → Way) (asked : Option Asked) (here : Given) (before after : Outside) (ended : Status) (host : Option Files) (why : Stop) (warnings : List (List ℕ)) (text : List ℕ)
+    → HasCause (Rose before.host_faults after.host_faults) host why
     → Prepares view asked here (Rose before.host_faults after.host_faults) (Err why) warnings → IsTold warnings text (Err why) before after ended → HasOther asked here → MayBeCut before after ended
 stop_cut view asked here before after ended host stop.Usage warnings text cause has told other = absurd (same_other asked here warnings _ has other)
 stop_cut view asked here before after ended host stop.Version warnings text cause has told other = absurd (same_other asked here warnings _ has other)
@@ -357,7 +374,8 @@ pub record IsStopped {A : Type 0} (ways : Test → A → Way) (asked : Option As
   pub same_files : after.files ≡ before.files
   pub counts : NoCountFell before after
 
-pub stopped_run : {A : Type 0} (ways : Test → A → Way) (asked : Option Asked) (means : Means) (before after : Outside) (why : Stop) (warnings : List (List ℕ)) (ended : Status) → (test : Test) × Tells means test
+pub stopped_run : {A : Type 0} (ways : Test → A → Way) (asked : Option Asked) (means : Means) (before after : Outside) (why : Stop) (warnings : List (List ℕ)) (ended : Status)
+    → (test : Test) × Tells means test
     → IsStopped ways asked before after why warnings → IsTold warnings (stop_text [] why) (Err why) before after ended → IsRun asked means before after ended
 stopped_run {A} ways asked means before after why warnings ended decided run told = record {
   matches = decided.0;
@@ -372,15 +390,21 @@ stopped_run {A} ways asked means before after why warnings ended decided run tol
           ends_told asked here warnings (stop_text [] why) (Err why) before after ended told
               (stop_ends (ways decided.0) asked here (work_of before) (work_of after) warnings run.unopened before.files why run.cause has)
               (stop_untold (ways decided.0) asked here (work_of before) (work_of after) warnings run.unopened before.files why run.cause has),
-          λ failed. stop_answered (ways decided.0) asked here (Rose before.host_faults after.host_faults) before.files why warnings run.cause has (by_outcome warnings (stop_text [] why) (Err why) before after ended status.HostFault told (λ e. cc) failed),
+          λ failed.
+              stop_answered (ways decided.0) asked here (Rose before.host_faults after.host_faults) before.files why warnings run.cause has
+              (by_outcome warnings (stop_text [] why) (Err why) before after ended status.HostFault told (λ e. cc) failed),
           inl (
             (let same = run.unopened.opens in omega (arith, same)),
             λ other. stop_cut (ways decided.0) asked here before after ended before.files why warnings (stop_text [] why) run.cause has told other,
           ),
         ),
       );
-  untold = λ failed none. stop_untold_rose (Rose before.host_faults after.host_faults) before.files why run.cause (by_outcome warnings (stop_text [] why) (Err why) before after ended status.HostFault told (λ e. cc) failed) none;
-  write_fault = λ failed. absurd (no_write_stop (Rose before.host_faults after.host_faults) before.files why run.cause (by_outcome warnings (stop_text [] why) (Err why) before after ended status.WriteFault told (λ e. cc) failed));
+  untold = λ failed none.
+      stop_untold_rose (Rose before.host_faults after.host_faults) before.files why run.cause
+      (by_outcome warnings (stop_text [] why) (Err why) before after ended status.HostFault told (λ e. cc) failed) none;
+  write_fault = λ failed.
+      absurd (no_write_stop (Rose before.host_faults after.host_faults) before.files why run.cause
+      (by_outcome warnings (stop_text [] why) (Err why) before after ended status.WriteFault told (λ e. cc) failed));
   quiet = quiet_run warnings (stop_text [] why) (Err why) before after ended told run.quiet (λ written. run.quiet_alerts);
   quiet_alerts = λ failed. run.quiet_alerts;
   faulty_words = λ none.
@@ -425,10 +449,13 @@ opens_made told (File name) plan failed old new made opens = absurd made
 opens_made told (Made seed count) plan failed old new made opens = opens
 
 -- how often a capture was opened that was shown, by its way
-opens_by : (asked : Option Asked) (here : Given) (warnings : List (List ℕ)) (before after : Outside) (ended : Status) (failed : Type 0) (way : Way) → (failed → Rose before.host_faults after.host_faults) → HasWay asked here warnings way
+opens_by : (asked : Option Asked) (here : Given) (warnings : List (List ℕ)) (before after : Outside) (ended : Status) (failed : Type 0) (way : Way)
+    → (failed → Rose before.host_faults after.host_faults) → HasWay asked here warnings way
     → OpensOn (Some here.files) way failed before.opens after.opens → OpensBy asked here before after ended
-opens_by asked here warnings before after ended failed (Stops message status_then) rises has opens = inl (omega (arith, opens), λ other. absurd (same_other asked here warnings (Stops message status_then) has other))
-opens_by asked here warnings before after ended failed (Makes plan seed count) rises has opens = inl (omega (arith, opens), λ other. absurd (same_other asked here warnings (Makes plan seed count) has other))
+opens_by asked here warnings before after ended failed (Stops message status_then) rises has opens =
+    inl (omega (arith, opens), λ other. absurd (same_other asked here warnings (Stops message status_then) has other))
+opens_by asked here warnings before after ended failed (Makes plan seed count) rises has opens =
+    inl (omega (arith, opens), λ other. absurd (same_other asked here warnings (Makes plan seed count) has other))
 opens_by asked here warnings before after ended failed (Lists lines) rises has opens = inl (omega (arith, opens), λ other. absurd (same_other asked here warnings (Lists lines) has other))
 opens_by asked here warnings before after ended failed (Goes plan) rises has opens =
     let most = one_more_most before.opens in
@@ -440,7 +467,9 @@ opens_by asked here warnings before after ended failed (Goes plan) rises has ope
     opens
 
 -- what is known of a run that shown its capture
-pub record IsShowing {A : Type 0} (ways : Test → A → Way) (asked : Option Asked) (means : Means) (before after : Outside) (ready : A) (text : List ℕ) (outcome : Result (Unit {0}) Stop) (warnings : List (List ℕ)) : Type 0 where
+pub record IsShowing {A : Type 0} (ways : Test → A → Way) (asked : Option Asked) (means : Means) (before after : Outside) (ready : A) (text : List ℕ) (outcome : Result (Unit {0}) Stop)
+    (warnings : List (List ℕ)) :
+    Type 0 where
   pub middle : Work
   pub prepared : (files : Files) → before.files ≡ Some files → IsPrepared ways asked files (Rose before.host_faults middle.host_faults) (refused_since before after) (Ok ready) warnings
   pub faulty_words : asked ≡ None → ⊥
@@ -458,20 +487,24 @@ pub record IsShowing {A : Type 0} (ways : Test → A → Way) (asked : Option As
   pub counts : NoCountFell before after
 
 -- the run on its course
-showing_on : {A : Type 0} (ways : Test → A → Way) (asked : Option Asked) (means : Means) (before after : Outside) (ready : A) (text : List ℕ) (outcome : Result (Unit {0}) Stop) (warnings : List (List ℕ)) (matches : Test) (files : Files) (here : Given)
+showing_on : {A : Type 0} (ways : Test → A → Way) (asked : Option Asked) (means : Means) (before after : Outside) (ready : A) (text : List ℕ) (outcome : Result (Unit {0}) Stop)
+    (warnings : List (List ℕ)) (matches : Test) (files : Files) (here : Given)
     → here.files ≡ files → IsShowing ways asked means before after ready text outcome warnings → Tells means matches → before.files ≡ Some files → HasWay asked here warnings (ways matches ready)
-    → (course : Course) × IsCourse asked here course × (course.warnings ≡ warnings) × (course.way ≡ ways matches ready) × Ends files course (work_of before) (work_of after) (outcome_status outcome) (concat warnings ++ text)
+    → (course : Course) × IsCourse asked here course × (course.warnings ≡ warnings) × (course.way ≡ ways matches ready) ×
+    Ends files course (work_of before) (work_of after) (outcome_status outcome) (concat warnings ++ text)
 showing_on ways asked means before after ready text outcome warnings matches files here over run tells is has = (
   has.course,
   has.is,
   has.warnings_are,
   has.way_is,
   subst (λ (w : List (List ℕ)). Ends files has.course (work_of before) (work_of after) (outcome_status outcome) (concat w ++ text)) has.warnings_are
-      (ends_since files has.course (work_of before) run.middle (work_of after) (outcome_status outcome) (concat has.course.warnings ++ text) run.since (run.ends matches tells files has.course is has.way_is)),
+      (ends_since files has.course (work_of before) run.middle (work_of after) (outcome_status outcome) (concat has.course.warnings ++ text) run.since
+      (run.ends matches tells files has.course is has.way_is)),
 )
 
 -- the answer of a capture that is lacking
-lacking_capture : (asked : Option Asked) (here : Given) (way : Way) (warnings : List (List ℕ)) → HasWay asked here warnings way → LacksCapture (Some here.files) way → HasAnswer asked here status.HostFault
+lacking_capture : (asked : Option Asked) (here : Given) (way : Way) (warnings : List (List ℕ)) → HasWay asked here warnings way → LacksCapture (Some here.files) way
+    → HasAnswer asked here status.HostFault
 unfolding capture_answer
 lacking_capture asked here (Stops message ended) warnings has lacks = absurd lacks
 lacking_capture asked here (Makes plan seed count) warnings has lacks = absurd lacks
@@ -490,7 +523,9 @@ none_lacking (Makes plan seed count) lacks = lacks
 none_lacking (Lists lines) lacks = lacks
 none_lacking (Goes plan) lacks = lacks
 
-pub shown_run : {A : Type 0} (ways : Test → A → Way) (asked : Option Asked) (means : Means) (before after : Outside) (ready : A) (text : List ℕ) (outcome : Result (Unit {0}) Stop) (warnings : List (List ℕ)) (ended : Status) → (test : Test) × Tells means test
+pub shown_run : {A : Type 0} (ways : Test → A → Way) (asked : Option Asked) (means : Means) (before after : Outside) (ready : A) (text : List ℕ) (outcome : Result (Unit {0}) Stop)
+    (warnings : List (List ℕ)) (ended : Status)
+    → (test : Test) × Tells means test
     → IsShowing ways asked means before after ready text outcome warnings → IsTold warnings text outcome before after ended → IsRun asked means before after ended
 shown_run ways asked means before after ready text outcome warnings ended decided run told = record {
   matches = decided.0;

@@ -37,20 +37,35 @@ lacks_by h old new name seen law same may lacks =
     seen_lacks (h.contents new) (h.left new) (h.agrees new) (h.left_of new) name seen law may (subst (λ (contents : Option Files). Lacks contents name) (sym same) lacks)
 
 -- a failure has its cause by what is seen
-pub cause_by : {H : Type 0} (h : HostOf H) (old new : H) (name : List ℕ) (rose : Type 0) (seen : Option Files) → AsTold (h.contents new) (h.left new) (h.agrees new) (h.left_of new) → h.contents new ≡ h.contents old
-    → MaySee (h.contents new) (h.agrees new) seen → rose ⊎ Lacks (h.contents old) name → rose ⊎ Lacks seen name
+pub cause_by : {H : Type 0} (h : HostOf H) (old new : H) (name : List ℕ) (rose : Type 0) (seen : Option Files)
+    → AsTold (h.contents new) (h.left new) (h.agrees new) (h.left_of new)
+    → h.contents new ≡ h.contents old
+    → MaySee (h.contents new) (h.agrees new) seen
+    → rose ⊎ Lacks (h.contents old) name
+    → rose ⊎ Lacks seen name
 cause_by h old new name rose seen law same may (inl counted) = inl counted
 cause_by h old new name rose seen law same may (inr lacks) = inr (lacks_by h old new name seen law same may lacks)
 
 -- a stop before the capture has its cause by what is seen
-pub stop_cause_by : {H : Type 0} (h : HostOf H) (old new : H) (rose : Type 0) (why : Stop) (seen : Option Files) → AsTold (h.contents new) (h.left new) (h.agrees new) (h.left_of new) → h.contents new ≡ h.contents old
-    → MaySee (h.contents new) (h.agrees new) seen → HasCause rose (h.contents old) why → HasCause rose seen why
+pub stop_cause_by : {H : Type 0} (h : HostOf H) (old new : H) (rose : Type 0) (why : Stop) (seen : Option Files)
+    → AsTold (h.contents new) (h.left new) (h.agrees new) (h.left_of new)
+    → h.contents new ≡ h.contents old
+    → MaySee (h.contents new) (h.agrees new) seen
+    → HasCause rose (h.contents old) why
+    → HasCause rose seen why
 stop_cause_by h old new rose (stop.CannotReadFile name) seen law same may cause = cause_by h old new name rose seen law same may cause
 stop_cause_by h old new rose why seen law same may cause = cause
 
 -- a capture that a host told before to lack, what is seen lacks
-pub capture_cause_by : {H : Type 0} (h : HostOf H) (old new : H) (source : Source) (plan : Plan) (rose : Type 0) (seen : Option Files) → AsTold (h.contents new) (h.left new) (h.agrees new) (h.left_of new)
-    → h.contents new ≡ h.contents old → MaySee (h.contents new) (h.agrees new) seen → plan.source ≡ source_name source → rose ⊎ LacksSource (h.contents old) source → rose ⊎ LacksCapture seen (way_from source plan)
+pub capture_cause_by : {H : Type 0} (h : HostOf H) (old new : H) (source : Source) (plan : Plan) (rose : Type 0)
+    (seen : Option Files)
+    → AsTold (h.contents new) (h.left new) (h.agrees new) (h.left_of new)
+    → h.contents new ≡ h.contents old
+    → MaySee (h.contents new) (h.agrees new) seen
+    → plan.source ≡ source_name source
+    → rose ⊎ LacksSource (h.contents old) source
+    → rose ⊎
+    LacksCapture seen (way_from source plan)
 capture_cause_by h old new source plan rose seen law same may named (inl counted) = inl counted
 capture_cause_by h old new (Made seed count) plan rose seen law same may named (inr lacks) = absurd lacks
 capture_cause_by h old new (File name) plan rose seen law same may named (inr lacks) =
@@ -72,7 +87,9 @@ loaded_only h old new same earlier left left_of opens later = record {
 -- ---- a run
 
 -- the end of a course, by what is seen
-pub seen_ends : {H A : Type 0} (h : HostOf H) (a : SinkOf A) (old new : H) (alerts_old alerts_new : A) (files : Files) (course : Course) (ended : Status) (message : List ℕ) (seen : Option Files) → seen ≡ Some files
+pub seen_ends : {H A : Type 0} (h : HostOf H) (a : SinkOf A) (old new : H) (alerts_old alerts_new : A) (files : Files)
+    (course : Course) (ended : Status) (message : List ℕ) (seen : Option Files)
+    → seen ≡ Some files
     → Ends files course (work (by (Some files) h) a old alerts_old) (work (by (Some files) h) a new alerts_new) ended message
     → Ends files course (work (by seen h) a old alerts_old) (work (by seen h) a new alerts_new) ended message
 seen_ends h a old new alerts_old alerts_new files course ended message seen is ends =

@@ -46,7 +46,9 @@ use Rattle.snort_engine.specs.Trace.{Closed, Open, closing_items, detection_of, 
 use Rattle.snort_engine.specs.Lines.{lines}
 use Rattle.snort_engine.specs.Counts.{counts_of, try_count}
 use Rattle.snort_engine.specs.Steps.Sourcing.{PlacesJobs, last_after}
-use Rattle.snort_engine.specs.Steps.Detecting.{Advances, AreTaken, Closes, Earlier, HasRun, IsInspectionAfter, IsKnown, IsNewInspection, IsSoundPlan, MakesJobs, Stage, closing_lines, counted, jobs_lines, jobs_stage, records_stage}
+use Rattle.snort_engine.specs.Steps.Detecting.{Advances, AreTaken, Closes, Earlier, HasRun, IsInspectionAfter, IsKnown}
+use Rattle.snort_engine.specs.Steps.Detecting.{IsNewInspection, IsSoundPlan, MakesJobs, Stage, closing_lines, counted, jobs_lines}
+use Rattle.snort_engine.specs.Steps.Detecting.{jobs_stage, records_stage}
 use Rattle.snort_engine.specs.Steps.Showing.{IsTest, plan_of}
 use Rattle.snort_engine.proofs.Lines.Laws.{alerts-counted, jobs_lines-closing, jobs_lines-records}
 use Rattle.snort_engine.proofs.Lines.Sourcing.{last_of-more, sources_last, sources_made, told_found}
@@ -65,9 +67,14 @@ advances_stopped : {S X Y : Type 0} (stage : Stage S X Y) (inputs : List Y) (old
 advances_stopped stage inputs old new first end why empty one = record { holds = tt; emits = emits_settled (Err why) first end empty tt one.emits }
 
 -- a step went on, and what waits was offered
-advances_offered : {S X Y : Type 0} (stage : Stage S X Y) (inputs : List Y) (old middle new : S) (first between end : Sending) (done : Unit {0}) (outcome : Result (Unit {0}) WriteFault) → first.block ≡ []
-    → OnOk outcome (end.block ≡ []) → Advances stage inputs old middle first between (Ok done) → Emits [] between end outcome
-    → ((before : List X) → stage.holds before middle → stage.holds before new) → Advances stage inputs old new (emptied first) (emptied end) outcome
+advances_offered : {S X Y : Type 0} (stage : Stage S X Y) (inputs : List Y) (old middle new : S) (first between end : Sending)
+    (done : Unit {0}) (outcome : Result (Unit {0}) WriteFault)
+    → first.block ≡ []
+    → OnOk outcome (end.block ≡ [])
+    → Advances stage inputs old middle first between (Ok done)
+    → Emits [] between end outcome
+    → ((before : List X) → stage.holds before middle → stage.holds before new)
+    → Advances stage inputs old new (emptied first) (emptied end) outcome
 advances_offered {S} {X} {Y} stage inputs old middle new first between end done outcome empty emptied_then one offered on = record {
   holds = by_outcome outcome;
   emits = emits_settled outcome first end empty emptied_then (emits_then one.emits offered (λ before. (before, tt, sym (append-nil _))));
@@ -80,7 +87,9 @@ advances_offered {S} {X} {Y} stage inputs old middle new first between end done 
 -- ---- jobs
 
 -- what is detected by goes by this configuration and these rules
-pub detects_by : {P : Type 0} (finds : P → List ℕ → Option Span) (plan : code.Plan P) (matches : Test) (test : IsTest finds plan.setup.set matches) → DetectsBy finds test.means plan.setup.config.stream plan.setup.set (detection_of (plan_of matches plan))
+pub detects_by : {P : Type 0} (finds : P → List ℕ → Option Span) (plan : code.Plan P) (matches : Test)
+    (test : IsTest finds plan.setup.set matches)
+    → DetectsBy finds test.means plan.setup.config.stream plan.setup.set (detection_of (plan_of matches plan))
 detects_by finds plan matches test = record { config = refl; rules = refl; made = test.find; told = test.tells }
 
 -- the items of the answers to a batch, without their records
@@ -92,7 +101,11 @@ items_found d source before batch hits is =
     ∙ ap (trail_from (job_items d) before) (whats-by_place source 0 batch)
 
 -- the tries of a batch are added to those so far
-tries_found : (d : Detection) (before batch : List Job) (old new more : ℕ) → old ≡ try_count d before → new ≡ old + more → more ≡ sum (along_from (answer_tries d) before batch) → new ≡ try_count d (before ++ batch)
+tries_found : (d : Detection) (before batch : List Job) (old new more : ℕ)
+    → old ≡ try_count d before
+    → new ≡ old + more
+    → more ≡ sum (along_from (answer_tries d) before batch)
+    → new ≡ try_count d (before ++ batch)
 tries_found d before batch old new more so_far is found =
     is ∙ ap (λ (n : ℕ). n + more) so_far ∙ ap (λ (n : ℕ). try_count d before + n) found
     ∙ sym (ap sum (along-append (answer_tries d) before batch) ∙ sum_by-append (λ (x : ℕ). x) (along (answer_tries d) before) (along_from (answer_tries d) before batch))
@@ -160,22 +173,35 @@ runs_by outcome plan source batch old new first end faults after out answers tri
     by_outcome (Err why) on = tt
 
 -- the lines of jobs were not all made
-pub runs_stopped : (plan : Plan) (source : ℕ → LinkedRecord) (batch : List Job) (old new : Inspection) (first end : Option (List ℕ)) (faults after : ℕ) (out : Matches) (why : WriteFault)
-    → ((before : List Job) → AreAfter (detection_of plan) old.lanes before → IsBatchSearched (detection_of plan) before batch out new.lanes)
-    → new.tries ≡ old.tries + out.tries → ShowsMatches {A = Unit {0}} (shown_in plan) source out (writing old.writer first faults) (writing new.writer end after) (Err why)
+pub runs_stopped : (plan : Plan) (source : ℕ → LinkedRecord) (batch : List Job) (old new : Inspection)
+    (first end : Option (List ℕ)) (faults after : ℕ) (out : Matches) (why : WriteFault)
+    → ((before : List Job) → AreAfter (detection_of plan) old.lanes before →
+    IsBatchSearched (detection_of plan) before batch out new.lanes)
+    → new.tries ≡ old.tries + out.tries
+    → ShowsMatches {A = Unit {0}} (shown_in plan) source out (writing old.writer first faults) (writing new.writer end after)
+    (Err why)
     → waiting_in old.writer ≡ []
-    → Advances {A = Unit {0}} (jobs_stage plan) (by_place source 0 batch) old new (record { written = first; block = []; faults = faults }) (record { written = end; block = []; faults = after }) (Err why)
+    → Advances {A = Unit {0}} (jobs_stage plan) (by_place source 0 batch) old new
+    (record { written = first; block = []; faults = faults })
+    (record { written = end; block = []; faults = after })
+    (Err why)
 runs_stopped plan source batch old new first end faults after out why answers tries shows none =
     advances_stopped (jobs_stage plan) (by_place source 0 batch) old new _ _ why none (runs_by (Err why) plan source batch old new first end faults after out answers tries shows)
 
 -- the lines of jobs were made, and then offered
-pub runs_offered : (outcome : Result (Unit {0}) WriteFault) (plan : Plan) (source : ℕ → LinkedRecord) (batch : List Job) (old new : Inspection) (between : AlertWriter) (first second end : Option (List ℕ))
+pub runs_offered : (outcome : Result (Unit {0}) WriteFault) (plan : Plan) (source : ℕ → LinkedRecord) (batch : List Job)
+    (old new : Inspection) (between : AlertWriter) (first second end : Option (List ℕ))
     (faults later after : ℕ) (out : Matches) (done : Unit {0})
-    → ((before : List Job) → AreAfter (detection_of plan) old.lanes before → IsBatchSearched (detection_of plan) before batch out new.lanes)
-    → new.tries ≡ old.tries + out.tries → ShowsMatches (shown_in plan) source out (writing old.writer first faults) (writing between second later) (Ok done)
-    → waiting_in old.writer ≡ [] → Emits [] (sending_of (writing between second later)) (sending_of (writing new.writer end after)) outcome → StaysAfter between new.writer
+    → ((before : List Job) → AreAfter (detection_of plan) old.lanes before →
+    IsBatchSearched (detection_of plan) before batch out new.lanes)
+    → new.tries ≡ old.tries + out.tries
+    → ShowsMatches (shown_in plan) source out (writing old.writer first faults) (writing between second later) (Ok done)
+    → waiting_in old.writer ≡ []
+    → Emits [] (sending_of (writing between second later)) (sending_of (writing new.writer end after)) outcome
+    → StaysAfter between new.writer
     → OnOk outcome (waiting_in new.writer ≡ [])
-    → Advances (jobs_stage plan) (by_place source 0 batch) old new (record { written = first; block = []; faults = faults }) (record { written = end; block = []; faults = after }) outcome
+    → Advances (jobs_stage plan) (by_place source 0 batch) old new (record { written = first; block = []; faults = faults })
+    (record { written = end; block = []; faults = after }) outcome
 runs_offered outcome plan source batch old new between first second end faults later after out done answers tries shows none offered further emptied_then =
     let middle : Inspection = record { lanes = new.lanes; groups = new.groups; writer = between; tries = new.tries; last = new.last } in
     advances_offered (jobs_stage plan) (by_place source 0 batch) old middle new _ _ _ done outcome none emptied_then
@@ -224,8 +250,11 @@ lines_made plan records last before new made places taken places_are =
     ∙ jobs_lines-records plan before records
 
 -- the inspection that ran the jobs of records was given them
-pub holds_made : (plan : Plan) (source : ℕ → LinkedRecord) (before records : List LinkedRecord) (new : FrontState) (made : List Job) (inspection : Inspection) → AreTaken (jobs_way plan) before records new made
-    → IsInspectionAfter plan (jobs_of plan before ++ whats (by_place source 0 made)) inspection → IsInspectionAfter plan (jobs_of plan (before ++ records)) inspection
+pub holds_made : (plan : Plan) (source : ℕ → LinkedRecord) (before records : List LinkedRecord) (new : FrontState)
+    (made : List Job) (inspection : Inspection)
+    → AreTaken (jobs_way plan) before records new made
+    → IsInspectionAfter plan (jobs_of plan before ++ whats (by_place source 0 made)) inspection
+    → IsInspectionAfter plan (jobs_of plan (before ++ records)) inspection
 holds_made plan source before records new made inspection taken holds =
     subst (λ (x : List Job). IsInspectionAfter plan x inspection)
     (ap (λ (x : List Job). jobs_of plan before ++ x) (whats-by_place source 0 made ∙ taken.jobs_are) ∙ pipe_more (jobs (jobs_way plan)) before records) holds
@@ -242,9 +271,12 @@ taken_lines plan records old front made places makes placed before = (
 )
 
 -- a batch of records was taken, and the running of its jobs was stopped
-pub records_stopped : (plan : Plan) (records : List LinkedRecord) (old new : Detector) (front : FrontState) (made : List Job) (places : List ℕ) (last : Inspection) (first end : Sending) (why : WriteFault)
-    → MakesJobs (jobs_way plan) records old.front front made → PlacesJobs (jobs_way plan) records old.front places
-    → Advances {A = Unit {0}} (jobs_stage plan) (by_place (source_in records old.inspection.last places) 0 made) old.inspection last first end (Err why)
+pub records_stopped : (plan : Plan) (records : List LinkedRecord) (old new : Detector) (front : FrontState) (made : List Job)
+    (places : List ℕ) (last : Inspection) (first end : Sending) (why : WriteFault)
+    → MakesJobs (jobs_way plan) records old.front front made
+    → PlacesJobs (jobs_way plan) records old.front places
+    → Advances {A = Unit {0}} (jobs_stage plan) (by_place (source_in records old.inspection.last places) 0 made)
+    old.inspection last first end (Err why)
     → Advances {A = Unit {0}} (records_stage plan) records old new first end (Err why)
 records_stopped plan records old new front made places last first end why makes placed run =
     record { holds = tt; emits = emits_stopped run.emits (taken_lines plan records old front made places makes placed) }
@@ -261,7 +293,9 @@ records_shown plan records old new made places first end ran done makes placed r
       let source = source_in records last places in
       let taken = makes before holds.front in record {
         front = taken.holds;
-        inspection = holds_made plan source before records new.front made new.inspection taken (on (jobs_of plan before ++ whats (by_place source 0 made)) (run.holds (jobs_of plan before) holds.inspection));
+        inspection =
+            holds_made plan source before records new.front made new.inspection taken
+            (on (jobs_of plan before ++ whats (by_place source 0 made)) (run.holds (jobs_of plan before) holds.inspection));
         last = kept ∙ last_of-more before last records holds.last;
       };
   emits = emits_told run.emits (taken_lines plan records old new.front made places makes placed);
@@ -270,8 +304,14 @@ records_shown plan records old new made places first end ran done makes placed r
 -- ---- what is known, whatever the host tells
 
 -- the front's law, for a batch among all jobs
-ready_among : (engines : ℕ) (way : JobsWay) (front : FrontState) (records : List LinkedRecord) (lanes : LanesState) (earlier batch more : List Job) → engines ≡ length way.stream.engines → HaveLearnt lanes earlier
-    → all_jobs way records ≡ earlier ++ (batch ++ more) → length records ≤ 2 ^ 32 → IsFrontAfter way front records → AreReady engines lanes batch
+ready_among : (engines : ℕ) (way : JobsWay) (front : FrontState) (records : List LinkedRecord) (lanes : LanesState)
+    (earlier batch more : List Job)
+    → engines ≡ length way.stream.engines
+    → HaveLearnt lanes earlier
+    → all_jobs way records ≡ earlier ++ (batch ++ more)
+    → length records ≤ 2 ^ 32
+    → IsFrontAfter way front records
+    → AreReady engines lanes batch
 ready_among engines way front records lanes earlier batch more is know joined few holds =
     let order = in_order way records in
     let sound : AreSound engines (all_jobs way records) = subst (λ (n : ℕ). AreSound n (all_jobs way records)) (sym is) (order.sound few holds.short) in
@@ -320,14 +360,19 @@ known_records way rules old new records made known makes learns groups none =
 
 -- ---- a detector that was given nothing
 
-pub inspection_holds-new : {P : Type 0} (plan : code.Plan P) (matches : Test) (inspection : Inspection) → IsSoundPlan plan → IsNewInspection plan inspection → IsInspectionAfter (plan_of matches plan) [] inspection
+pub inspection_holds-new : {P : Type 0} (plan : code.Plan P) (matches : Test) (inspection : Inspection)
+    → IsSoundPlan plan
+    → IsNewInspection plan inspection
+    → IsInspectionAfter (plan_of matches plan) [] inspection
 inspection_holds-new plan matches inspection sound new = record {
   lanes = hold-new (detection_of (plan_of matches plan)) plan.lanes inspection.lanes sound.ranges.some new.lanes;
   writer = new.writer;
   tries = new.tries;
 }
 
-pub known-new : {P : Type 0} (plan : code.Plan P) (detector : Detector) → IsFrontAfter (jobs_way_by plan.checks plan.setup.hosts plan.setup.config) detector.front [] → IsNewInspection plan detector.inspection
+pub known-new : {P : Type 0} (plan : code.Plan P) (detector : Detector)
+    → IsFrontAfter (jobs_way_by plan.checks plan.setup.hosts plan.setup.config) detector.front []
+    → IsNewInspection plan detector.inspection
     → IsKnown (jobs_way_by plan.checks plan.setup.hosts plan.setup.config) plan.setup.set.rules detector
 known-new plan detector front new = record {
   records = [];

@@ -14,7 +14,8 @@ use Rattle.alert_lines.specs.Showing.{items_lines}
 use Rattle.alert_lines.proofs.Beside.{carried-beside, carried-own, length-own}
 use Rattle.alert_lines.proofs.Texts.{texts_from-append}
 use Rattle.snort_engine.specs.Course.{Plan}
-use Rattle.snort_engine.specs.Trace.{CaptureState, Open, Closed, closing_alerts, closing_events, closing_items, detection_of, items_of, job_items, jobs_of, last_of, record_alerts, record_events, trace, jobs_way}
+use Rattle.snort_engine.specs.Trace.{CaptureState, Open, Closed, closing_alerts, closing_events, closing_items, detection_of}
+use Rattle.snort_engine.specs.Trace.{items_of, job_items, jobs_of, last_of, record_alerts, record_events, trace, jobs_way}
 use Rattle.snort_engine.specs.Lines.{alert_count, lines, LinesJoin, PrefixLaw}
 use Rattle.snort_engine.specs.Counts.{counts_of, no_counts}
 use Rattle.snort_engine.specs.Steps.Detecting.{closing_lines, jobs_lines}
@@ -26,9 +27,13 @@ trace-join : (plan : Plan) (before first others : List LinkedRecord) (state : Ca
 unfolding trace
 trace-join plan before first others Open = trail_from-append (record_alerts plan) before first others
 trace-join plan before first others Closed =
-    ap (λ (x : List Alert). x ++ closing_alerts plan (before ++ (first ++ others))) (trail_from-append (record_alerts plan) before first others)
-    ∙ append_assoc (trail_from (record_alerts plan) before first) (trail_from (record_alerts plan) (before ++ first) others) (closing_alerts plan (before ++ (first ++ others)))
-    ∙ ap (λ (x : List LinkedRecord). trail_from (record_alerts plan) before first ++ (trail_from (record_alerts plan) (before ++ first) others ++ closing_alerts plan x)) (sym (append_assoc before first others))
+    ap (λ (x : List Alert). x ++ closing_alerts plan (before ++ (first ++ others)))
+    (trail_from-append (record_alerts plan) before first others)
+    ∙ append_assoc (trail_from (record_alerts plan) before first)
+    (trail_from (record_alerts plan) (before ++ first) others)
+    (closing_alerts plan (before ++ (first ++ others)))
+    ∙ ap (λ (x : List LinkedRecord). trail_from (record_alerts plan) before first ++
+    (trail_from (record_alerts plan) (before ++ first) others ++ closing_alerts plan x)) (sym (append_assoc before first others))
 
 -- the texts of a plan's alerts
 abbrev text_by : Plan → ℕ → Alert → List ℕ
@@ -134,7 +139,9 @@ alerts_before plan before =
     ∙ sym (length-own (chained shown (chained found made)) [] before)
 
 -- a batch of records through all stages: its lines are those of its jobs
-pub jobs_lines-records : (plan : Plan) (before records : List LinkedRecord) → jobs_lines plan (jobs_of plan before) (trail_from (own (jobs (jobs_way plan))) before records) ≡ lines plan before records Open
+pub jobs_lines-records : (plan : Plan) (before records : List LinkedRecord)
+    → jobs_lines plan (jobs_of plan before) (trail_from (own (jobs (jobs_way plan))) before records) ≡
+    lines plan before records Open
 unfolding jobs_lines items_lines lines trace record_events
 jobs_lines-records plan before records =
     let found = job_items (detection_of plan) in
@@ -148,7 +155,9 @@ jobs_lines-records plan before records =
     ∙ ap (texts_from text (alert_count plan before)) (carried-own shown (chained found made) before records)
 
 -- the lines of the flows that end with a capture are those of the jobs after its records
-pub jobs_lines-closing : (plan : Plan) (records : List LinkedRecord) → jobs_lines plan (jobs_of plan records) (map (beside (last_of records)) (finishes (jobs_way plan) records)) ≡ closing_lines plan records
+pub jobs_lines-closing : (plan : Plan) (records : List LinkedRecord)
+    → jobs_lines plan (jobs_of plan records) (map (beside (last_of records)) (finishes (jobs_way plan) records)) ≡
+    closing_lines plan records
 unfolding jobs_lines items_lines closing_lines closing_alerts closing_events closing_items items_of
 jobs_lines-closing plan records =
     let found = job_items (detection_of plan) in

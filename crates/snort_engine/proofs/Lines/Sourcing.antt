@@ -50,9 +50,16 @@ pub places_none : (way : JobsWay) (front : FrontState) → PlacesJobs way [] fro
 places_none way front = λ before holds. refl
 
 -- one record more was taken
-pub places_more : (way : JobsWay) (records : List LinkedRecord) (i : ℕ) (one_more : LinkedRecord) (old middle new : FrontState) (made next : List Job) (places : List ℕ) (count size : ℕ) → i < length records → one_more ≡ get_or records i one_more
-    → MakesJobs way (take i records) old middle made → TakesRecord way middle one_more new made next
-    → PlacesJobs way (take i records) old places → length places ≡ length made → count ≡ length next → size ≡ length places
+pub places_more : (way : JobsWay) (records : List LinkedRecord) (i : ℕ) (one_more : LinkedRecord) (old middle new : FrontState)
+    (made next : List Job) (places : List ℕ) (count size : ℕ)
+    → i < length records
+    → one_more ≡ get_or records i one_more
+    → MakesJobs way (take i records) old middle made
+    → TakesRecord way middle one_more new made next
+    → PlacesJobs way (take i records) old places
+    → length places ≡ length made
+    → count ≡ length next
+    → size ≡ length places
     → PlacesJobs way (take (i + 1) records) old (take count places ++ replicate (count - size) i)
 places_more way records i one_more old middle new made next places count size lt is makes takes so_far same all sized = λ before holds.
     let front = take i records in

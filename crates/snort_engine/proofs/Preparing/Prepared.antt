@@ -29,14 +29,18 @@ use Rattle.snort_engine.specs.declared.prepare.Task.TheVariants.{Show, Tell}
 use Rattle.snort_engine.specs.declared.status.Status.TheVariants as status
 use Rattle.snort_engine.specs.declared.stop.Stop.{Stop}
 use Rattle.snort_engine.specs.declared.stop.Stop.TheVariants as stop
-use Rattle.snort_engine.specs.Course.{Way, Stops, Makes, Lists, Course, Given, given, IsCourse, IsFileWay, IsFileless, IsForMade, HasOneCourse, checks_of, plan_for, Reads, AreRefused, setup_words, told_warnings, way_ready, way_of, course_by, stopping}
+use Rattle.snort_engine.specs.Course.{Way, Stops, Makes, Lists, Course, Given, given, IsCourse, IsFileWay, IsFileless, IsForMade}
+use Rattle.snort_engine.specs.Course.{HasOneCourse, checks_of, plan_for, Reads, AreRefused, setup_words, told_warnings, way_ready}
+use Rattle.snort_engine.specs.Course.{way_of, course_by, stopping}
 use Rattle.snort_engine.specs.declared.plan.Source.{Source}
 use Rattle.snort_engine.specs.declared.plan.Source.TheVariants.{File, Made}
 use Rattle.snort_engine.specs.Steps.Sources.{IsMade, IsSourceFor, source_name, way_from}
 use Rattle.snort_engine.specs.Steps.Detecting.{IsRanged}
 use Rattle.snort_engine.specs.Messages.{usage_text, version_text, accepted_text, command_line_text, cannot_read_text}
 use Rattle.snort_engine.specs.Steps.Stop.{is_uncut, setup_stop, stop_status, stop_text}
-use Rattle.snort_engine.specs.Steps.Preparing.{HasWay, stops, way_by, Prepares, StopsFileless, HasEarlyCauses, IsPrepared, IsReadyPlan, IsReadySetup, IsSetUp, KeepsSetup, HasCause, ListsFile, task_way, way_for, told_of}
+use Rattle.snort_engine.specs.Steps.Preparing.{HasWay, stops, way_by, Prepares, StopsFileless, HasEarlyCauses, IsPrepared}
+use Rattle.snort_engine.specs.Steps.Preparing.{IsReadyPlan, IsReadySetup, IsSetUp, KeepsSetup, HasCause, ListsFile, task_way}
+use Rattle.snort_engine.specs.Steps.Preparing.{way_for, told_of}
 use Rattle.snort_engine.proofs.Courses.FileWays.{file_way-one}
 
 -- what maps to nothing is nothing
@@ -81,23 +85,38 @@ version_way : (here : Given) → HasWay (Some version) here [] (stops stop.Versi
 unfolding IsCourse stop_text
 version_way here = record { course = stopping version_text status.Done; is = refl; warnings_are = refl; way_is = refl }
 
-pub prepared_faulty : {A : Type 0} (view : Test → A → Way) (asked : Option Asked) (files : Files) (rose : Type 0) (grown : List Refusal) (warnings : List (List ℕ)) → asked ≡ None → warnings ≡ [] → IsPrepared view asked files rose grown (Err stop.CommandLine) warnings
+pub prepared_faulty : {A : Type 0} (view : Test → A → Way) (asked : Option Asked) (files : Files) (rose : Type 0)
+    (grown : List Refusal) (warnings : List (List ℕ))
+    → asked ≡ None
+    → warnings ≡ []
+    → IsPrepared view asked files rose grown (Err stop.CommandLine) warnings
 prepared_faulty view asked files rose grown warnings is none =
     subst (λ (a : Option Asked). IsPrepared view a files rose grown (Err stop.CommandLine) warnings) (sym is)
     (stopped_at_once view None files rose grown stop.CommandLine warnings none (λ matches. faulty_way (given files matches [])))
 
-pub prepared_help : {A : Type 0} (view : Test → A → Way) (asked : Option Asked) (files : Files) (rose : Type 0) (grown : List Refusal) (warnings : List (List ℕ)) → asked ≡ Some help → warnings ≡ [] → IsPrepared view asked files rose grown (Err stop.Usage) warnings
+pub prepared_help : {A : Type 0} (view : Test → A → Way) (asked : Option Asked) (files : Files) (rose : Type 0)
+    (grown : List Refusal) (warnings : List (List ℕ))
+    → asked ≡ Some help
+    → warnings ≡ []
+    → IsPrepared view asked files rose grown (Err stop.Usage) warnings
 prepared_help view asked files rose grown warnings is none =
     subst (λ (a : Option Asked). IsPrepared view a files rose grown (Err stop.Usage) warnings) (sym is)
     (stopped_at_once view (Some help) files rose grown stop.Usage warnings none (λ matches. help_way (given files matches [])))
 
-pub prepared_version : {A : Type 0} (view : Test → A → Way) (asked : Option Asked) (files : Files) (rose : Type 0) (grown : List Refusal) (warnings : List (List ℕ)) → asked ≡ Some version → warnings ≡ [] → IsPrepared view asked files rose grown (Err stop.Version) warnings
+pub prepared_version : {A : Type 0} (view : Test → A → Way) (asked : Option Asked) (files : Files) (rose : Type 0)
+    (grown : List Refusal) (warnings : List (List ℕ))
+    → asked ≡ Some version
+    → warnings ≡ []
+    → IsPrepared view asked files rose grown (Err stop.Version) warnings
 prepared_version view asked files rose grown warnings is none =
     subst (λ (a : Option Asked). IsPrepared view a files rose grown (Err stop.Version) warnings) (sym is)
     (stopped_at_once view (Some version) files rose grown stop.Version warnings none (λ matches. version_way (given files matches [])))
 
 -- memory was lacking
-pub prepared_lacking : {A : Type 0} (view : Test → A → Way) (asked : Option Asked) (files : Files) (rose : Type 0) (grown : List Refusal) (warnings : List (List ℕ)) → warnings ≡ [] → IsPrepared view asked files rose grown (Err stop.NoMemory) warnings
+pub prepared_lacking : {A : Type 0} (view : Test → A → Way) (asked : Option Asked) (files : Files) (rose : Type 0)
+    (grown : List Refusal) (warnings : List (List ℕ))
+    → warnings ≡ []
+    → IsPrepared view asked files rose grown (Err stop.NoMemory) warnings
 prepared_lacking view asked files rose grown warnings none = stopped_at_once view asked files rose grown stop.NoMemory warnings none (λ matches. refl)
 
 -- words that read no file stop so, over any files
@@ -113,7 +132,10 @@ pub fileless_help : {A : Type 0} (asked : Option Asked) (rose : Type 0) (warning
 fileless_help {A} asked rose warnings is none =
     subst (λ (a : Option Asked). StopsFileless {A = A} a rose (Err stop.Usage) warnings) (sym is) (fileless (Some help) rose stop.Usage warnings none (λ view here. help_way here))
 
-pub fileless_version : {A : Type 0} (asked : Option Asked) (rose : Type 0) (warnings : List (List ℕ)) → asked ≡ Some version → warnings ≡ [] → StopsFileless {A = A} asked rose (Err stop.Version) warnings
+pub fileless_version : {A : Type 0} (asked : Option Asked) (rose : Type 0) (warnings : List (List ℕ))
+    → asked ≡ Some version
+    → warnings ≡ []
+    → StopsFileless {A = A} asked rose (Err stop.Version) warnings
 fileless_version {A} asked rose warnings is none =
     subst (λ (a : Option Asked). StopsFileless {A = A} a rose (Err stop.Version) warnings) (sym is) (fileless (Some version) rose stop.Version warnings none (λ view here. version_way here))
 
@@ -143,15 +165,21 @@ listed_file file files rose grown lines lists = record {
   prepares = λ matches. file_course file (given files matches []) (Lists lines) lists;
 }
 
-pub prepared_listed : {P : Type 0} (asked : Option Asked) (file : List ℕ) (files : Files) (rose : Type 0) (grown : List Refusal) (lines : List ℕ) (warnings : List (List ℕ)) → asked ≡ Some (records_of file) → warnings ≡ []
-    → ListsFile file files rose (Ok lines) → IsPrepared (task_way {P = P}) asked files rose grown (Ok (Tell lines)) warnings
+pub prepared_listed : {P : Type 0} (asked : Option Asked) (file : List ℕ) (files : Files) (rose : Type 0) (grown : List Refusal)
+    (lines : List ℕ) (warnings : List (List ℕ))
+    → asked ≡ Some (records_of file)
+    → warnings ≡ []
+    → ListsFile file files rose (Ok lines)
+    → IsPrepared (task_way {P = P}) asked files rose grown (Ok (Tell lines)) warnings
 prepared_listed {P} asked file files rose grown lines warnings is none lists =
     subst (λ (a : Option Asked). IsPrepared (task_way {P = P}) a files rose grown (Ok (Tell lines)) warnings) (sym is)
     (subst (λ (w : List (List ℕ)). IsPrepared (task_way {P = P}) (Some (records_of file)) files rose grown (Ok (Tell lines)) w) (sym none)
     (listed_file {P = P} file files rose grown lines lists))
 
 -- a Unified2 file has no lines, and the way says why
-unlisted_way : {A : Type 0} (view : A → Way) (file : List ℕ) (here : Given) (rose : Type 0) (why : Stop) → ListsFile file here.files rose (Err why) → Prepares view (Some (records_of file)) here rose (Err why) []
+unlisted_way : {A : Type 0} (view : A → Way) (file : List ℕ) (here : Given) (rose : Type 0) (why : Stop)
+    → ListsFile file here.files rose (Err why)
+    → Prepares view (Some (records_of file)) here rose (Err why) []
 unfolding Reads stop_text
 unlisted_way view file here rose (stop.CannotReadFile name) lists =
     ⊎_elim
@@ -165,8 +193,12 @@ unlisted_way view file here rose (stop.BadUnified2 place) lists = file_course fi
 unlisted_way view file here rose stop.NoMemory lists = refl
 unlisted_way view file here rose why lists = absurd lists
 
-pub prepared_unlisted : {A : Type 0} (view : Test → A → Way) (asked : Option Asked) (file : List ℕ) (files : Files) (rose : Type 0) (grown : List Refusal) (why : Stop) (warnings : List (List ℕ)) → asked ≡ Some (records_of file) → warnings ≡ []
-    → ListsFile file files rose (Err why) → IsPrepared view asked files rose grown (Err why) warnings
+pub prepared_unlisted : {A : Type 0} (view : Test → A → Way) (asked : Option Asked) (file : List ℕ) (files : Files)
+    (rose : Type 0) (grown : List Refusal) (why : Stop) (warnings : List (List ℕ))
+    → asked ≡ Some (records_of file)
+    → warnings ≡ []
+    → ListsFile file files rose (Err why)
+    → IsPrepared view asked files rose grown (Err why) warnings
 prepared_unlisted view asked file files rose grown why warnings is none lists =
     subst (λ (a : Option Asked). IsPrepared view a files rose grown (Err why) warnings) (sym is)
     (stopped_at_once view (Some (records_of file)) files rose grown why warnings none (λ matches. unlisted_way (view matches) file (given files matches []) rose why lists))
@@ -194,9 +226,14 @@ setup_stopped {A} {B} view ways wanted files rose grown why warnings set = recor
   prepares = λ matches. by_stop matches why set.sets_up.gives set.told_are;
 }
   where
-    by_stop : (matches : Test) (s : SetupStop) → Gives view (setup_words wanted) files set.sets_up.refused rose (Err s) set.given_warnings → warnings ≡ told_of {A = A} (Err s) wanted set.given_warnings
+    by_stop : (matches : Test) (s : SetupStop)
+        → Gives view (setup_words wanted) files set.sets_up.refused rose (Err s) set.given_warnings
+        → warnings ≡ told_of {A = A} (Err s) wanted set.given_warnings
         → Prepares (ways matches) (Some (run wanted)) (given files matches set.sets_up.refused) rose (Err (setup_stop s)) warnings
-    by_stop matches (halted.Refused message) gives told_are = run_way wanted (given files matches set.sets_up.refused) (warned set.given_warnings (Err (Refused message))) warnings (stops (stop.Refused message)) gives told_are refl
+    by_stop matches (halted.Refused message) gives told_are =
+        run_way wanted (given files matches set.sets_up.refused)
+        (warned set.given_warnings (Err (Refused message))) warnings
+        (stops (stop.Refused message)) gives told_are refl
     by_stop matches (halted.CannotRead name) gives told_are =
         ⊎_elim
         (λ lacks. inl (run_way wanted (given files matches set.sets_up.refused) (warned set.given_warnings (Err (Lacks name))) warnings (stops (stop.CannotReadFile name)) lacks told_are refl))
@@ -205,16 +242,23 @@ setup_stopped {A} {B} view ways wanted files rose grown why warnings set = recor
     by_stop matches halted.NoMemory gives told_are = told_are
 
 -- a detector that is ready is a task, and so a stop is a stop
-pub task_ready : {P : Type 0} (asked : Option Asked) (files : Files) (rose : Type 0) (grown : List Refusal) (prepared : code.Plan P) (warnings : List (List ℕ)) → IsPrepared way_for asked files rose grown (Ok prepared) warnings
+pub task_ready : {P : Type 0} (asked : Option Asked) (files : Files) (rose : Type 0) (grown : List Refusal)
+    (prepared : code.Plan P) (warnings : List (List ℕ))
+    → IsPrepared way_for asked files rose grown (Ok prepared) warnings
     → IsPrepared task_way asked files rose grown (Ok (Show prepared)) warnings
 task_ready asked files rose grown prepared warnings is = record { refused = is.refused; are_refused = is.are_refused; prepares = is.prepares }
 
-stopped_as : {A B : Type 0} (view : A → Way) (other : B → Way) (asked : Option Asked) (here : Given) (rose : Type 0) (why : Stop) (warnings : List (List ℕ)) → Prepares view asked here rose (Err why) warnings → Prepares other asked here rose (Err why) warnings
+stopped_as : {A B : Type 0} (view : A → Way) (other : B → Way) (asked : Option Asked) (here : Given) (rose : Type 0) (why : Stop)
+    (warnings : List (List ℕ))
+    → Prepares view asked here rose (Err why) warnings
+    → Prepares other asked here rose (Err why) warnings
 stopped_as view other asked here rose (stop.CannotReadFile name) warnings has = has
 stopped_as view other asked here rose stop.NoMemory warnings has = has
 stopped_as view other asked here rose why warnings has = has
 
-pub task_stopped : {A B : Type 0} (view : Test → A → Way) (other : Test → B → Way) (asked : Option Asked) (files : Files) (rose : Type 0) (grown : List Refusal) (why : Stop) (warnings : List (List ℕ)) → IsPrepared view asked files rose grown (Err why) warnings
+pub task_stopped : {A B : Type 0} (view : Test → A → Way) (other : Test → B → Way) (asked : Option Asked) (files : Files)
+    (rose : Type 0) (grown : List Refusal) (why : Stop) (warnings : List (List ℕ))
+    → IsPrepared view asked files rose grown (Err why) warnings
     → IsPrepared other asked files rose grown (Err why) warnings
 task_stopped view other asked files rose grown why warnings is = record {
   refused = is.refused;
@@ -232,7 +276,9 @@ setup_ready {P} wanted files rose grown setup answer warnings set way keeps = re
   refused = set.sets_up.refused;
   are_refused = set.sets_up.are_refused;
   prepares = λ matches. by_answer matches answer keeps
-      (run_way wanted (given files matches set.sets_up.refused) (warned set.given_warnings (Ok (ready_of setup))) warnings (way_by (way_for matches) answer) set.sets_up.gives set.told_are (way matches));
+      (run_way wanted (given files matches set.sets_up.refused)
+      (warned set.given_warnings (Ok (ready_of setup))) warnings
+      (way_by (way_for matches) answer) set.sets_up.gives set.told_are (way matches));
 }
   where
     by_answer : (matches : Test) (a : Result (code.Plan P) Stop) → KeepsSetup setup a → HasWay (Some (run wanted)) (given files matches set.sets_up.refused) warnings (way_by (way_for matches) a)
@@ -305,7 +351,10 @@ kept_cause rose host setup (Err stop.CommandLine) kept = tt
 kept_cause rose host setup (Err why) kept = absurd kept
 
 -- the causes of what was stopped, and of what wasn't
-pub stopped_early : {A : Type 0} (host : Option Files) (old new : ℕ) (why : Stop) → HasCause (Rose old new) host why → (is_uncut (stop_status why) ≡ true → new ≡ old) → HasEarlyCauses {A = A} host old new (Err why)
+pub stopped_early : {A : Type 0} (host : Option Files) (old new : ℕ) (why : Stop)
+    → HasCause (Rose old new) host why
+    → (is_uncut (stop_status why) ≡ true → new ≡ old)
+    → HasEarlyCauses {A = A} host old new (Err why)
 stopped_early host old new why cause quiet = record { cause = cause; quiet = quiet }
 
 pub ready_early : {A : Type 0} (host : Option Files) (old new : ℕ) (ready : A) → new ≡ old → HasEarlyCauses host old new (Ok ready)
@@ -316,8 +365,11 @@ kept_early host old new setup answer kept same = record { cause = kept_cause (Ro
 
 -- ---- a detector that is ready
 
-pub ready_setup : {P : Type 0} (finds : P → List ℕ → Option Span) (means : Means) (answer : Result (Setup P) SetupStop) → IfOk answer (λ setup. conf.IsSound setup.config)
-    → IfOk answer (λ setup. All (IsSound setup.config.classes) setup.set.rules) → IfOk answer (λ setup. length setup.set.rules ≤ most_rules) → IfOk answer (λ setup. FindWhatIsMeant finds means setup.set)
+pub ready_setup : {P : Type 0} (finds : P → List ℕ → Option Span) (means : Means) (answer : Result (Setup P) SetupStop)
+    → IfOk answer (λ setup. conf.IsSound setup.config)
+    → IfOk answer (λ setup. All (IsSound setup.config.classes) setup.set.rules)
+    → IfOk answer (λ setup. length setup.set.rules ≤ most_rules)
+    → IfOk answer (λ setup. FindWhatIsMeant finds means setup.set)
     → IfOk answer (IsReadySetup finds means)
 ready_setup finds means (Ok setup) config rules few meant = record { config = config; rules = rules; few = few; meant = meant }
 ready_setup finds means (Err why) config rules few meant = tt

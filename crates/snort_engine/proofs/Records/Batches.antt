@@ -15,7 +15,10 @@ use Rattle.snort_engine.specs.Steps.Batch.{Place, HasStopped, Reaches, ReadsOn, 
 use Rattle.snort_engine.specs.Steps.Stop.{is_whole, write_stop}
 
 -- reading went no record further than what was read so far
-still_there : (first : RecordReader) (given : List LinkedRecord) (left_first : Option (List ℕ)) (reader : RecordReader) (left : Option (List ℕ)) → HasRead first reader given left_first left → HasStopped first given left_first left
+still_there : (first : RecordReader) (given : List LinkedRecord) (left_first : Option (List ℕ)) (reader : RecordReader)
+    (left : Option (List ℕ))
+    → HasRead first reader given left_first left
+    → HasStopped first given left_first left
 still_there first given left_first reader left read = record {
   following = reader;
   still = left;
@@ -52,15 +55,29 @@ pub reads_fault : (old new : Place) (why : ReadFault) → new.records ≡ old.re
 reads_fault old new why same whole refused = λ first shown left_first read.
     let given = shown ++ old.records in
     let stopped : HasStopped first given left_first new.left =
-    record { following = old.reader; still = old.left; read = read; whole = reading-stopped first old.reader given left_first old.left new.left read whole } in
-    let P : List LinkedRecord → Type 0 = λ records. Reaches first (shown ++ records) left_first (let place : Place = record { reader = new.reader; records = records; left = new.left } in place) (Fault why) in
+    record {
+      following = old.reader;
+      still = old.left;
+      read = read;
+      whole = reading-stopped first old.reader given left_first old.left new.left read whole;
+    } in
+    let P : List LinkedRecord → Type 0 = λ records.
+    Reaches first (shown ++ records) left_first
+    (let place : Place = record { reader = new.reader; records = records; left = new.left } in place)
+    (Fault why) in
     subst P (sym same) (stopped, reading-refused first old.reader given why left_first old.left read refused)
 
 -- memory was lacking for a record more, and nothing was taken
 pub reads_lacking : (old new : Place) → new.records ≡ old.records → new.left ≡ old.left → ReadsOn old new (Fault fault.NoMemory)
 reads_lacking old new same still = λ first shown left_first read.
-    let P : List LinkedRecord → Type 0 = λ records. Reaches first (shown ++ records) left_first (let place : Place = record { reader = new.reader; records = records; left = old.left } in place) (Fault fault.NoMemory) in
-    let Q : Option (List ℕ) → Type 0 = λ left. Reaches first (shown ++ new.records) left_first (let place : Place = record { reader = new.reader; records = new.records; left = left } in place) (Fault fault.NoMemory) in
+    let P : List LinkedRecord → Type 0 = λ records.
+    Reaches first (shown ++ records) left_first
+    (let place : Place = record { reader = new.reader; records = records; left = old.left } in place)
+    (Fault fault.NoMemory) in
+    let Q : Option (List ℕ) → Type 0 = λ left.
+    Reaches first (shown ++ new.records) left_first
+    (let place : Place = record { reader = new.reader; records = new.records; left = left } in place)
+    (Fault fault.NoMemory) in
     subst Q (sym still) (subst P (sym same) (still_there first (shown ++ old.records) left_first old.reader old.left read, tt))
 
 -- ---- what was reached, as an answer

@@ -11,7 +11,9 @@ use Rattle.snort_engine.specs.ReadAhead.{batch, AreBatches, before_last_batch}
 use Rattle.snort_engine.specs.Steps.Showing.{IsRoom, most_at, room_after}
 
 -- the records that were given come first, and then those that may still be read
-pub limit-front : (limit room : Option ℕ) (given : List LinkedRecord) (recording : Recording) → IsRoom limit (length given) room → first_records limit (with_front given recording) ≡ with_front given (first_records room recording)
+pub limit-front : (limit room : Option ℕ) (given : List LinkedRecord) (recording : Recording)
+    → IsRoom limit (length given) room
+    → first_records limit (with_front given recording) ≡ with_front given (first_records room recording)
 limit-front None room given recording is =
     first_records-none (with_front given recording)
     ∙ ap (with_front given) (sym (ap (λ (r : Option ℕ). first_records r recording) is ∙ first_records-none recording))
@@ -62,7 +64,10 @@ none_of_none (Some room) ending = ⊎_elim
     zero_or_more (suc n) = inr (omega arith)
 
 -- records that may all be read stay
-pub within_limit : (limit room : Option ℕ) (given : List LinkedRecord) (recording : Recording) → IsRoom limit (length given) room → recording.records ≡ given → (first_records limit recording).records ≡ given
+pub within_limit : (limit room : Option ℕ) (given : List LinkedRecord) (recording : Recording)
+    → IsRoom limit (length given) room
+    → recording.records ≡ given
+    → (first_records limit recording).records ≡ given
 unfolding recording_with
 within_limit limit room given recording is are =
     ap (λ (records : List LinkedRecord). (first_records limit (recording_with records recording.ending)).records) are
@@ -82,7 +87,10 @@ room_first None = refl
 room_first (Some limit) = omega arith
 
 -- a batch more was given
-pub room_further : (limit room : Option ℕ) (given batch : List LinkedRecord) → IsRoom limit (length given) room → length batch ≤ most_at room → IsRoom limit (length (given ++ batch)) (room_after room (length batch))
+pub room_further : (limit room : Option ℕ) (given batch : List LinkedRecord)
+    → IsRoom limit (length given) room
+    → length batch ≤ most_at room
+    → IsRoom limit (length (given ++ batch)) (room_after room (length batch))
 room_further None None given batch is few = refl
 room_further None (Some room) given batch is few = absurd cc
 room_further (Some limit) None given batch is few = absurd is

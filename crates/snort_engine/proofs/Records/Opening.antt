@@ -1,5 +1,6 @@
 -- What the opening of a capture gives, in either format.
-use Rattle.std.proofs.Common.{◌≡◌, ℕ, zero, suc, ◌<◌, ◌≤◌, Bool, true, false, List, [], ◌++◌, length, take, drop, Option, Some, None, Result, Ok, Err, refl, sym, ap, subst, ◌∙◌, arith, inl, inr, ◌⊎◌, ⊎_elim}
+use Rattle.std.proofs.Common.{◌≡◌, ℕ, zero, suc, ◌<◌, ◌≤◌, Bool, true, false, List, [], ◌++◌, length, take, drop, Option, Some}
+use Rattle.std.proofs.Common.{None, Result, Ok, Err, refl, sym, ap, subst, ◌∙◌, arith, inl, inr, ◌⊎◌, ⊎_elim}
 use Rattle.std.specs.Prelude.{nat_le}
 use Rattle.std.specs.FinMap.{get}
 use Rattle.std.proofs.Math.ListN.{drop_of_length-le}
@@ -55,7 +56,11 @@ other_head bytes is =
     section-head bytes long begins
 
 -- a file that begins otherwise isn't of blocks
-not_blocks_by : (bytes : List ℕ) (read : Result CaptureHead CaptureFault) (test : Bool) → head_of bytes ≡ read → (read ≡ Err savefile_fault.NotPcap → ⊥) → is_of_blocks bytes ≡ test → is_of_blocks bytes ≡ false
+not_blocks_by : (bytes : List ℕ) (read : Result CaptureHead CaptureFault) (test : Bool)
+    → head_of bytes ≡ read
+    → (read ≡ Err savefile_fault.NotPcap → ⊥)
+    → is_of_blocks bytes ≡ test
+    → is_of_blocks bytes ≡ false
 not_blocks_by bytes read true is apart blocks_are = absurd (apart (sym is ∙ other_head bytes blocks_are))
 not_blocks_by bytes read false is apart blocks_are = blocks_are
 
@@ -74,7 +79,9 @@ as_savefile limit bytes is = rw is refl
 -- ---- a savefile
 
 -- bytes whose head is accepted
-pub records_in-ok : (limit : Option ℕ) (bytes : List ℕ) (head : CaptureHead) → head_of bytes ≡ Ok head → records_in limit bytes ≡ first_records limit (recording_for (Savefile (classic_reader.new_reader head)) (drop 24 bytes))
+pub records_in-ok : (limit : Option ℕ) (bytes : List ℕ) (head : CaptureHead)
+    → head_of bytes ≡ Ok head
+    → records_in limit bytes ≡ first_records limit (recording_for (Savefile (classic_reader.new_reader head)) (drop 24 bytes))
 unfolding recording_for
 records_in-ok limit bytes head is =
     as_savefile limit bytes (not_blocks bytes (Ok head) is (λ e. cc)) ∙ ap recording_in (savefile-ok bytes limit head is)
@@ -150,7 +157,10 @@ none_of_blocks limit bytes (blocks.Skips walk more) is head none =
     ∙ ap (λ (cut : Cut NgRecord NgFault). (recording_of_blocks cut).records) (blocks_records.records_left-ends walk [] Clean (next_of-stops walk [] Clean (step_nothing walk))))
 
 -- bytes whose head is refused, or that are no more than a head, hold none as a savefile
-none_of_savefile : (limit : Option ℕ) (bytes : List ℕ) (read : Result CaptureHead CaptureFault) → head_of bytes ≡ read → ((head : CaptureHead) → read ≡ Ok head → drop 24 bytes ≡ []) → (recording_in (savefile bytes limit)).records ≡ []
+none_of_savefile : (limit : Option ℕ) (bytes : List ℕ) (read : Result CaptureHead CaptureFault)
+    → head_of bytes ≡ read
+    → ((head : CaptureHead) → read ≡ Ok head → drop 24 bytes ≡ [])
+    → (recording_in (savefile bytes limit)).records ≡ []
 none_of_savefile limit bytes (Err why) is none = ap (λ (r : Result classic.Capture CaptureFault). (recording_in r).records) (savefile-err bytes limit why is)
 none_of_savefile limit bytes (Ok head) is none =
     ap (λ (r : Result classic.Capture CaptureFault). (recording_in r).records) (savefile-ok bytes limit head is)
@@ -172,7 +182,11 @@ few_hold_none limit bytes few =
     (λ head is. drop_of_length-le bytes few)
 
 -- a first block that isn't whole, of a file that begins as no savefile does, holds none
-pub other_holds_none : (limit : Option ℕ) (taken rest bytes : List ℕ) → bytes ≡ taken ++ rest → head_of bytes ≡ Err savefile_fault.NotPcap → HoldsNone (opening taken) → (records_in limit taken).records ≡ []
+pub other_holds_none : (limit : Option ℕ) (taken rest bytes : List ℕ)
+    → bytes ≡ taken ++ rest
+    → head_of bytes ≡ Err savefile_fault.NotPcap
+    → HoldsNone (opening taken)
+    → (records_in limit taken).records ≡ []
 other_holds_none limit taken rest bytes joined other none =
     none_by limit taken (is_of_blocks taken) refl
     (λ walk more opens. subst HoldsNone opens none)
@@ -189,7 +203,9 @@ held_opened files name (Some bytes) opened = (bytes, sym opened.0, refl)
 held_opened files name None opened = let none = opened.1 in absurd cc
 
 -- the savefile's head was read
-pub savefile_opens : (files : Files) (name : List ℕ) (reader : classic_reader.Reading) (left : Option (List ℕ)) → classic_reader.TakesHead (Some files) name (Ok reader) left → Opens (get files name) (Ok (Savefile reader)) left
+pub savefile_opens : (files : Files) (name : List ℕ) (reader : classic_reader.Reading) (left : Option (List ℕ))
+    → classic_reader.TakesHead (Some files) name (Ok reader) left
+    → Opens (get files name) (Ok (Savefile reader)) left
 savefile_opens files name reader left takes =
     let held = held_opened files name takes.whole takes.opened in
     let split = split_told takes.whole left takes.taken held.0 takes.took held.2 in
@@ -203,7 +219,9 @@ savefile_opens files name reader left takes =
     }
 
 -- the first block was read
-pub blocks_open : (files : Files) (name : List ℕ) (reader : blocks_reader.Reading) (left : Option (List ℕ)) → blocks_reader.TakesHead (Some files) name (Ok reader) left → Opens (get files name) (Ok (Blocks reader)) left
+pub blocks_open : (files : Files) (name : List ℕ) (reader : blocks_reader.Reading) (left : Option (List ℕ))
+    → blocks_reader.TakesHead (Some files) name (Ok reader) left
+    → Opens (get files name) (Ok (Blocks reader)) left
 blocks_open files name reader left takes =
     let held = held_opened files name takes.whole takes.opened in
     let split = split_told takes.whole left takes.taken held.0 takes.took held.2 in
@@ -218,17 +236,27 @@ blocks_open files name reader left takes =
 -- ---- a head that was refused or not read
 
 -- what was taken holds no record
-savefile_barely : (files : Files) (name : List ℕ) (answer : Result classic_reader.Reading CaptureFault) (left : Option (List ℕ)) → classic_reader.TakesHead (Some files) name answer left → IsBarelyOpen (get files name) left
+savefile_barely : (files : Files) (name : List ℕ) (answer : Result classic_reader.Reading CaptureFault) (left : Option (List ℕ))
+    → classic_reader.TakesHead (Some files) name answer left
+    → IsBarelyOpen (get files name) left
 savefile_barely files name answer left takes =
     let held = held_opened files name takes.whole takes.opened in
     let split = split_told takes.whole left takes.taken held.0 takes.took held.2 in
     record { taken = takes.taken; rest = split.rest; of = held.1 ∙ ap Some split.joined; still = split.still; none = λ limit. few_hold_none limit takes.taken takes.few }
 
 -- the savefile's head is refused
-savefile_at_once : (held : Option (List ℕ)) (why : CaptureFault) → (why ≡ savefile_fault.NotPcap → ⊥) → ((bytes : List ℕ) → held ≡ Some bytes → head_of bytes ≡ Err why) → IsRefusedAtOnce held (of_savefile why)
-savefile_at_once held why apart is bytes told limit = records_in-err limit bytes why (is bytes told) (not_blocks bytes (Err why) (is bytes told) (λ same. let e : why ≡ savefile_fault.NotPcap = cc in apart e))
+savefile_at_once : (held : Option (List ℕ)) (why : CaptureFault)
+    → (why ≡ savefile_fault.NotPcap → ⊥)
+    → ((bytes : List ℕ) → held ≡ Some bytes → head_of bytes ≡ Err why)
+    → IsRefusedAtOnce held (of_savefile why)
+savefile_at_once held why apart is bytes told limit =
+    records_in-err limit bytes why (is bytes told)
+    (not_blocks bytes (Err why) (is bytes told) (λ same. let e : why ≡ savefile_fault.NotPcap = cc in apart e))
 
-savefile_refusal : (held : Option (List ℕ)) (why : CaptureFault) → (why ≡ savefile_fault.NotPcap → ⊥) → ((bytes : List ℕ) → held ≡ Some bytes → classic_reader.Opens (Err why) (head_of bytes)) → IsRefusedOpening held (of_savefile why)
+savefile_refusal : (held : Option (List ℕ)) (why : CaptureFault)
+    → (why ≡ savefile_fault.NotPcap → ⊥)
+    → ((bytes : List ℕ) → held ≡ Some bytes → classic_reader.Opens (Err why) (head_of bytes))
+    → IsRefusedOpening held (of_savefile why)
 savefile_refusal held savefile_fault.NotPcap apart is = absurd (apart refl)
 savefile_refusal held (savefile_fault.LinkType link_type) apart is = savefile_at_once held (savefile_fault.LinkType link_type) apart is
 savefile_refusal held (savefile_fault.Truncated at) apart is = savefile_at_once held (savefile_fault.Truncated at) apart is
@@ -296,7 +324,9 @@ blocks_by limit bytes why false is other opens =
     records_in-err limit bytes savefile_fault.NotPcap other is ∙ ap (λ (f : ReadFault). no_more (Refused f)) (sym (neither bytes why other is opens))
 
 -- the first block is refused
-blocks_at_once : (held : Option (List ℕ)) (why : NgFault) → ((bytes : List ℕ) → held ≡ Some bytes → head_of bytes ≡ Err savefile_fault.NotPcap) → ((bytes : List ℕ) → held ≡ Some bytes → opening bytes ≡ blocks.refused why)
+blocks_at_once : (held : Option (List ℕ)) (why : NgFault)
+    → ((bytes : List ℕ) → held ≡ Some bytes → head_of bytes ≡ Err savefile_fault.NotPcap)
+    → ((bytes : List ℕ) → held ≡ Some bytes → opening bytes ≡ blocks.refused why)
     → IsRefusedAtOnce held (of_blocks why)
 blocks_at_once held why other is bytes told limit = blocks_by limit bytes why (is_of_blocks bytes) refl (other bytes told) (is bytes told)
 
@@ -311,9 +341,12 @@ blocks_refusal held blocks_fault.TooMany other is = blocks_at_once held blocks_f
 blocks_refusal held blocks_fault.Failed other is = tt
 blocks_refusal held blocks_fault.NoMemory other is = tt
 
-pub blocks_refused : (files : Files) (name : List ℕ) (why : NgFault) (so : ReadFault) (left : Option (List ℕ)) → so ≡ of_blocks why → ((bytes : List ℕ) → get files name ≡ Some bytes → head_of bytes ≡ Err savefile_fault.NotPcap)
+pub blocks_refused : (files : Files) (name : List ℕ) (why : NgFault) (so : ReadFault) (left : Option (List ℕ))
+    → so ≡ of_blocks why
+    → ((bytes : List ℕ) → get files name ≡ Some bytes → head_of bytes ≡ Err savefile_fault.NotPcap)
     → ((bytes : List ℕ) → get files name ≡ Some bytes → blocks_reader.Opens (Err why) (opening bytes))
-    → blocks_reader.TakesHead (Some files) name (Err why) left ⊎ ((◌≡◌ {A = Result blocks_reader.Reading NgFault} (Err why) (Err blocks_fault.Failed)) × (left ≡ None))
+    → blocks_reader.TakesHead (Some files) name (Err why) left ⊎
+    ((◌≡◌ {A = Result blocks_reader.Reading NgFault} (Err why) (Err blocks_fault.Failed)) × (left ≡ None))
     → Opens (get files name) (Err so) left
 blocks_refused files name why so left is other gives takes = (
   subst (λ (f : ReadFault). IsRefusedOpening (get files name) f) (sym is) (blocks_refusal (get files name) why other gives),
@@ -325,18 +358,25 @@ blocks_refused files name why so left is other gives takes = (
 
 -- ---- a reader that was opened has given no record
 
-pub savefile_fresh : {contents : Option Files} (name : List ℕ) (reader : classic_reader.Reading) (left : Option (List ℕ)) → classic_reader.TakesHead contents name (Ok reader) left → IsFresh (Savefile reader) × (number_of (Savefile reader) ≡ 0)
+pub savefile_fresh : {contents : Option Files} (name : List ℕ) (reader : classic_reader.Reading) (left : Option (List ℕ))
+    → classic_reader.TakesHead contents name (Ok reader) left
+    → IsFresh (Savefile reader) × (number_of (Savefile reader) ≡ 0)
 savefile_fresh name reader left takes =
     let opened = opened_by takes.taken reader (head_of takes.taken) refl takes.answers in
     (ap (λ (r : classic_reader.Reading). r.refused) opened.2, ap (λ (r : classic_reader.Reading). r.number) opened.2)
 
-pub blocks_number : {contents : Option Files} (name : List ℕ) (reader : blocks_reader.Reading) (left : Option (List ℕ)) → blocks_reader.TakesHead contents name (Ok reader) left → number_of (Blocks reader) ≡ 0
+pub blocks_number : {contents : Option Files} (name : List ℕ) (reader : blocks_reader.Reading) (left : Option (List ℕ))
+    → blocks_reader.TakesHead contents name (Ok reader) left
+    → number_of (Blocks reader) ≡ 0
 blocks_number name reader left takes = (opening_section (takes.taken ++ []) reader.walk [] (takes.shows [])).none
 
 -- ---- how often it was opened
 
 -- a savefile begins as one
-not_other : (files : Files) (name : List ℕ) (reader : classic_reader.Reading) → ((bytes : List ℕ) → get files name ≡ Some bytes → classic_reader.Opens (Ok reader) (head_of bytes)) → IsOther (get files name) → ⊥
+not_other : (files : Files) (name : List ℕ) (reader : classic_reader.Reading)
+    → ((bytes : List ℕ) → get files name ≡ Some bytes → classic_reader.Opens (Ok reader) (head_of bytes))
+    → IsOther (get files name)
+    → ⊥
 not_other files name reader gives other =
     let opened = opened_by other.bytes reader (head_of other.bytes) refl (gives other.bytes other.told) in
     let apart : Ok opened.0 ≡ Err savefile_fault.NotPcap = sym opened.1 ∙ other.head in
@@ -349,29 +389,43 @@ once_opened None name reader failed old new once gives = inl (once, λ other. ab
 once_opened (Some files) name reader failed old new once gives = inl (once, λ other. absurd (not_other files name reader gives other))
 
 -- a refusal of bytes that begin as no savefile does is another one, or the host failed
-refused_failed : (files : Files) (name bytes : List ℕ) (why : CaptureFault) (failed : Type 0) → get files name ≡ Some bytes → head_of bytes ≡ Err savefile_fault.NotPcap → (why ≡ savefile_fault.NotPcap → ⊥)
-    → (why ≡ savefile_fault.Failed → failed ⊎ Lacks (Some files) name) → classic_reader.Opens (Err why) (head_of bytes) → failed
+refused_failed : (files : Files) (name bytes : List ℕ) (why : CaptureFault) (failed : Type 0)
+    → get files name ≡ Some bytes
+    → head_of bytes ≡ Err savefile_fault.NotPcap
+    → (why ≡ savefile_fault.NotPcap → ⊥)
+    → (why ≡ savefile_fault.Failed → failed ⊎ Lacks (Some files) name)
+    → classic_reader.Opens (Err why) (head_of bytes)
+    → failed
 refused_failed files name bytes savefile_fault.NotPcap failed told head apart lost opens = absurd (apart refl)
 refused_failed files name bytes (savefile_fault.LinkType link_type) failed told head apart lost opens = absurd cc
 refused_failed files name bytes (savefile_fault.Truncated at) failed told head apart lost opens = absurd cc
 refused_failed files name bytes (savefile_fault.TooLong at len) failed told head apart lost opens = absurd cc
 refused_failed files name bytes savefile_fault.TooMany failed told head apart lost opens = absurd cc
 refused_failed files name bytes savefile_fault.NoMemory failed told head apart lost opens = absurd cc
-refused_failed files name bytes savefile_fault.Failed failed told head apart lost opens = ⊎_elim (λ (counted : failed). counted) (λ (lacks : get files name ≡ None). absurd (none (sym lacks ∙ told))) (lost refl)
+refused_failed files name bytes savefile_fault.Failed failed told head apart lost opens =
+    ⊎_elim (λ (counted : failed). counted) (λ (lacks : get files name ≡ None). absurd (none (sym lacks ∙ told))) (lost refl)
   where
     none : None ≡ Some bytes → ⊥
     none e = cc
 
 -- a file was opened once, and refused
-pub once_refused : (seen : Option Files) (name : List ℕ) (why : CaptureFault) (failed : Type 0) (old new : ℕ) → new ≡ one_more old → (why ≡ savefile_fault.NotPcap → ⊥) → (why ≡ savefile_fault.Failed → failed ⊎ Lacks seen name)
-    → ((bytes : List ℕ) → classic_reader.Tells seen name bytes → classic_reader.Opens (Err why) (head_of bytes)) → OpensSo seen name failed old new
+pub once_refused : (seen : Option Files) (name : List ℕ) (why : CaptureFault) (failed : Type 0) (old new : ℕ)
+    → new ≡ one_more old
+    → (why ≡ savefile_fault.NotPcap → ⊥)
+    → (why ≡ savefile_fault.Failed → failed ⊎ Lacks seen name)
+    → ((bytes : List ℕ) → classic_reader.Tells seen name bytes → classic_reader.Opens (Err why) (head_of bytes))
+    → OpensSo seen name failed old new
 once_refused None name why failed old new once apart lost gives = inl (once, λ other. absurd other)
 once_refused (Some files) name why failed old new once apart lost gives =
     inl (once, λ other. refused_failed files name other.bytes why failed other.told other.head apart lost (gives other.bytes other.told))
 
 -- a file that was opened, and refused since it begins as no savefile does
-is_other : (files : Files) (name : List ℕ) (left : Option (List ℕ)) → ((bytes : List ℕ) → get files name ≡ Some bytes → head_of bytes ≡ Err savefile_fault.NotPcap)
-    → classic_reader.TakesHead (Some files) name (Err savefile_fault.NotPcap) left ⊎ ((◌≡◌ {A = Result classic_reader.Reading CaptureFault} (Err savefile_fault.NotPcap) (Err savefile_fault.Failed)) × (left ≡ None)) → IsOther (get files name)
+is_other : (files : Files) (name : List ℕ) (left : Option (List ℕ))
+    → ((bytes : List ℕ) → get files name ≡ Some bytes → head_of bytes ≡ Err savefile_fault.NotPcap)
+    → classic_reader.TakesHead (Some files) name (Err savefile_fault.NotPcap) left ⊎
+    ((◌≡◌ {A = Result classic_reader.Reading CaptureFault} (Err savefile_fault.NotPcap) (Err savefile_fault.Failed)) ×
+    (left ≡ None))
+    → IsOther (get files name)
 is_other files name left gives takes =
     ⊎_elim
     (λ (head : classic_reader.TakesHead (Some files) name (Err savefile_fault.NotPcap) left).
@@ -380,20 +434,32 @@ is_other files name left gives takes =
     takes
 
 -- a file was opened once more, as blocks
-pub opened_again : (seen : Option Files) (name : List ℕ) (why : CaptureFault) (left : Option (List ℕ)) (failed : Type 0) (old middle new : ℕ) → middle ≡ one_more old → new ≡ one_more middle → why ≡ savefile_fault.NotPcap
+pub opened_again : (seen : Option Files) (name : List ℕ) (why : CaptureFault) (left : Option (List ℕ)) (failed : Type 0)
+    (old middle new : ℕ)
+    → middle ≡ one_more old
+    → new ≡ one_more middle
+    → why ≡ savefile_fault.NotPcap
     → ((bytes : List ℕ) → classic_reader.Tells seen name bytes → classic_reader.Opens (Err why) (head_of bytes))
-    → classic_reader.TakesHead seen name (Err why) left ⊎ ((◌≡◌ {A = Result classic_reader.Reading CaptureFault} (Err why) (Err savefile_fault.Failed)) × (left ≡ None)) → OpensSo seen name failed old new
+    → classic_reader.TakesHead seen name (Err why) left ⊎
+    ((◌≡◌ {A = Result classic_reader.Reading CaptureFault} (Err why) (Err savefile_fault.Failed)) × (left ≡ None))
+    → OpensSo seen name failed old new
 opened_again None name why left failed old middle new once twice is gives takes = inr (twice ∙ ap one_more once, tt)
 opened_again (Some files) name why left failed old middle new once twice is gives takes =
     inr (
       twice ∙ ap one_more once,
       is_other files name left
-          (subst (λ (w : CaptureFault). (bytes : List ℕ) → get files name ≡ Some bytes → classic_reader.Opens (Err w) (head_of bytes)) is gives)
-          (subst (λ (w : CaptureFault). classic_reader.TakesHead (Some files) name (Err w) left ⊎ ((◌≡◌ {A = Result classic_reader.Reading CaptureFault} (Err w) (Err savefile_fault.Failed)) × (left ≡ None))) is takes),
+          (subst
+          (λ (w : CaptureFault). (bytes : List ℕ) → get files name ≡ Some bytes → classic_reader.Opens (Err w) (head_of bytes)) is
+          gives)
+          (subst (λ (w : CaptureFault). classic_reader.TakesHead (Some files) name (Err w) left ⊎
+          ((◌≡◌ {A = Result classic_reader.Reading CaptureFault} (Err w) (Err savefile_fault.Failed)) × (left ≡ None))) is takes),
     )
 
 -- more faults came later
-pub opens_later : (contents : Option Files) (name : List ℕ) (first middle last old new : ℕ) → middle ≤ last → OpensSo contents name (Rose first middle) old new → OpensSo contents name (Rose first last) old new
+pub opens_later : (contents : Option Files) (name : List ℕ) (first middle last old new : ℕ)
+    → middle ≤ last
+    → OpensSo contents name (Rose first middle) old new
+    → OpensSo contents name (Rose first last) old new
 opens_later contents name first middle last old new later opens =
     ⊎_elim
     (λ (once : (new ≡ one_more old) × (IsToldOther contents name → Rose first middle)). inl (once.0, λ other. let rose = once.1 other in omega (arith, later, rose)))

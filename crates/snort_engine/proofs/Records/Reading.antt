@@ -103,7 +103,10 @@ reading-refused first reader given fault.NoMemory left_first left so_far ends = 
 -- ---- the next record of a savefile
 
 -- a record was given
-pub savefile_gives : (old new : classic_reader.Reading) (given : Record) (left left_next : Option (List ℕ)) → old.refused ≡ None → classic_reader.TakesRecord old given left left_next → new ≡ classic_reader.after_next old (Some given)
+pub savefile_gives : (old new : classic_reader.Reading) (given : Record) (left left_next : Option (List ℕ))
+    → old.refused ≡ None
+    → classic_reader.TakesRecord old given left left_next
+    → new ≡ classic_reader.after_next old (Some given)
     → Gives (Savefile old) (Savefile new) (Ok (Some (linked old.head.link given))) left left_next
 unfolding recording_for
 savefile_gives old new given left left_next fresh takes is =
@@ -118,8 +121,11 @@ savefile_gives old new given left left_next fresh takes is =
     )
 
 -- what comes next for a reader of a savefile is this ending
-savefile_ends : (old : classic_reader.Reading) (left : Option (List ℕ)) (ending : Ending CaptureFault) → ((rest : List ℕ) → left ≡ Some rest → classic.next_of old.head old.number old.at rest ≡ classic.Ends ending)
-    → (whole : List ℕ) → left ≡ Some whole → recording_for (Savefile old) whole ≡ recording_of old.head.link (no_more ending)
+savefile_ends : (old : classic_reader.Reading) (left : Option (List ℕ)) (ending : Ending CaptureFault)
+    → ((rest : List ℕ) → left ≡ Some rest → classic.next_of old.head old.number old.at rest ≡ classic.Ends ending)
+    → (whole : List ℕ)
+    → left ≡ Some whole
+    → recording_for (Savefile old) whole ≡ recording_of old.head.link (no_more ending)
 unfolding recording_for
 savefile_ends old left ending ends whole told = ap (recording_of old.head.link) (classic_records.records_left-ends old.head old.number old.at whole ending (ends whole told))
 
@@ -142,7 +148,8 @@ savefile_whole old why left left_next takes =
       are = ap (λ (cut : Cut Record CaptureFault). (recording_of old.head.link cut).records) (classic_records.records_left-ends old.head old.number old.at takes.taken shown.0 shown.1);
     }
 
-savefile_refused_by : (old : classic_reader.Reading) (why : CaptureFault) (left : Option (List ℕ)) → ((rest : List ℕ) → left ≡ Some rest → classic_reader.Gives (Err why) (classic.next_of old.head old.number old.at rest))
+savefile_refused_by : (old : classic_reader.Reading) (why : CaptureFault) (left : Option (List ℕ))
+    → ((rest : List ℕ) → left ≡ Some rest → classic_reader.Gives (Err why) (classic.next_of old.head old.number old.at rest))
     → IsRefusedBy (Savefile old) [] left (of_savefile why)
 savefile_refused_by old savefile_fault.NotPcap left gives = savefile_ends old left (Refused savefile_fault.NotPcap) gives
 savefile_refused_by old (savefile_fault.LinkType link_type) left gives = savefile_ends old left (Refused (savefile_fault.LinkType link_type)) gives
@@ -152,8 +159,11 @@ savefile_refused_by old savefile_fault.TooMany left gives = savefile_ends old le
 savefile_refused_by old savefile_fault.Failed left gives = tt
 savefile_refused_by old savefile_fault.NoMemory left gives = tt
 
-pub savefile_stops : (old new : classic_reader.Reading) (why : CaptureFault) (so : ReadFault) (left left_next : Option (List ℕ)) → so ≡ of_savefile why → classic_reader.TakesNone old why left left_next
-    → ((rest : List ℕ) → left ≡ Some rest → classic_reader.Gives (Err why) (classic.next_of old.head old.number old.at rest)) → Gives (Savefile old) (Savefile new) (Err so) left left_next
+pub savefile_stops : (old new : classic_reader.Reading) (why : CaptureFault) (so : ReadFault) (left left_next : Option (List ℕ))
+    → so ≡ of_savefile why
+    → classic_reader.TakesNone old why left left_next
+    → ((rest : List ℕ) → left ≡ Some rest → classic_reader.Gives (Err why) (classic.next_of old.head old.number old.at rest))
+    → Gives (Savefile old) (Savefile new) (Err so) left left_next
 savefile_stops old new why so left left_next is takes gives =
     (savefile_whole old why left left_next takes, subst (λ (f : ReadFault). IsRefusedBy (Savefile old) [] left f) (sym is) (savefile_refused_by old why left gives))
 

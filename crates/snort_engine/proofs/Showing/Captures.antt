@@ -77,7 +77,10 @@ answer-err : (plan : Plan) (warnings bytes : List ℕ) (why : ReadFault) (held :
 unfolding capture_answer
 answer-err plan warnings bytes why held holds is = ap (capture_answer plan warnings) holds ∙ ap (recording_answer plan warnings) is
 
-answer-lacking : (plan : Plan) (warnings : List ℕ) (held : Option (List ℕ)) → held ≡ None → capture_answer plan warnings held ≡ record { alerts = []; errors = warnings ++ cannot_read_text plan.source; status = status.HostFault }
+answer-lacking : (plan : Plan) (warnings : List ℕ) (held : Option (List ℕ))
+    → held ≡ None
+    → capture_answer plan warnings held ≡
+    record { alerts = []; errors = warnings ++ cannot_read_text plan.source; status = status.HostFault }
 unfolding capture_answer
 answer-lacking plan warnings held lacks = ap (capture_answer plan warnings) lacks
 
@@ -92,7 +95,10 @@ answered answer meant is = record {
 -- ---- a capture that was refused at once, or not opened
 
 -- nothing was written, and no record is whole within what was taken of a capture that is open
-barely_ahead : (plan : Plan) (files : Files) (before after : Work) (ended : Status) → after.alerts ≡ before.alerts → IsBarelyOpen (get files plan.source) after.left → IsReadAhead plan (get files plan.source) before after ended
+barely_ahead : (plan : Plan) (files : Files) (before after : Work) (ended : Status)
+    → after.alerts ≡ before.alerts
+    → IsBarelyOpen (get files plan.source) after.left
+    → IsReadAhead plan (get files plan.source) before after ended
 barely_ahead plan files before after ended same open_so = record {
   taken = open_so.taken;
   rest = open_so.rest;
@@ -145,9 +151,16 @@ still_open : (held left : Option (List ℕ)) (why : ReadFault) → (why ≡ faul
 still_open held left why other takes = ⊎_elim (λ (open_so : IsBarelyOpen held left). open_so) (λ (nothing : (why ≡ fault.Failed) × (left ≡ None)). absurd (other nothing.0)) takes
 
 -- a capture that is refused at once
-refused_ends : (plan : Plan) (files : Files) (course : Course) (why : ReadFault) (before after : Work) (counts : Counts) → course.way ≡ Goes plan → after.alerts ≡ before.alerts → counts ≡ counts_of plan []
-    → IsPlain (fault_status why) → (why ≡ fault.Failed → ⊥) → IsRefusedAtOnce (get files plan.source) why → IsOpenOr (get files plan.source) why after.left
-    → Ends files course before after (fault_status why) (warned course ++ with_counts (fault_text plan.source why) (told_counts plan.counted counts))
+refused_ends : (plan : Plan) (files : Files) (course : Course) (why : ReadFault) (before after : Work) (counts : Counts)
+    → course.way ≡ Goes plan
+    → after.alerts ≡ before.alerts
+    → counts ≡ counts_of plan []
+    → IsPlain (fault_status why)
+    → (why ≡ fault.Failed → ⊥)
+    → IsRefusedAtOnce (get files plan.source) why
+    → IsOpenOr (get files plan.source) why after.left
+    → Ends files course before after (fault_status why)
+    (warned course ++ with_counts (fault_text plan.source why) (told_counts plan.counted counts))
 refused_ends plan files course why before after counts goes same counted plain other gives takes =
     let open_so = still_open (get files plan.source) after.left why other takes in
     let bytes = open_so.taken ++ open_so.rest in
@@ -159,14 +172,21 @@ refused_ends plan files course why before after counts goes same counted plain o
     (ahead_goes files course plan before after (fault_status why) goes (barely_ahead plan files before after (fault_status why) same open_so))
 
 -- a capture that is lacking
-lacking_answered : (plan : Plan) (files : Files) (course : Course) → course.way ≡ Goes plan → get files plan.source ≡ None → IsAnswered (answer_of files course) status.HostFault [] (warned course ++ cannot_read_text plan.source)
+lacking_answered : (plan : Plan) (files : Files) (course : Course)
+    → course.way ≡ Goes plan
+    → get files plan.source ≡ None
+    → IsAnswered (answer_of files course) status.HostFault [] (warned course ++ cannot_read_text plan.source)
 lacking_answered plan files course goes lacks = answered (answer_of files course) _ (answer_goes files course plan goes ∙ answer-lacking plan (warned course) (get files plan.source) lacks)
 
 -- the capture was refused at once or not opened
-open_ends : (plan : Plan) (files : Files) (course : Course) (why : ReadFault) (before after : Work) (counts : Counts) → course.way ≡ Goes plan → after.alerts ≡ before.alerts → counts ≡ counts_of plan []
+open_ends : (plan : Plan) (files : Files) (course : Course) (why : ReadFault) (before after : Work) (counts : Counts)
+    → course.way ≡ Goes plan
+    → after.alerts ≡ before.alerts
+    → counts ≡ counts_of plan []
     → Opens (get files plan.source) (Err why) after.left
     → (why ≡ fault.Failed → Rose before.host_faults after.host_faults ⊎ (get files plan.source ≡ None))
-    → Ends files course before after (stop_status (stop.Capture why)) (warned course ++ said {A = Unit {0}} plan (Err (stop.Capture why)) counts)
+    → Ends files course before after (stop_status (stop.Capture why))
+    (warned course ++ said {A = Unit {0}} plan (Err (stop.Capture why)) counts)
 unfolding stop_text
 open_ends plan files course fault.NotPcap before after counts goes same counted opens failed =
     refused_ends plan files course fault.NotPcap before after counts goes same counted tt (λ e. cc) opens.0 opens.1
@@ -231,7 +251,10 @@ pub record IsOpenCapture (plan : Plan) (files : Files) (course : Course) (left_f
   pub begins : BeginsAfter front reader
 
 -- how far was read where a write failed
-written_to : (plan : Plan) (reader : RecordReader) (taken : List ℕ) (left : Option (List ℕ)) (failed : Type 0) (outcome : Result (Unit {0}) Stop) → outcome_status outcome ≡ status.WriteFault → HasReadTo plan reader taken left failed outcome
+written_to : (plan : Plan) (reader : RecordReader) (taken : List ℕ) (left : Option (List ℕ)) (failed : Type 0)
+    (outcome : Result (Unit {0}) Stop)
+    → outcome_status outcome ≡ status.WriteFault
+    → HasReadTo plan reader taken left failed outcome
     → AreBatches (recording_by plan reader taken).records ⊎ (IsReadOut plan reader taken left ⊎ failed)
 written_to plan reader taken left failed (Ok done) is to = absurd cc
 written_to plan reader taken left failed (Err (stop.Capture fault.Failed)) is to = absurd cc
@@ -241,17 +264,26 @@ written_to plan reader taken left failed (Err stop.CannotWrite) is to = to
 written_to plan reader taken left failed (Err why) is to = absurd cc
 
 -- how far was read of the whole capture where a write failed
-batches_after : (plan : Plan) (front taken rest back : List ℕ) (reader : RecordReader) (left : Option (List ℕ)) (failed since : Type 0) → BeginsAfter front reader → left ≡ Some back → (front ++ taken) ++ rest ≡ front ++ back → (failed → since)
-    → AreBatches (recording_by plan reader taken).records ⊎ (IsReadOut plan reader taken left ⊎ failed) → IsReadInBatches plan (front ++ taken) rest since
+batches_after : (plan : Plan) (front taken rest back : List ℕ) (reader : RecordReader) (left : Option (List ℕ))
+    (failed since : Type 0)
+    → BeginsAfter front reader
+    → left ≡ Some back
+    → (front ++ taken) ++ rest ≡ front ++ back
+    → (failed → since)
+    → AreBatches (recording_by plan reader taken).records ⊎ (IsReadOut plan reader taken left ⊎ failed)
+    → IsReadInBatches plan (front ++ taken) rest since
 batches_after plan front taken rest back reader left failed since begins told joined rises (inl whole) = inl (subst AreBatches (sym (records_after plan front taken reader begins)) whole)
 batches_after plan front taken rest back reader left failed since begins told joined rises (inr (inl out)) =
     inr (inl (ap (λ (x : List ℕ). (records_of plan x).records) joined ∙ records_after plan front back reader begins ∙ out back told ∙ sym (records_after plan front taken reader begins)))
 batches_after plan front taken rest back reader left failed since begins told joined rises (inr (inr rose)) = inr (inr (rises rose))
 
 -- the lines follow closely the records of a capture that was opened
-ahead_after : (plan : Plan) (files : Files) (course : Course) (held : Option (List ℕ)) (bytes : List ℕ) (reader : RecordReader) (left_first : Option (List ℕ)) (before after : Work) (failed : Type 0) (outcome : Result (Unit {0}) Stop) → held ≡ Some bytes
+ahead_after : (plan : Plan) (files : Files) (course : Course) (held : Option (List ℕ)) (bytes : List ℕ) (reader : RecordReader)
+    (left_first : Option (List ℕ)) (before after : Work) (failed : Type 0) (outcome : Result (Unit {0}) Stop)
+    → held ≡ Some bytes
     → IsOpenCapture plan files course left_first bytes reader
-    → IsCloseAfter plan reader (record { left = left_first; written = before.alerts }) (record { left = after.left; written = after.alerts }) failed outcome
+    → IsCloseAfter plan reader (record { left = left_first; written = before.alerts })
+    (record { left = after.left; written = after.alerts }) failed outcome
     → (failed → Rose before.host_faults after.host_faults)
     → IsReadAhead plan held before after (outcome_status outcome)
 unfolding lines_of lines_due
@@ -301,35 +333,51 @@ answer_open plan files course left_first bytes reader o =
     o.answers ∙ ap (λ (x : List ℕ). capture_answer plan (warned course) (Some x)) o.joined ∙ ap (recording_answer plan (warned course)) (o.begins plan.limit o.rest)
 
 -- shown to an ending
-shown_ends : (plan : Plan) (files : Files) (course : Course) (left_first left_last : Option (List ℕ)) (bytes : List ℕ) (reader : RecordReader) (ending : Ending ReadFault) (before after : Work) (counts : Counts) → IsOpenCapture plan files course left_first bytes reader
+shown_ends : (plan : Plan) (files : Files) (course : Course) (left_first left_last : Option (List ℕ)) (bytes : List ℕ)
+    (reader : RecordReader) (ending : Ending ReadFault) (before after : Work) (counts : Counts)
+    → IsOpenCapture plan files course left_first bytes reader
     → IsPlain (ending_status ending)
-    → ShowsTo plan reader ending (record { left = left_first; written = before.alerts }) (record { left = left_last; written = after.alerts }) counts
+    → ShowsTo plan reader ending (record { left = left_first; written = before.alerts })
+    (record { left = left_last; written = after.alerts }) counts
     → ReadsAhead files course before after (ending_status ending)
-    → Ends files course before after (ending_status ending) (warned course ++ with_counts (ending_text plan.source ending) (told_counts plan.counted counts))
+    → Ends files course before after (ending_status ending)
+    (warned course ++ with_counts (ending_text plan.source ending) (told_counts plan.counted counts))
 unfolding lines_of
 shown_ends plan files course left_first left_last bytes reader ending before after counts o plain shows ahead =
     let shown = shows o.rest o.told in
     let records = (recording_by plan reader o.rest).records in
     let meant : answer_of files course ≡ recording_answer plan (warned course) (record { records = records; ending = ending }) =
     answer_open plan files course left_first bytes reader o
-    ∙ ap (λ (e : Ending ReadFault). recording_answer plan (warned course) (record { records = records; ending = e })) shown.ends in
-    let text : Counts → List ℕ = λ (c : Counts). warned course ++ with_counts (ending_text plan.source ending) (told_counts plan.counted c) in
+    ∙ ap (λ (e : Ending ReadFault). recording_answer plan (warned course) (record { records = records; ending = e }))
+    shown.ends in
+    let text : Counts → List ℕ =
+    λ (c : Counts). warned course ++ with_counts (ending_text plan.source ending) (told_counts plan.counted c) in
     ends_met files course before after (ending_status ending) (lines plan [] records Closed) (text counts) plain shown.wrote
-    (subst (λ (m : List ℕ). IsAnswered (answer_of files course) (ending_status ending) (lines plan [] records Closed) m) (ap text (sym shown.counted)) (answered (answer_of files course) _ meant)) ahead
+    (subst (λ (m : List ℕ). IsAnswered (answer_of files course) (ending_status ending) (lines plan [] records Closed) m)
+    (ap text (sym shown.counted))
+    (answered (answer_of files course) _ meant))
+    ahead
 
 -- a part of its lines
-part_of_show : (plan : Plan) (files : Files) (course : Course) (left_first left_last : Option (List ℕ)) (bytes : List ℕ) (reader : RecordReader) (before after : Work) → IsOpenCapture plan files course left_first bytes reader
-    → WritesSome plan reader (record { left = left_first; written = before.alerts }) (record { left = left_last; written = after.alerts })
+part_of_show : (plan : Plan) (files : Files) (course : Course) (left_first left_last : Option (List ℕ)) (bytes : List ℕ)
+    (reader : RecordReader) (before after : Work)
+    → IsOpenCapture plan files course left_first bytes reader
+    → WritesSome plan reader (record { left = left_first; written = before.alerts })
+    (record { left = left_last; written = after.alerts })
     → WritesPart before.alerts (answer_of files course).alerts after.alerts
 unfolding lines_of
 part_of_show plan files course left_first left_last bytes reader before after o some =
     subst (λ (a : Answer). WritesPart before.alerts a.alerts after.alerts) (sym (answer_open plan files course left_first bytes reader o)) (some o.rest o.told)
 
 -- the showing of a capture, where this is what a fault of the host leaves, and how far was read ahead
-pub shown_by : (plan : Plan) (files : Files) (course : Course) (left_first left_last : Option (List ℕ)) (bytes : List ℕ) (reader : RecordReader) (before after : Work) (counts : Counts) (outcome : Result (Unit {0}) Stop)
+pub shown_by : (plan : Plan) (files : Files) (course : Course) (left_first left_last : Option (List ℕ)) (bytes : List ℕ)
+    (reader : RecordReader) (before after : Work) (counts : Counts) (outcome : Result (Unit {0}) Stop)
     → IsOpenCapture plan files course left_first bytes reader
-    → ShowsCapture plan reader (record { left = left_first; written = before.alerts }) (record { left = left_last; written = after.alerts }) counts outcome
-    → (outcome_status outcome ≡ status.HostFault → IsReadCutShort plan reader (record { left = left_first; written = before.alerts }) (record { left = left_last; written = after.alerts })
+    → ShowsCapture plan reader (record { left = left_first; written = before.alerts })
+    (record { left = left_last; written = after.alerts }) counts outcome
+    → (outcome_status outcome ≡ status.HostFault →
+    IsReadCutShort plan reader (record { left = left_first; written = before.alerts })
+    (record { left = left_last; written = after.alerts })
     → IsCutShort files course before after (warned course ++ cannot_read_text plan.source))
     → (outcome_status outcome ≡ status.HostFault → Rose before.host_faults after.host_faults)
     → ((ended : Status) → outcome_status outcome ≡ ended → ReadsAhead files course before after ended)
@@ -354,11 +402,14 @@ shown_by plan files course left_first left_last bytes reader before after counts
 shown_by plan files course left_first left_last bytes reader before after counts (Err why) o seen short risen ahead = absurd seen
 
 -- a capture that was opened and shown
-pub capture_ends : (plan : Plan) (files : Files) (course : Course) (reader : RecordReader) (left_first : Option (List ℕ)) (before after : Work) (counts : Counts) (failed : Type 0) (outcome : Result (Unit {0}) Stop)
+pub capture_ends : (plan : Plan) (files : Files) (course : Course) (reader : RecordReader) (left_first : Option (List ℕ))
+    (before after : Work) (counts : Counts) (failed : Type 0) (outcome : Result (Unit {0}) Stop)
     → course.way ≡ Goes plan
     → Opens (get files plan.source) (Ok reader) left_first
-    → ShowsCapture plan reader (record { left = left_first; written = before.alerts }) (record { left = after.left; written = after.alerts }) counts outcome
-    → IsCloseAfter plan reader (record { left = left_first; written = before.alerts }) (record { left = after.left; written = after.alerts }) failed outcome
+    → ShowsCapture plan reader (record { left = left_first; written = before.alerts })
+    (record { left = after.left; written = after.alerts }) counts outcome
+    → IsCloseAfter plan reader (record { left = left_first; written = before.alerts })
+    (record { left = after.left; written = after.alerts }) failed outcome
     → (failed → Rose before.host_faults after.host_faults)
     → (outcome_status outcome ≡ status.HostFault → Rose before.host_faults after.host_faults)
     → Ends files course before after (outcome_status outcome) (warned course ++ said plan outcome counts)
@@ -373,11 +424,14 @@ capture_ends plan files course reader left_first before after counts failed outc
       told = opens.still;
       begins = opens.begins;
     } in
-    let ahead : IsReadAhead plan (get files plan.source) before after (outcome_status outcome) = ahead_after plan files course (get files plan.source) bytes reader left_first before after failed outcome opens.of o close rises in
+    let ahead : IsReadAhead plan (get files plan.source) before after (outcome_status outcome) =
+    ahead_after plan files course (get files plan.source) bytes reader left_first before after failed outcome opens.of o close
+    rises in
     shown_by plan files course left_first after.left bytes reader before after counts outcome o shows
     (λ failed cut. cut_after plan files course bytes reader left_first before after goes opens.of o cut)
     risen
-    (λ ended is. subst (λ (s : Status). ReadsAhead files course before after s) is (ahead_goes files course plan before after (outcome_status outcome) goes ahead))
+    (λ ended is. subst (λ (s : Status). ReadsAhead files course before after s) is
+    (ahead_goes files course plan before after (outcome_status outcome) goes ahead))
 
 -- the capture was refused at once or not opened, and a run is stopped by that
 pub open_stops : (plan : Plan) (files : Files) (course : Course) (why : ReadFault) (before after : Work) (counts : Counts) (outcome : Result (Unit {0}) Stop) (stopped : Stop)

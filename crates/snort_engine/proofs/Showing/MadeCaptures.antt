@@ -47,9 +47,16 @@ apart : (before : Work) (alerts : Option (List ℕ)) (ended : Status) → (ended
 apart before alerts ended never = record { left = refl; opens = refl; no_host_fault = never }
 
 -- a capture was made and shown, by a reader that had given no record
-pub made_ends : (plan : Plan) (files : Files) (course : Course) (seed count : ℕ) (bytes : List ℕ) (reader : RecordReader) (left_first left_last old new : Option (List ℕ)) (before : Work) (counts : Counts) (outcome : Result (Unit {0}) Stop)
-    → course.way ≡ Makes plan seed count → before.alerts ≡ old → bytes ≡ generated seed count → reader ≡ Savefile (new_reader made_head) → left_first ≡ Some (drop 24 bytes)
-    → ShowsCapture plan reader (record { left = left_first; written = old }) (record { left = left_last; written = new }) counts outcome
+pub made_ends : (plan : Plan) (files : Files) (course : Course) (seed count : ℕ) (bytes : List ℕ) (reader : RecordReader)
+    (left_first left_last old new : Option (List ℕ))
+    (before : Work) (counts : Counts) (outcome : Result (Unit {0}) Stop)
+    → course.way ≡ Makes plan seed count
+    → before.alerts ≡ old
+    → bytes ≡ generated seed count
+    → reader ≡ Savefile (new_reader made_head)
+    → left_first ≡ Some (drop 24 bytes)
+    → ShowsCapture plan reader (record { left = left_first; written = old })
+    (record { left = left_last; written = new }) counts outcome
     → (outcome_status outcome ≡ status.HostFault → ⊥)
     → Ends files course before (with_alerts before new) (outcome_status outcome) (warned course ++ said plan outcome counts)
 made_ends plan files course seed count bytes reader left_first left_last old new before counts outcome makes same are by told shows never =

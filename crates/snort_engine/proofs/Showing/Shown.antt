@@ -30,7 +30,8 @@ use Rattle.snort_engine.specs.declared.batch.Reached.{Reached}
 use Rattle.snort_engine.specs.declared.batch.Reached.TheVariants.{More, End, Fault}
 use Rattle.snort_engine.specs.ReadAhead.{batch, AreBatches}
 use Rattle.snort_engine.specs.Steps.Detecting.{Advances, Closes, IsDetectorAfter, ShowsRecordsPart, closing_lines, records_stage}
-use Rattle.snort_engine.specs.Steps.Showing.{Streams, Point, lines_of, lines_left, recording_by, IsRoom, most_at, room_after, IsReadOut, HasReadTo, IsUnderWay, IsAtEnd, IsReadCutShort, IsCloseAfter, WritesSome, ShowsTo, ShowsCapture, Comes, ComesOver, ShowsOn, IsLeft, IsClosedWhole, IsClosedInPart, ClosesShown}
+use Rattle.snort_engine.specs.Steps.Showing.{Streams, Point, lines_of, lines_left, recording_by, IsRoom, most_at, room_after, IsReadOut, HasReadTo, IsUnderWay, IsAtEnd, IsReadCutShort, IsCloseAfter}
+use Rattle.snort_engine.specs.Steps.Showing.{WritesSome, ShowsTo, ShowsCapture, Comes, ComesOver, ShowsOn, IsLeft, IsClosedWhole, IsClosedInPart, ClosesShown}
 use Rattle.snort_engine.proofs.Records.Limits.{limit-front, below_limit, at_limit, within_limit, room_first, room_further, room_left, room_within, batches_none, batches_further, batches_last}
 use Rattle.snort_engine.proofs.Records.Reading.{reading-start, reading-told, reading-whole}
 use Rattle.snort_engine.proofs.Lines.Laws.{lines_of-nil, lines_of-closed, lines_of-append}
@@ -83,7 +84,8 @@ not_both b yes_ no_ = let e : true ≡ false = sym yes_ ∙ no_ in cc
 -- ---- what was reached
 
 -- whatever was reached, reading was at a reader after the records, and went no record further
-stopped_at : (first : RecordReader) (given : List LinkedRecord) (left_first : Option (List ℕ)) (now : Place) (reached : Reached) → Reaches first given left_first now reached → HasStopped first given left_first now.left
+stopped_at : (first : RecordReader) (given : List LinkedRecord) (left_first : Option (List ℕ)) (now : Place) (reached : Reached) → Reaches first given left_first now reached
+    → HasStopped first given left_first now.left
 stopped_at first given left_first now More read = record {
   following = now.reader;
   still = now.left;
@@ -102,23 +104,27 @@ reached_after plan first start old now reached going reads =
 -- ---- how far was read
 
 -- an ending after records that were given, where more might have been read, is the plan's
-ended_by : (plan : Plan) (first : RecordReader) (room : Option ℕ) (given : List LinkedRecord) (left : Option (List ℕ)) (ending : Ending ReadFault) → IsRoom plan.limit (length given) room → 0 < most_at room → EndsWith first given left ending
+ended_by : (plan : Plan) (first : RecordReader) (room : Option ℕ) (given : List LinkedRecord) (left : Option (List ℕ)) (ending : Ending ReadFault) → IsRoom plan.limit (length given) room
+    → 0 < most_at room → EndsWith first given left ending
     → (whole : List ℕ) → left ≡ Some whole → recording_by plan first whole ≡ record { records = given; ending = ending }
 ended_by plan first room given left ending is some ends = λ whole told. ap (first_records plan.limit) (ends whole told) ∙ below_limit plan.limit room given ending is some
 
 -- the limit, where no more may be read, ends the plan's reading
-limited_by : (plan : Plan) (first reader : RecordReader) (room : Option ℕ) (given : List LinkedRecord) (left_first left : Option (List ℕ)) → HasRead first reader given left_first left → IsRoom plan.limit (length given) room → most_at room ≡ 0
+limited_by : (plan : Plan) (first reader : RecordReader) (room : Option ℕ) (given : List LinkedRecord) (left_first left : Option (List ℕ)) → HasRead first reader given left_first left
+    → IsRoom plan.limit (length given) room → most_at room ≡ 0
     → (whole : List ℕ) → left_first ≡ Some whole → recording_by plan first whole ≡ record { records = given; ending = Clean }
 limited_by plan first reader room given left_first left read is none = λ whole told.
     let found = reading-told first reader given left_first left whole read told in
     ap (first_records plan.limit) found.2 ∙ at_limit plan.limit room given (recording_for reader found.0) is none
 
 -- where an ending is the plan's, all is whole within what was taken
-out_by : (plan : Plan) (first : RecordReader) (given : List LinkedRecord) (ending : Ending ReadFault) (taken : List ℕ) (left : Option (List ℕ)) → ((whole : List ℕ) → left ≡ Some whole → recording_by plan first whole ≡ record { records = given; ending = ending })
+out_by : (plan : Plan) (first : RecordReader) (given : List LinkedRecord) (ending : Ending ReadFault) (taken : List ℕ) (left : Option (List ℕ))
+    → ((whole : List ℕ) → left ≡ Some whole → recording_by plan first whole ≡ record { records = given; ending = ending })
     → (recording_by plan first taken).records ≡ given → IsReadOut plan first taken left
 out_by plan first given ending taken left ends are = λ whole told. ap (λ (r : Recording). r.records) (ends whole told) ∙ sym are
 
-module _ (plan : Plan) (first : RecordReader) (room : Option ℕ) (given : List LinkedRecord) (left : Option (List ℕ)) (failed : Type 0) (is : IsRoom plan.limit (length given) room) (some : 0 < most_at room) (taken : List ℕ)
+module _ (plan : Plan) (first : RecordReader) (room : Option ℕ) (given : List LinkedRecord) (left : Option (List ℕ)) (failed : Type 0) (is : IsRoom plan.limit (length given) room)
+    (some : 0 < most_at room) (taken : List ℕ)
     (are : (recording_by plan first taken).records ≡ given) where
   -- the capture ends
   read_out : (ending : Ending ReadFault) → EndsWith first given left ending → IsReadOut plan first taken left
@@ -147,7 +153,8 @@ module _ (plan : Plan) (first : RecordReader) (room : Option ℕ) (given : List 
   fault_unwritten fault.NoMemory ends rose lacks = absurd (lacks refl)
 
 -- a batch was read whose lines weren't all written
-unwritten_to : (plan : Plan) (first : RecordReader) (room : Option ℕ) (given records : List LinkedRecord) (left_first : Option (List ℕ)) (now : Place) (reached : Reached) (failed : Type 0) (taken : List ℕ)
+unwritten_to : (plan : Plan) (first : RecordReader) (room : Option ℕ) (given records : List LinkedRecord) (left_first : Option (List ℕ)) (now : Place) (reached : Reached) (failed : Type 0)
+    (taken : List ℕ)
     → IsRoom plan.limit (length (given ++ records)) (room_after room (length records)) → AreBatches given ⊎ (most_at room ≡ 0)
     → (reached ≡ More → length records ≡ most_at room) → ((reached ≡ More → ⊥) → length records < most_at room)
     → (reached ≡ Fault fault.Failed → failed) → (reached ≡ Fault fault.NoMemory → ⊥) → Reaches first (given ++ records) left_first now reached
@@ -156,7 +163,8 @@ unwritten_to : (plan : Plan) (first : RecordReader) (room : Option ℕ) (given r
 unwritten_to plan first room given records left_first now More failed taken is batches full short rose lacks read are = ⊎_elim
     (λ (whole : AreBatches (given ++ records)). inl (subst AreBatches (sym are) whole))
     (λ (none : most_at (room_after room (length records)) ≡ 0).
-    inr (inl (out_by plan first (given ++ records) Clean taken left_first (limited_by plan first now.reader (room_after room (length records)) (given ++ records) left_first now.left read is none) are)))
+    inr
+    (inl (out_by plan first (given ++ records) Clean taken left_first (limited_by plan first now.reader (room_after room (length records)) (given ++ records) left_first now.left read is none) are)))
     (batches_further room given records batches (full refl))
 unwritten_to plan first room given records left_first now End failed taken is batches full short rose lacks (stopped, ends) are =
     inr (inl (read_out plan first (room_after room (length records)) (given ++ records) left_first failed is (room_left room (length records) (short (λ e. cc))) taken are Clean ends))
@@ -167,7 +175,8 @@ unwritten_to plan first room given records left_first now (Fault why) failed tak
 -- ---- the end of all batches
 
 -- the lines of all whole records were written: they follow closely
-close_by : (plan : Plan) (first : RecordReader) (room : Option ℕ) (given : List LinkedRecord) (old after : Streams) (failed : Type 0) (outcome : Result (Unit {0}) Stop) → IsRoom plan.limit (length given) room
+close_by : (plan : Plan) (first : RecordReader) (room : Option ℕ) (given : List LinkedRecord) (old after : Streams) (failed : Type 0) (outcome : Result (Unit {0}) Stop)
+    → IsRoom plan.limit (length given) room
     → after.written ≡ grown old.written (lines_of plan given Open) → AreWhole first given old.left after.left
     → ((taken : List ℕ) → (recording_by plan first taken).records ≡ given → HasReadTo plan first taken old.left failed outcome)
     → IsCloseAfter plan first old after failed outcome
@@ -186,7 +195,8 @@ close_by plan first room given old after failed outcome is wrote whole to = reco
 }
 
 -- all records were given, where more might have been read
-at_end : (plan : Plan) (first : RecordReader) (room : Option ℕ) (given : List LinkedRecord) (old after : Streams) (detector : Detector) (ending : Ending ReadFault) → IsRoom plan.limit (length given) room → 0 < most_at room
+at_end : (plan : Plan) (first : RecordReader) (room : Option ℕ) (given : List LinkedRecord) (old after : Streams) (detector : Detector) (ending : Ending ReadFault)
+    → IsRoom plan.limit (length given) room → 0 < most_at room
     → IsDetectorAfter plan given detector
     → after.written ≡ grown old.written (lines_of plan given Open)
     → EndsWith first given old.left ending → IsAtEnd plan first old after detector ending
@@ -198,7 +208,8 @@ at_end plan first room given old after detector ending is some holds wrote ends 
 }
 
 -- a refusal of the capture, after records whose lines were written
-fault_comes : (plan : Plan) (first : RecordReader) (room : Option ℕ) (given : List LinkedRecord) (old after : Streams) (detector : Detector) (why : ReadFault) → IsRoom plan.limit (length given) room → 0 < most_at room
+fault_comes : (plan : Plan) (first : RecordReader) (room : Option ℕ) (given : List LinkedRecord) (old after : Streams) (detector : Detector) (why : ReadFault) → IsRoom plan.limit (length given) room
+    → 0 < most_at room
     → IsDetectorAfter plan given detector
     → after.written ≡ grown old.written (lines_of plan given Open)
     → HasStopped first given old.left after.left → IsRefusedBy first given old.left why → Comes plan first old after detector (Err (stop.Capture why))
@@ -221,7 +232,8 @@ fault_comes plan first room given old after detector why is some holds wrote sto
     by_fault fault.NoMemory ends = part
 
 -- the lines were not all written
-showing_stops : (plan : Plan) (first : RecordReader) (old after : Streams) (detector : Detector) (why : WriteFault) → WritesSome plan first old after → Comes plan first old after detector (Err (write_stop why))
+showing_stops : (plan : Plan) (first : RecordReader) (old after : Streams) (detector : Detector) (why : WriteFault) → WritesSome plan first old after
+    → Comes plan first old after detector (Err (write_stop why))
 showing_stops plan first old after detector write.Unwritten some = some
 showing_stops plan first old after detector write.NoMemory some = some
 
@@ -271,7 +283,8 @@ batch_shown plan records old new failed reached faults after done few room_is fu
     some_left short = subst (λ (r : Option ℕ). 0 < most_at r) (sym room_is) (room_left old.room (length records) short)
 
     by_case : (r : Reached) → (r ≡ More → length records ≡ most_at old.room) → ((r ≡ More → ⊥) → length records < most_at old.room)
-        → ReadsOn (record { reader = old.reader; records = []; left = old.streams.left }) (record { reader = new.reader; records = records; left = new.streams.left }) r → ShowsOn plan old new failed (more_of r)
+        → ReadsOn (record { reader = old.reader; records = []; left = old.streams.left }) (record { reader = new.reader; records = records; left = new.streams.left }) r
+        → ShowsOn plan old new failed (more_of r)
     by_case More all short on = λ first start going.
         let own = batch_is plan records old new first start going faults after done shows in record {
           given = going.given ++ records;
@@ -308,7 +321,8 @@ batch_few (Some room) count few = omega (arith, few)
 -- where a batch of these records is the last that is read, how far is known by its reading
 abbrev ReadsTo : Plan → List LinkedRecord → Point → Type 0 → Stop → Type 0
 ReadsTo plan records old failed why =
-    (first : RecordReader) (start : Streams) (going : IsUnderWay plan first start old) (taken : List ℕ) → (recording_by plan first taken).records ≡ going.given ++ records → HasReadTo plan first taken start.left failed (Err why)
+    (first : RecordReader) (start : Streams) (going : IsUnderWay plan first start old) (taken : List ℕ) → (recording_by plan first taken).records ≡ going.given ++ records
+    → HasReadTo plan first taken start.left failed (Err why)
 
 -- a batch was read, and a part of its lines was written
 batch_part : (plan : Plan) (records : List LinkedRecord) (old new : Point) (failed : Type 0) (reached : Reached) (why : WriteFault)
@@ -328,7 +342,8 @@ batch_part plan records old new failed reached why few to reads shown = λ first
     let some : WritesPart start.written (lines_of plan given Open) new.streams.written =
     subst (λ (x : List ℕ). WritesPart start.written x new.streams.written) (sym (lines_of-batch plan going.given records))
     (WritesPart-after start.written old.streams.written new.streams.written _ _ going.wrote own) in (
-      showing_stops plan first start new.streams new.detector why (part_of_all plan first stopped.following (room_after old.room (length records)) given start stopped.still new.streams.written room_is stopped.read some),
+      showing_stops plan first start new.streams new.detector why
+          (part_of_all plan first stopped.following (room_after old.room (length records)) given start stopped.still new.streams.written room_is stopped.read some),
       record {
         taken = stopped.whole.taken;
         took = stopped.whole.took;
@@ -383,7 +398,8 @@ part_shown plan records old new first last faults after (Ok done) shows = λ bef
 part_shown plan records old new first last faults after (Err why) shows = λ before holds. shows.emits.part (record { inputs = before; hold = holds })
 
 -- how far was read from the start, where the host may have failed before
-to_since : (plan : Plan) (first : RecordReader) (taken : List ℕ) (left : Option (List ℕ)) (later since : Type 0) (outcome : Result (Unit {0}) Stop) → (later → since) → HasReadTo plan first taken left later outcome → HasReadTo plan first taken left since outcome
+to_since : (plan : Plan) (first : RecordReader) (taken : List ℕ) (left : Option (List ℕ)) (later since : Type 0) (outcome : Result (Unit {0}) Stop) → (later → since)
+    → HasReadTo plan first taken left later outcome → HasReadTo plan first taken left since outcome
 to_since plan first taken left later since (Ok done) rises to = to
 to_since plan first taken left later since (Err (stop.Capture fault.Failed)) rises to = tt
 to_since plan first taken left later since (Err (stop.Capture fault.NoMemory)) rises to = tt
@@ -392,7 +408,8 @@ to_since plan first taken left later since (Err stop.CannotWrite) rises to =
     ⊎_elim (λ whole. inl whole) (λ (other : IsReadOut plan first taken left ⊎ later). inr (⊎_elim (λ out. inl out) (λ rose. inr (rises rose)) other)) to
 to_since plan first taken left later since (Err why) rises to = to
 
-pub comes_since : (plan : Plan) (first : RecordReader) (start now : Streams) (later since : Type 0) (detector : Detector) (outcome : Result (Unit {0}) Stop) → (later → since) → ComesOver plan first start now later detector outcome
+pub comes_since : (plan : Plan) (first : RecordReader) (start now : Streams) (later since : Type 0) (detector : Detector) (outcome : Result (Unit {0}) Stop) → (later → since)
+    → ComesOver plan first start now later detector outcome
     → ComesOver plan first start now since detector outcome
 comes_since plan first start now later since detector outcome rises (came, close) = (
   came,
@@ -422,7 +439,8 @@ close-start plan reader old failed fresh =
     (λ taken are. tt)
 
 -- a capture at its end was closed
-closed_to : (plan : Plan) (first : RecordReader) (start now : Streams) (detector : Detector) (ending : Ending ReadFault) (written : Option (List ℕ)) (faults after : ℕ) (counts : Counts) → IsAtEnd plan first start now detector ending
+closed_to : (plan : Plan) (first : RecordReader) (start now : Streams) (detector : Detector) (ending : Ending ReadFault) (written : Option (List ℕ)) (faults after : ℕ) (counts : Counts)
+    → IsAtEnd plan first start now detector ending
     → Closes plan detector (at_sink now.written faults) (at_sink written after) (Ok counts)
     → (left : Option (List ℕ)) → ShowsTo plan first ending start (record { left = left; written = written }) counts
 closed_to plan first start now detector ending written faults after counts came closes left = λ whole told.
@@ -436,16 +454,19 @@ closed_to plan first start now detector ending written faults after counts came 
     }
 
 -- what was closed in part was written in part
-closed_some : (plan : Plan) (first : RecordReader) (start now : Streams) (detector : Detector) (ending : Ending ReadFault) (written : Option (List ℕ)) (faults after : ℕ) (why : WriteFault) → IsAtEnd plan first start now detector ending
+closed_some : (plan : Plan) (first : RecordReader) (start now : Streams) (detector : Detector) (ending : Ending ReadFault) (written : Option (List ℕ)) (faults after : ℕ) (why : WriteFault)
+    → IsAtEnd plan first start now detector ending
     → Closes plan detector (at_sink now.written faults) (at_sink written after) (Err why)
     → (left : Option (List ℕ)) → WritesSome plan first start (record { left = left; written = written })
 closed_some plan first start now detector ending written faults after why came part left = λ whole told.
     subst (λ (x : List ℕ). WritesPart start.written x written)
     (sym (ap (λ (c : Recording). lines_of plan c.records Closed) (came.ends whole told) ∙ lines_of-closed plan came.given))
-    (WritesPart-after start.written now.written written (lines_of plan came.given Open) (closing_lines plan came.given) came.wrote (part.emits.part (record { inputs = came.given; hold = came.holds })))
+    (WritesPart-after start.written now.written written (lines_of plan came.given Open) (closing_lines plan came.given) came.wrote
+    (part.emits.part (record { inputs = came.given; hold = came.holds })))
 
 -- a part of lines stopped the showing of them
-stopped_some : (plan : Plan) (first : RecordReader) (start after : Streams) (counts : Counts) (why : WriteFault) → WritesSome plan first start after → ShowsCapture plan first start after counts (Err (write_stop why))
+stopped_some : (plan : Plan) (first : RecordReader) (start after : Streams) (counts : Counts) (why : WriteFault) → WritesSome plan first start after
+    → ShowsCapture plan first start after counts (Err (write_stop why))
 stopped_some plan first start after counts write.Unwritten some = some
 stopped_some plan first start after counts write.NoMemory some = some
 
@@ -469,12 +490,14 @@ module _ (plan : Plan) (first : RecordReader) (start now : Streams) (detector : 
     λ whole told. subst (λ (w : Option (List ℕ)). WritesPart start.written (lines_left plan first whole Closed) w) (sym same) (came.1 whole told),
   )
   left_so (Err stop.CannotWrite) cut came same = λ whole told. subst (λ (w : Option (List ℕ)). WritesPart start.written (lines_left plan first whole Closed) w) (sym same) (came whole told)
-  left_so (Err (stop.Capture fault.NoMemory)) cut came same = λ whole told. subst (λ (w : Option (List ℕ)). WritesPart start.written (lines_left plan first whole Closed) w) (sym same) (came whole told)
+  left_so (Err (stop.Capture fault.NoMemory)) cut came same = λ whole told.
+      subst (λ (w : Option (List ℕ)). WritesPart start.written (lines_left plan first whole Closed) w) (sym same) (came whole told)
   left_so (Err stop.NoMemory) cut came same = λ whole told. subst (λ (w : Option (List ℕ)). WritesPart start.written (lines_left plan first whole Closed) w) (sym same) (came whole told)
   left_so (Err why) cut came same = absurd cc
 
   -- a showing that came to its end was closed
-  closed_so : (shown : Result (Unit {0}) Stop) → is_whole shown ≡ true → Comes plan first start now detector shown → Closes plan detector sink_then sink_now (Ok counts) → ShowsCapture plan first start after_it counts shown
+  closed_so : (shown : Result (Unit {0}) Stop) → is_whole shown ≡ true → Comes plan first start now detector shown → Closes plan detector sink_then sink_now (Ok counts)
+      → ShowsCapture plan first start after_it counts shown
   closed_so (Ok done) whole came closes = closed_to plan first start now detector Clean written faults after counts came closes now.left
   closed_so (Err (stop.Capture fault.Failed)) whole came closes = absurd cc
   closed_so (Err (stop.Capture fault.NoMemory)) whole came closes = absurd cc
@@ -491,7 +514,8 @@ module _ (plan : Plan) (first : RecordReader) (start now : Streams) (detector : 
   closed_part_so (Err (stop.Capture fault.NoMemory)) why whole came part = absurd cc
   closed_part_so (Err stop.CannotWrite) why whole came part = absurd cc
   closed_part_so (Err stop.NoMemory) why whole came part = absurd cc
-  closed_part_so (Err (stop.Capture other)) why whole came part = stopped_some plan first start after_it counts why (closed_some plan first start now detector (Refused other) written faults after why came part now.left)
+  closed_part_so (Err (stop.Capture other)) why whole came part =
+      stopped_some plan first start after_it counts why (closed_some plan first start now detector (Refused other) written faults after why came part now.left)
   closed_part_so (Err other) why whole came part = absurd came
 
   pub closed_show : (shown result_then : Result (Unit {0}) Stop) → Comes plan first start now detector shown → ClosesShown plan detector shown sink_then sink_now counts result_then
@@ -510,7 +534,8 @@ module _ (plan : Plan) (first : RecordReader) (start now : Streams) (detector : 
       how
 
   -- what was written in the closing comes after what was written before
-  wrote_more : (shown : Result (Unit {0}) Stop) → is_whole shown ≡ true → Comes plan first start now detector shown → ((records : List LinkedRecord) → IsDetectorAfter plan records detector → (more : List ℕ) × (written ≡ grown now.written more))
+  wrote_more : (shown : Result (Unit {0}) Stop) → is_whole shown ≡ true → Comes plan first start now detector shown
+      → ((records : List LinkedRecord) → IsDetectorAfter plan records detector → (more : List ℕ) × (written ≡ grown now.written more))
       → (more : List ℕ) × (written ≡ grown now.written more)
   wrote_more (Ok done) whole came more = more came.given came.holds
   wrote_more (Err (stop.Capture fault.Failed)) whole came more = absurd cc
@@ -552,7 +577,8 @@ module _ (plan : Plan) (first : RecordReader) (start now : Streams) (detector : 
     to = to close.taken close.to;
   }
 
-  pub closed_after : (failed : Type 0) (shown result_then : Result (Unit {0}) Stop) → ComesOver plan first start now failed detector shown → ClosesShown plan detector shown sink_then sink_now counts result_then
+  pub closed_after : (failed : Type 0) (shown result_then : Result (Unit {0}) Stop) → ComesOver plan first start now failed detector shown
+      → ClosesShown plan detector shown sink_then sink_now counts result_then
       → IsCloseAfter plan first start (record { left = now.left; written = written }) failed result_then
   unfolding ClosesShown WritesPart
   closed_after failed shown result_then (came, close) how =

@@ -120,7 +120,9 @@ module _ (plan : Plan) (part : Part) (records : List LinkedRecord) (shown : IsSh
         ap whats (sym (told-part items part before local [] before refl)) ∙ whats-own items [] (filter part before)
       where
         local : (b : List LinkedRecord) (s : LinkedRecord) (more : List LinkedRecord) → b ++ s ∷ more ≡ before → part s ≡ true → items (filter part b) s ≡ items b s
-        local b s more here of_too = same-items (jobs_way plan) part records shown.split (detection_of plan) b s (more ++ r ∷ rest) (sym (append_assoc b (s ∷ more) (r ∷ rest)) ∙ ap (λ (front : List LinkedRecord). front ++ r ∷ rest) here ∙ are) of_too
+        local b s more here of_too =
+            same-items (jobs_way plan) part records shown.split (detection_of plan) b s (more ++ r ∷ rest)
+            (sym (append_assoc b (s ∷ more) (r ∷ rest)) ∙ ap (λ (front : List LinkedRecord). front ++ r ∷ rest) here ∙ are) of_too
 
     same-events : record_events plan (filter part before) r ≡ record_events plan before r
     unfolding record_events job_items

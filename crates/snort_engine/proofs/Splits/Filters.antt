@@ -2,7 +2,8 @@
 --
 -- Inputs are beside their sources, of which some are of the part. An answer is the part's own where it is the same
 -- after the part's earlier inputs as after all of them.
-use Rattle.std.proofs.Common.{◌≡◌, ℕ, zero, suc, Bool, true, false, cond, not, List, [], ◌∷◌, ◌++◌, Option, Some, None, map, length, refl, sym, ap, subst, ◌∙◌, ◌⊎◌, inl, inr, ⊎_elim, append_assoc, append-nil, arith}
+use Rattle.std.proofs.Common.{◌≡◌, ℕ, zero, suc, Bool, true, false, cond, not, List, [], ◌∷◌, ◌++◌, Option, Some, None, map}
+use Rattle.std.proofs.Common.{length, refl, sym, ap, subst, ◌∙◌, ◌⊎◌, inl, inr, ⊎_elim, append_assoc, append-nil, arith}
 use Rattle.std.specs.Prelude.{Contains, option_and_then, slice_get}
 use Rattle.std.specs.List.{filter, flat_map}
 use Rattle.std.specs.Option.{option_map, option_map_or}
@@ -15,7 +16,9 @@ use Rattle.rule_types.specs.declared.rule.Rule.{Rule}
 use Rattle.event_filters.specs.declared.counting.Key.{Key}
 use Rattle.event_filters.specs.Keys.{same_key}
 use Rattle.event_filters.specs.Counting.{Event, counted, has_key, lets, moment_of, passes, windowed}
-use Rattle.event_filters.specs.Events.{Item, arising, event_key, event_line, event_of, events_of, filtered, global_kept, global_place, is_suppressed, kept, match_key, match_line, match_stays, matches, own_kept, own_place, places_of, staying}
+use Rattle.event_filters.specs.Events.{Item, arising, event_key, event_line, event_of, events_of, filtered, global_kept}
+use Rattle.event_filters.specs.Events.{global_place, is_suppressed, kept, match_key, match_line, match_stays, matches, own_kept}
+use Rattle.event_filters.specs.Events.{own_place, places_of, staying}
 use Rattle.event_filters.specs.Queue.{queued}
 use Rattle.flow_lanes.specs.declared.answer.Hits.{Hits}
 use Rattle.alert_lines.specs.Beside.{Beside, beside, carried, whats}
@@ -123,7 +126,11 @@ module _ {S : Type 0} (part : S → Bool) where
           ∙ ap (λ (xs : List A). map (beside b.source) (f (whats (mine before)) b.what) ++ carried f xs (mine later)) (ap whats (mine-more before b true is) ∙ whats-append (mine before) (b ∷ []))
       by_part false isnt = ap (λ (xs : List (Beside S A)). carried f (whats xs) (mine later)) (mine-more before b false isnt ∙ append-nil (mine before))
 
-  pub carried-each : {A B : Type 0} (Q : S → A → Type 0) (R : S → B → Type 0) (f : List A → A → List B) → Keeps Q R f → (before : List A) (all : List (Beside S A)) → Each Q all → Each R (carried f before all)
+  pub carried-each : {A B : Type 0} (Q : S → A → Type 0) (R : S → B → Type 0) (f : List A → A → List B)
+      → Keeps Q R f
+      → (before : List A) (all : List (Beside S A))
+      → Each Q all
+      → Each R (carried f before all)
   carried-each Q R f keeps before [] each c has = absurd (none-in c has)
   carried-each {A} {B} Q R f keeps before (b ∷ later) each c has = elim (Contains-append_cases (map (beside b.source) (f before b.what)) (carried f (before ++ b.what ∷ []) later) c has) [
     | inl first ↦
@@ -133,7 +140,12 @@ module _ {S : Type 0} (part : S → Bool) where
   ]
 
   -- the answers to several inputs of one source
-  pub list-own : {A B : Type 0} (Q : S → A → Type 0) (f : List A → A → List B) → IsOwn Q f → (all : List (Beside S A)) (s : S) (xs : List A) → Each Q all → part s ≡ true → ((x : A) → Contains xs x → Q s x)
+  pub list-own : {A B : Type 0} (Q : S → A → Type 0) (f : List A → A → List B)
+      → IsOwn Q f
+      → (all : List (Beside S A)) (s : S) (xs : List A)
+      → Each Q all
+      → part s ≡ true
+      → ((x : A) → Contains xs x → Q s x)
       → trail_from f (whats (mine all)) xs ≡ trail_from f (whats all) xs
   list-own Q f own all s [] each of holds = refl
   list-own {A} {B} Q f own all s (x ∷ xs) each of holds =
@@ -158,7 +170,11 @@ module _ {S : Type 0} (part : S → Bool) where
       ∙ list-own R g own_too given s (f (whats all) x) (carried-each Q R f keeps [] all each) of (λ y has. keeps s (whats all) x y q has)
       ∙ ap (λ (before : List B). trail_from g before (f (whats all) x)) whole
 
-  pub chained-keeps : {A B C : Type 0} (Q : S → A → Type 0) (R : S → B → Type 0) (T : S → C → Type 0) (f : List A → A → List B) (g : List B → B → List C) → Keeps Q R f → Keeps R T g → Keeps Q T (chained g f)
+  pub chained-keeps : {A B C : Type 0} (Q : S → A → Type 0) (R : S → B → Type 0) (T : S → C → Type 0) (f : List A → A → List B)
+      (g : List B → B → List C)
+      → Keeps Q R f
+      → Keeps R T g
+      → Keeps Q T (chained g f)
   chained-keeps Q R T f g keeps keeps_too s before x z q has =
       trailed-in (T s) g (trail f before) (f before x) (λ earlier y c in_f in_g. keeps_too s earlier y c (keeps s before x y q in_f) in_g) z has
 
@@ -175,9 +191,23 @@ module _ {S : Type 0} (part : S → Bool) (Has : S → ItemHead → Type 0) wher
 
   -- no event of the part has the key of one that isn't
   abbrev pub Apart : (Event → Option Key) → Type 0
-  Apart key_of = (s t : S) (one other : Event) (key more : Key) → Has s one.head → Has t other.head → part s ≡ true → part t ≡ false → key_of one ≡ Some key → key_of other ≡ Some more → same_key key more ≡ false
+  Apart key_of =
+      (s t : S) (one other : Event) (key more : Key)
+      → Has s one.head
+      → Has t other.head
+      → part s ≡ true
+      → part t ≡ false
+      → key_of one ≡ Some key
+      → key_of other ≡ Some more
+      → same_key key more ≡ false
 
-  own-counted : (key_of : Event → Option Key) → Apart key_of → (all : List (Beside S Event)) (s : S) (event : Event) (key : Key) → Each part OfEvent all → part s ≡ true → Has s event.head → key_of event ≡ Some key
+  own-counted : (key_of : Event → Option Key)
+      → Apart key_of
+      → (all : List (Beside S Event)) (s : S) (event : Event) (key : Key)
+      → Each part OfEvent all
+      → part s ≡ true
+      → Has s event.head
+      → key_of event ≡ Some key
       → filter (has_key key_of key) (whats (mine part all)) ≡ filter (has_key key_of key) (whats all)
   own-counted key_of apart [] s event key each of has is = refl
   own-counted key_of apart (b ∷ later) s event key each of has is =
@@ -205,7 +235,9 @@ module _ {S : Type 0} (part : S → Bool) (Has : S → ItemHead → Type 0) wher
           ∙ sym (ap (λ (o : Option Key). cond (passes key_of line_at (whats all) event o) (event ∷ []) []) is)
       by_key (Some key) is =
           ap (λ (o : Option Key). cond (passes key_of line_at (whats (mine part all)) event o) (event ∷ []) []) is
-          ∙ ap (λ (xs : List Event). cond (lets (line_at key).kind (line_at key).count (windowed (map moment_of xs) (moment_of event) (line_at key).seconds)) (event ∷ []) []) (own-counted key_of apart all s event key each of has is)
+          ∙ ap (λ (xs : List Event). cond
+          (lets (line_at key).kind (line_at key).count (windowed (map moment_of xs) (moment_of event) (line_at key).seconds))
+          (event ∷ []) []) (own-counted key_of apart all s event key each of has is)
           ∙ sym (ap (λ (o : Option Key). cond (passes key_of line_at (whats all) event o) (event ∷ []) []) is)
 
   counted-keeps : (key_of : Event → Option Key) (line_at : Key → _) → Keeps part OfEvent OfEvent (counted key_of line_at)
@@ -247,7 +279,11 @@ module _ {S : Type 0} (part : S → Bool) (Has : S → ItemHead → Type 0) wher
         (counted-keeps (event_key (own_place config.filters) config.filters rules) (event_line config.filters))
         (counted-own (event_key (global_place config.filters) config.filters rules) (event_line config.filters) apart_global)
 
-    kept-own : (all : List (Beside S Item)) (s : S) (item : Item) → Each part OfItem all → part s ≡ true → Has s item.head → kept config rules (whats (mine part all)) item ≡ kept config rules (whats all) item
+    kept-own : (all : List (Beside S Item)) (s : S) (item : Item)
+        → Each part OfItem all
+        → part s ≡ true
+        → Has s item.head
+        → kept config rules (whats (mine part all)) item ≡ kept config rules (whats all) item
     unfolding kept
     kept-own all s item each of has =
         ap places_of (chained-own part OfItem OfEvent (arising config rules) (filtered config.filters rules) arising-own arising-keeps filtered-own all s item each of has)

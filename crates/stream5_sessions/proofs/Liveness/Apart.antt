@@ -71,7 +71,11 @@ not_before (suc n) (first ∷ es) e apart h = (elim (same_key e.0 first.0) as (�
 ]) refl
 
 -- a key that is found, but not among all places but the last, is at the last
-pub found_last : (n : ℕ) (es : List (Key × ℕ)) (key : Key) (flow : ℕ) → length es ≤ suc n → lookup (same_key key) es ≡ Some flow → is_touched (keys_of (take n es)) key ≡ false → slice_get es n ≡ Some (key, flow)
+pub found_last : (n : ℕ) (es : List (Key × ℕ)) (key : Key) (flow : ℕ)
+    → length es ≤ suc n
+    → lookup (same_key key) es ≡ Some flow
+    → is_touched (keys_of (take n es)) key ≡ false
+    → slice_get es n ≡ Some (key, flow)
 found_last n [] key flow few h out = cc
 found_last zero (first ∷ []) key flow few h out = (elim (same_key key first.0) as (λ x. same_key key first.0 ≡ x → cond x (Some first.1) None ≡ Some flow → Some first ≡ Some (key, flow)) [
   | true ↦ λ t h. let numbered : first.1 ≡ flow = cc in ap (λ (k : Key). Some (k, first.1)) (sym (same_key-is key first.0 t)) ∙ ap (λ (f : ℕ). Some (key, f)) numbered

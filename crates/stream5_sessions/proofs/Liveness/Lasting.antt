@@ -24,7 +24,11 @@ use Rattle.stream5_sessions.proofs.Liveness.Numbers.{all_kept, flow_number-begun
 pub number-stays : (max : MaxFlows) (touches : List Key) (key other : Key) → is_live max touches other ≡ true → flow_number max (key ∷ touches) other ≡ flow_number max touches other
 number-stays max touches key other live = by_key (same_key other key) refl
   where
-    by_key : (b : Bool) → same_key other key ≡ b → cond b (cond (is_live max touches key) (flow_number max touches key) (begun max touches)) (flow_number max touches other) ≡ flow_number max touches other
+    by_key : (b : Bool)
+        → same_key other key ≡ b
+        → cond b (cond (is_live max touches key) (flow_number max touches key) (begun max touches))
+        (flow_number max touches other) ≡
+        flow_number max touches other
     by_key true same =
         let is = same_key-is other key same in
         ap (λ (b : Bool). cond b (flow_number max touches key) (begun max touches)) (ap (is_live max touches) (sym is) ∙ live) ∙ ap (flow_number max touches) (sym is)
@@ -51,12 +55,21 @@ live_key max touches flow has =
     let there = among-range (is_live_flow max touches) 0 (begun max touches) flow (has_among (live_flows max touches) flow has) in
     key_of_flow max touches touches flow there.2
 
-pub flow-stays : (max : MaxFlows) (touches : List Key) (key : Key) (flow : ℕ) → 0 < max_for max key.tcp → Contains (live_flows max touches) flow → (evicted_flow max touches key ≡ Some flow → ⊥) → Contains (live_flows max (key ∷ touches)) flow
+pub flow-stays : (max : MaxFlows) (touches : List Key) (key : Key) (flow : ℕ)
+    → 0 < max_for max key.tcp
+    → Contains (live_flows max touches) flow
+    → (evicted_flow max touches key ≡ Some flow → ⊥)
+    → Contains (live_flows max (key ∷ touches)) flow
 flow-stays max touches key flow some has told =
     let at = live_key max touches flow has in
     by_live at.0 at.1 at.2 (is_live max (key ∷ touches) at.0) refl
   where
-    by_live : (other : Key) → is_live max touches other ≡ true → flow_number max touches other ≡ flow → (b : Bool) → is_live max (key ∷ touches) other ≡ b → Contains (live_flows max (key ∷ touches)) flow
+    by_live : (other : Key)
+        → is_live max touches other ≡ true
+        → flow_number max touches other ≡ flow
+        → (b : Bool)
+        → is_live max (key ∷ touches) other ≡ b
+        → Contains (live_flows max (key ∷ touches)) flow
     by_live other live is true on = lives max (key ∷ touches) other flow on (number-stays max touches key other live ∙ is)
     by_live other live is false off =
         let ends : ends_life max touches key other ≡ true = ap (λ (b : Bool). b && not (is_live max (key ∷ touches) other)) live ∙ ap not off in
@@ -98,7 +111,13 @@ rises-distinct (x ∷ xs) rises = (above-distinct x xs rises.0, rises-distinct x
 
 kept-few : (max : MaxFlows) (touches : List Key) → length (values_of (all_kept max touches)) ≤ max.tcp + max.udp
 kept-few max touches =
-    omega (arith, length-values_of (all_kept max touches), length-append (kept max true touches) (kept max false touches), length-take max.tcp (stretches max true touches), length-take max.udp (stretches max false touches))
+    omega (
+      arith,
+      length-values_of (all_kept max touches),
+      length-append (kept max true touches) (kept max false touches),
+      length-take max.tcp (stretches max true touches),
+      length-take max.udp (stretches max false touches),
+    )
 
 rises : (max : MaxFlows) (touches : List Key) → Rises (live_flows max touches)
 unfolding live_flows
@@ -111,4 +130,10 @@ held max touches flow has =
 
 pub live-few : (max : MaxFlows) (touches : List Key) → length (live_flows max touches) ≤ max.tcp + max.udp
 live-few max touches =
-    omega (arith, kept-few max touches, length-le_from_is_member equal (live_flows max touches) (values_of (all_kept max touches)) (rises-distinct (live_flows max touches) (rises max touches)) (held max touches))
+    omega (
+      arith,
+      kept-few max touches,
+      length-le_from_is_member equal (live_flows max touches) (values_of (all_kept max touches))
+          (rises-distinct (live_flows max touches) (rises max touches))
+          (held max touches),
+    )

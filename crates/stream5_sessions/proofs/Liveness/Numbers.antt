@@ -22,37 +22,71 @@ use Rattle.stream5_sessions.proofs.Liveness.Rising.{among, sorted-is}
 -- a touched key's flow has begun
 pub flow_number-begun : (max : MaxFlows) (touches : List Key) (key : Key) → is_touched touches key ≡ true → flow_number max touches key < begun max touches
 flow_number-begun max [] key h = absurd (false≢true h)
-flow_number-begun max (touch ∷ earlier) key h = (elim (is_live max earlier touch) as (λ l. is_live max earlier touch ≡ l → cond (same_key key touch) (cond l (flow_number max earlier touch) (begun max earlier)) (flow_number max earlier key) < cond l (begun max earlier) (begun max earlier + 1)) [
-  | true ↦ λ t. (elim (same_key key touch) as (λ x. same_key key touch ≡ x → (x || is_touched earlier key) ≡ true → cond x (flow_number max earlier touch) (flow_number max earlier key) < begun max earlier) [
-    | true ↦ λ u h. flow_number-begun max earlier touch (is_touched-live max earlier touch t)
-    | false ↦ λ u h. flow_number-begun max earlier key h
-  ]) refl h
-  | false ↦ λ t. (elim (same_key key touch) as (λ x. same_key key touch ≡ x → (x || is_touched earlier key) ≡ true → cond x (begun max earlier) (flow_number max earlier key) < begun max earlier + 1) [
-    | true ↦ λ u h. omega arith
-    | false ↦ λ u h. omega (arith, flow_number-begun max earlier key h)
-  ]) refl h
-]) refl
+flow_number-begun max (touch ∷ earlier) key h =
+    (elim (is_live max earlier touch) as
+    (λ l. is_live max earlier touch ≡ l →
+    cond (same_key key touch) (cond l (flow_number max earlier touch) (begun max earlier)) (flow_number max earlier key) <
+    cond l (begun max earlier) (begun max earlier + 1)) [
+      | true ↦ λ t.
+          (elim (same_key key touch) as
+          (λ x. same_key key touch ≡ x → (x || is_touched earlier key) ≡ true →
+          cond x (flow_number max earlier touch) (flow_number max earlier key) < begun max earlier) [
+            | true ↦ λ u h. flow_number-begun max earlier touch (is_touched-live max earlier touch t)
+            | false ↦ λ u h. flow_number-begun max earlier key h
+          ]) refl h
+      | false ↦ λ t.
+          (elim (same_key key touch) as
+          (λ x. same_key key touch ≡ x → (x || is_touched earlier key) ≡ true →
+          cond x (begun max earlier) (flow_number max earlier key) < begun max earlier + 1) [
+            | true ↦ λ u h. omega arith
+            | false ↦ λ u h. omega (arith, flow_number-begun max earlier key h)
+          ]) refl h
+    ]) refl
 
 -- the key touched last has another flow than an earlier one, unless it is that one
-touched_apart : (max : MaxFlows) (earlier : List Key) (touch key : Key) → (is_touched earlier touch ≡ true → is_touched earlier key ≡ true → flow_number max earlier touch ≡ flow_number max earlier key → touch ≡ key) → is_touched earlier key ≡ true → cond (is_live max earlier touch) (flow_number max earlier touch) (begun max earlier) ≡ flow_number max earlier key → touch ≡ key
-touched_apart max earlier touch key before k = (elim (is_live max earlier touch) as (λ l. is_live max earlier touch ≡ l → cond l (flow_number max earlier touch) (begun max earlier) ≡ flow_number max earlier key → touch ≡ key) [
-  | true ↦ λ t same. before (is_touched-live max earlier touch t) k same
-  | false ↦ λ t same. let began = flow_number-begun max earlier key k in absurd (omega (arith, began))
-]) refl
+touched_apart : (max : MaxFlows) (earlier : List Key) (touch key : Key)
+    → (is_touched earlier touch ≡ true → is_touched earlier key ≡ true →
+    flow_number max earlier touch ≡ flow_number max earlier key → touch ≡ key)
+    → is_touched earlier key ≡ true
+    → cond (is_live max earlier touch) (flow_number max earlier touch) (begun max earlier) ≡ flow_number max earlier key
+    → touch ≡ key
+touched_apart max earlier touch key before k =
+    (elim (is_live max earlier touch) as
+    (λ l. is_live max earlier touch ≡ l →
+    cond l (flow_number max earlier touch) (begun max earlier) ≡ flow_number max earlier key → touch ≡ key) [
+      | true ↦ λ t same. before (is_touched-live max earlier touch t) k same
+      | false ↦ λ t same. let began = flow_number-begun max earlier key k in absurd (omega (arith, began))
+    ]) refl
 
 -- two touched keys with one flow are one
-pub flow_number-apart : (max : MaxFlows) (touches : List Key) (one other : Key) → is_touched touches one ≡ true → is_touched touches other ≡ true → flow_number max touches one ≡ flow_number max touches other → one ≡ other
+pub flow_number-apart : (max : MaxFlows) (touches : List Key) (one other : Key)
+    → is_touched touches one ≡ true
+    → is_touched touches other ≡ true
+    → flow_number max touches one ≡ flow_number max touches other
+    → one ≡ other
 flow_number-apart max [] one other h g same = absurd (false≢true h)
-flow_number-apart max (touch ∷ earlier) one other h g same = (elim (same_key one touch) as (λ x. same_key one touch ≡ x → (x || is_touched earlier one) ≡ true → cond x number (flow_number max earlier one) ≡ flow_number max (touch ∷ earlier) other → one ≡ other) [
-  | true ↦ λ t h same. (elim (same_key other touch) as (λ y. same_key other touch ≡ y → (y || is_touched earlier other) ≡ true → number ≡ cond y number (flow_number max earlier other) → one ≡ other) [
-    | true ↦ λ u g same. same_key-is one touch t ∙ sym (same_key-is other touch u)
-    | false ↦ λ u g same. same_key-is one touch t ∙ touched_apart max earlier touch other (flow_number-apart max earlier touch other) g same
-  ]) refl g same
-  | false ↦ λ t h same. (elim (same_key other touch) as (λ y. same_key other touch ≡ y → (y || is_touched earlier other) ≡ true → flow_number max earlier one ≡ cond y number (flow_number max earlier other) → one ≡ other) [
-    | true ↦ λ u g same. sym (touched_apart max earlier touch one (flow_number-apart max earlier touch one) h (sym same)) ∙ sym (same_key-is other touch u)
-    | false ↦ λ u g same. flow_number-apart max earlier one other h g same
-  ]) refl g same
-]) refl h same
+flow_number-apart max (touch ∷ earlier) one other h g same =
+    (elim (same_key one touch) as
+    (λ x. same_key one touch ≡ x → (x || is_touched earlier one) ≡ true →
+    cond x number (flow_number max earlier one) ≡ flow_number max (touch ∷ earlier) other → one ≡ other) [
+      | true ↦ λ t h same.
+          (elim (same_key other touch) as
+          (λ y. same_key other touch ≡ y → (y || is_touched earlier other) ≡ true →
+          number ≡ cond y number (flow_number max earlier other) → one ≡ other) [
+            | true ↦ λ u g same. same_key-is one touch t ∙ sym (same_key-is other touch u)
+            | false ↦ λ u g same.
+                same_key-is one touch t ∙ touched_apart max earlier touch other (flow_number-apart max earlier touch other) g same
+          ]) refl g same
+      | false ↦ λ t h same.
+          (elim (same_key other touch) as
+          (λ y. same_key other touch ≡ y → (y || is_touched earlier other) ≡ true →
+          flow_number max earlier one ≡ cond y number (flow_number max earlier other) → one ≡ other) [
+            | true ↦ λ u g same.
+                sym (touched_apart max earlier touch one (flow_number-apart max earlier touch one) h (sym same))
+                ∙ sym (same_key-is other touch u)
+            | false ↦ λ u g same. flow_number-apart max earlier one other h g same
+          ]) refl g same
+    ]) refl h same
   where
     number : ℕ
     number = cond (is_live max earlier touch) (flow_number max earlier touch) (begun max earlier)
@@ -87,10 +121,13 @@ all_kept max touches = kept max true touches ++ kept max false touches
 
 lookup-append : (test : Key → Bool) (es fs : List (Key × ℕ)) → lookup test (es ++ fs) ≡ cond (is_some (lookup test es)) (lookup test es) (lookup test fs)
 lookup-append test [] fs = refl
-lookup-append test (e ∷ es) fs = (elim (test e.0) as (λ x. cond x (Some e.1) (lookup test (es ++ fs)) ≡ cond (is_some (cond x (Some e.1) (lookup test es))) (cond x (Some e.1) (lookup test es)) (lookup test fs)) [
-  | true ↦ refl
-  | false ↦ lookup-append test es fs
-])
+lookup-append test (e ∷ es) fs =
+    (elim (test e.0) as
+    (λ x. cond x (Some e.1) (lookup test (es ++ fs)) ≡
+    cond (is_some (cond x (Some e.1) (lookup test es))) (cond x (Some e.1) (lookup test es)) (lookup test fs)) [
+      | true ↦ refl
+      | false ↦ lookup-append test es fs
+    ])
 
 -- a key isn't kept with the other protocol
 not_kept : (max : MaxFlows) (tcp : Bool) (touches : List Key) (key : Key) → is_of tcp key ≡ false → is_touched (keys_of (kept max tcp touches)) key ≡ false
@@ -111,10 +148,22 @@ chosen None p h = h
 chosen (Some x) p h = refl
 
 lookup-all : (max : MaxFlows) (touches : List Key) (key : Key) → lookup (same_key key) (all_kept max touches) ≡ lookup (same_key key) (kept max key.tcp touches)
-lookup-all max touches key = lookup-append (same_key key) (kept max true touches) (kept max false touches) ∙ (elim key.tcp as (λ b. key.tcp ≡ b → cond (is_some (lookup (same_key key) (kept max true touches))) (lookup (same_key key) (kept max true touches)) (lookup (same_key key) (kept max false touches)) ≡ lookup (same_key key) (kept max b touches)) [
-  | true ↦ λ t. chosen (lookup (same_key key) (kept max true touches)) (lookup (same_key key) (kept max false touches)) (lookup-none (kept max false touches) key (not_kept max false touches key (ap not t)))
-  | false ↦ λ t. ap (λ (o : Option ℕ). cond (is_some o) o (lookup (same_key key) (kept max false touches))) (lookup-none (kept max true touches) key (not_kept max true touches key t))
-]) refl
+lookup-all max touches key =
+    lookup-append (same_key key) (kept max true touches) (kept max false touches)
+    ∙ (elim key.tcp as
+    (λ b. key.tcp ≡ b →
+    cond (is_some (lookup (same_key key) (kept max true touches)))
+    (lookup (same_key key) (kept max true touches))
+    (lookup (same_key key) (kept max false touches)) ≡
+    lookup (same_key key) (kept max b touches)) [
+      | true ↦ λ t.
+          chosen (lookup (same_key key) (kept max true touches))
+          (lookup (same_key key) (kept max false touches))
+          (lookup-none (kept max false touches) key (not_kept max false touches key (ap not t)))
+      | false ↦ λ t.
+          ap (λ (o : Option ℕ). cond (is_some o) o (lookup (same_key key) (kept max false touches)))
+          (lookup-none (kept max true touches) key (not_kept max true touches key t))
+    ]) refl
 
 -- the list has a flow of a key exactly where the key lives and has that flow
 pub found_all : (max : MaxFlows) (touches : List Key) (key : Key) → lookup (same_key key) (all_kept max touches) ≡ cond (is_live max touches key) (Some (flow_number max touches key)) None
@@ -148,7 +197,10 @@ values_of-append [] fs = refl
 values_of-append (e ∷ es) fs = ap (λ (vs : List ℕ). e.1 ∷ vs) (values_of-append es fs)
 
 Apart-all : (max : MaxFlows) (touches : List Key) → Apart (keys_of (all_kept max touches))
-Apart-all max touches = subst Apart (sym (keys_of-append (kept max true touches) (kept max false touches))) (Apart-append (keys_of (kept max true touches)) (keys_of (kept max false touches)) (Apart-kept max true touches) (Apart-kept max false touches) (λ key h. not_kept max false touches key (ap not (kept_protocol max true touches key h))))
+Apart-all max touches =
+    subst Apart (sym (keys_of-append (kept max true touches) (kept max false touches)))
+    (Apart-append (keys_of (kept max true touches)) (keys_of (kept max false touches)) (Apart-kept max true touches)
+    (Apart-kept max false touches) (λ key h. not_kept max false touches key (ap not (kept_protocol max true touches key h))))
 
 abbrev IsSingle : List (Key × ℕ) → Type 0
 IsSingle es = (one other : Key) (f : ℕ) → lookup (same_key one) es ≡ Some f → lookup (same_key other) es ≡ Some f → one ≡ other
@@ -190,40 +242,76 @@ live_flow max touches f key live is = any_key touches (is_touched-live max touch
     test k = is_live max touches k && eqb (flow_number max touches k) f
 
     here : (k : Key) → k ≡ key → (is_live max touches k && eqb (flow_number max touches k) f) ≡ true
-    here k same = ap (λ (q : Key). is_live max touches q && eqb (flow_number max touches q) f) same ∙ ap (λ (b : Bool). b && eqb (flow_number max touches key) f) live ∙ eq-eqb (flow_number max touches key) f is
+    here k same =
+        ap (λ (q : Key). is_live max touches q && eqb (flow_number max touches q) f) same
+        ∙ ap (λ (b : Bool). b && eqb (flow_number max touches key) f) live
+        ∙ eq-eqb (flow_number max touches key) f is
 
     any_key : (keys : List Key) → is_touched keys key ≡ true → list_any (λ k. is_live max touches k && eqb (flow_number max touches k) f) keys ≡ true
     any_key [] h = absurd (false≢true h)
-    any_key (first ∷ keys) h = (elim (same_key key first) as (λ x. same_key key first ≡ x → (x || is_touched keys key) ≡ true → ((is_live max touches first && eqb (flow_number max touches first) f) || list_any (λ k. is_live max touches k && eqb (flow_number max touches k) f) keys) ≡ true) [
-      | true ↦ λ t h. ap (λ (b : Bool). b || list_any (λ k. is_live max touches k && eqb (flow_number max touches k) f) keys) (here first (sym (same_key-is key first t)))
-      | false ↦ λ t h. (elim (is_live max touches first && eqb (flow_number max touches first) f) as (λ b. (b || list_any (λ k. is_live max touches k && eqb (flow_number max touches k) f) keys) ≡ true) [ true ↦ refl | false ↦ any_key keys h ])
-    ]) refl h
+    any_key (first ∷ keys) h =
+        (elim (same_key key first) as
+        (λ x. same_key key first ≡ x → (x || is_touched keys key) ≡ true →
+        ((is_live max touches first && eqb (flow_number max touches first) f) ||
+        list_any (λ k. is_live max touches k && eqb (flow_number max touches k) f) keys) ≡
+        true) [
+          | true ↦ λ t h.
+              ap (λ (b : Bool). b || list_any (λ k. is_live max touches k && eqb (flow_number max touches k) f) keys)
+              (here first (sym (same_key-is key first t)))
+          | false ↦ λ t h.
+              (elim (is_live max touches first && eqb (flow_number max touches first) f) as
+              (λ b. (b || list_any (λ k. is_live max touches k && eqb (flow_number max touches k) f) keys) ≡ true)
+              [ true ↦ refl | false ↦ any_key keys h ])
+        ]) refl h
 
-pub key_of_flow : (max : MaxFlows) (touches keys : List Key) (f : ℕ) → list_any (λ k. is_live max touches k && eqb (flow_number max touches k) f) keys ≡ true → (key : Key) × (is_live max touches key ≡ true) × (flow_number max touches key ≡ f)
+pub key_of_flow : (max : MaxFlows) (touches keys : List Key) (f : ℕ)
+    → list_any (λ k. is_live max touches k && eqb (flow_number max touches k) f) keys ≡ true
+    → (key : Key) × (is_live max touches key ≡ true) × (flow_number max touches key ≡ f)
 key_of_flow max touches [] f h = absurd (false≢true h)
-key_of_flow max touches (first ∷ keys) f h = (elim (is_live max touches first && eqb (flow_number max touches first) f) as (λ b. (is_live max touches first && eqb (flow_number max touches first) f) ≡ b → (b || list_any (λ k. is_live max touches k && eqb (flow_number max touches k) f) keys) ≡ true → (key : Key) × (is_live max touches key ≡ true) × (flow_number max touches key ≡ f)) [
-  | true ↦ λ t h. let parts = two (is_live max touches first) (eqb (flow_number max touches first) f) t in (first, parts.0, eqb-true (flow_number max touches first) f parts.1)
-  | false ↦ λ t h. key_of_flow max touches keys f h
-]) refl h
+key_of_flow max touches (first ∷ keys) f h =
+    (elim (is_live max touches first && eqb (flow_number max touches first) f) as
+    (λ b. (is_live max touches first && eqb (flow_number max touches first) f) ≡ b →
+    (b || list_any (λ k. is_live max touches k && eqb (flow_number max touches k) f) keys) ≡ true →
+    (key : Key) × (is_live max touches key ≡ true) × (flow_number max touches key ≡ f)) [
+      | true ↦ λ t h.
+          let parts = two (is_live max touches first) (eqb (flow_number max touches first) f) t in
+          (first, parts.0, eqb-true (flow_number max touches first) f parts.1)
+      | false ↦ λ t h. key_of_flow max touches keys f h
+    ]) refl h
   where
     two : (a b : Bool) → (a && b) ≡ true → (a ≡ true) × (b ≡ true)
     two true b h = (refl, h)
     two false b h = absurd (false≢true h)
 
 -- the kept flows in ascending order are the flows that live
-pub live_flows-sorted : (flows : FlowsState) (touches : List Key) (sorted : List ℕ) → HasSeen flows touches → IsPermutation (values_of flows.tcp ++ values_of flows.udp) sorted → IsNonDecreasing sorted → sorted ≡ live_flows flows.max touches
+pub live_flows-sorted : (flows : FlowsState) (touches : List Key) (sorted : List ℕ)
+    → HasSeen flows touches
+    → IsPermutation (values_of flows.tcp ++ values_of flows.udp) sorted
+    → IsNonDecreasing sorted
+    → sorted ≡ live_flows flows.max touches
 unfolding live_flows
 live_flows-sorted flows touches sorted seen moved up =
     let max : MaxFlows = flows.max in
     let all : List ℕ = values_of (all_kept max touches) in
-    let same : values_of flows.tcp ++ values_of flows.udp ≡ all = ap (λ (es : List (Key × ℕ)). values_of es ++ values_of flows.udp) seen.tcp ∙ ap (λ (es : List (Key × ℕ)). values_of (kept max true touches) ++ values_of es) seen.udp ∙ sym (values_of-append (kept max true touches) (kept max false touches)) in
+    let same : values_of flows.tcp ++ values_of flows.udp ≡ all =
+    ap (λ (es : List (Key × ℕ)). values_of es ++ values_of flows.udp) seen.tcp
+    ∙ ap (λ (es : List (Key × ℕ)). values_of (kept max true touches) ++ values_of es) seen.udp
+    ∙ sym (values_of-append (kept max true touches) (kept max false touches)) in
     sorted-is all sorted (is_live_flow max touches) (begun max touches)
     (distinct_values (all_kept max touches) (Apart-all max touches) (single_all max touches))
     (subst (λ (xs : List ℕ). IsPermutation xs sorted) same moved)
     up
-    (λ f h. let at = key_of_value (all_kept max touches) (Apart-all max touches) f h in let live = kept_flow max touches at.0 f at.1 in
-    (subst (λ (n : ℕ). n < begun max touches) live.1 (flow_number-begun max touches at.0 (is_touched-live max touches at.0 live.0)), live_flow max touches f at.0 live.0 live.1))
-    (λ f h. let at = key_of_flow max touches touches f h in value_among (all_kept max touches) at.0 f (found_all max touches at.0 ∙ ap (λ (b : Bool). cond b (Some (flow_number max touches at.0)) None) at.1 ∙ ap (λ (n : ℕ). Some n) at.2))
+    (λ f h.
+    let at = key_of_value (all_kept max touches) (Apart-all max touches) f h in let live = kept_flow max touches at.0 f at.1 in (
+      subst (λ (n : ℕ). n < begun max touches) live.1
+          (flow_number-begun max touches at.0 (is_touched-live max touches at.0 live.0)),
+      live_flow max touches f at.0 live.0 live.1,
+    ))
+    (λ f h.
+    let at = key_of_flow max touches touches f h in
+    value_among (all_kept max touches) at.0 f
+    (found_all max touches at.0 ∙ ap (λ (b : Bool). cond b (Some (flow_number max touches at.0)) None) at.1 ∙
+    ap (λ (n : ℕ). Some n) at.2))
 
 -- there are no more different keys than places in a list that has them all
 fits : (keys places : List Key) → ((key : Key) → is_touched keys key ≡ true → is_touched places key ≡ true) → distinct_count keys ≤ length places
@@ -260,13 +348,22 @@ live_count-le max tcp touches =
   where
     passes : (keys : List Key) (key : Key) → is_touched (filter (λ k. is_of tcp k && is_live max touches k) keys) key ≡ true → (is_of tcp key && is_live max touches key) ≡ true
     passes [] key h = absurd (false≢true h)
-    passes (first ∷ keys) key h = (elim (is_of tcp first && is_live max touches first) as (λ x. (is_of tcp first && is_live max touches first) ≡ x → is_touched (cond x (first ∷ filter (λ k. is_of tcp k && is_live max touches k) keys) (filter (λ k. is_of tcp k && is_live max touches k) keys)) key ≡ true → (is_of tcp key && is_live max touches key) ≡ true) [
-      | true ↦ λ t h. (elim (same_key key first) as (λ y. same_key key first ≡ y → (y || is_touched (filter (λ k. is_of tcp k && is_live max touches k) keys) key) ≡ true → (is_of tcp key && is_live max touches key) ≡ true) [
-        | true ↦ λ u h. ap (λ (k : Key). is_of tcp k && is_live max touches k) (same_key-is key first u) ∙ t
-        | false ↦ λ u h. passes keys key h
-      ]) refl h
-      | false ↦ λ t h. passes keys key h
-    ]) refl h
+    passes (first ∷ keys) key h =
+        (elim (is_of tcp first && is_live max touches first) as
+        (λ x. (is_of tcp first && is_live max touches first) ≡ x →
+        is_touched (cond x (first ∷ filter (λ k. is_of tcp k && is_live max touches k) keys)
+        (filter (λ k. is_of tcp k && is_live max touches k) keys)) key ≡
+        true →
+        (is_of tcp key && is_live max touches key) ≡ true) [
+          | true ↦ λ t h.
+              (elim (same_key key first) as
+              (λ y. same_key key first ≡ y → (y || is_touched (filter (λ k. is_of tcp k && is_live max touches k) keys) key) ≡ true →
+              (is_of tcp key && is_live max touches key) ≡ true) [
+                | true ↦ λ u h. ap (λ (k : Key). is_of tcp k && is_live max touches k) (same_key-is key first u) ∙ t
+                | false ↦ λ u h. passes keys key h
+              ]) refl h
+          | false ↦ λ t h. passes keys key h
+        ]) refl h
 
     two : (a b : Bool) → (a && b) ≡ true → (a ≡ true) × (b ≡ true)
     two true b h = (refl, h)

@@ -80,7 +80,10 @@ Rises-from_pairs (x ∷ xs) pairs = (
 
 -- numbers that were sorted and of which no two are equal
 pub Rises-sorted : (xs sorted : List ℕ) → IsDistinct eqb xs → IsPermutation xs sorted → IsNonDecreasing sorted → Rises sorted
-Rises-sorted xs sorted apart moved up = Rises-from_pairs sorted (AllPairs-from_increasing sorted (IsStrictlyIncreasing-from_distinct sorted up (IsDistinct-IsPermutation eqb flips xs sorted moved apart)))
+Rises-sorted xs sorted apart moved up =
+    Rises-from_pairs sorted
+    (AllPairs-from_increasing sorted
+    (IsStrictlyIncreasing-from_distinct sorted up (IsDistinct-IsPermutation eqb flips xs sorted moved apart)))
   where
     flips : (m n : ℕ) → eqb m n ≡ eqb n m
     flips m n = grind (arith, nat_tests)
@@ -91,13 +94,19 @@ among-sorted xs sorted moved f = sym (list_any-IsPermutation (eqb f) xs sorted m
 -- the numbers from the first on that pass
 pub among-range : (test : ℕ → Bool) (a n f : ℕ) → among (filter test (range_with_len a n)) f ≡ true → (a ≤ f) × (f < a + n) × (test f ≡ true)
 among-range test a zero f h = absurd (false≢true h)
-among-range test a (suc n) f h = (elim (test a) as (λ b. test a ≡ b → among (cond b (a ∷ filter test (range_with_len (a + 1) n)) (filter test (range_with_len (a + 1) n))) f ≡ true → (a ≤ f) × (f < a + suc n) × (test f ≡ true)) [
-  | true ↦ λ t h. (elim (eqb f a) as (λ b. eqb f a ≡ b → (a ≤ f) × (f < a + suc n) × (test f ≡ true)) [
-    | true ↦ λ u. let is : f ≡ a = eqb-true f a u in (omega arith, omega arith, ap test is ∙ t)
-    | false ↦ λ u. let on = among-range test (a + 1) n f (split f a (filter test (range_with_len (a + 1) n)) h u) in (omega (arith, on.0), omega (arith, on.1), on.2)
-  ]) refl
-  | false ↦ λ t h. let on = among-range test (a + 1) n f h in (omega (arith, on.0), omega (arith, on.1), on.2)
-]) refl h
+among-range test a (suc n) f h =
+    (elim (test a) as
+    (λ b. test a ≡ b →
+    among (cond b (a ∷ filter test (range_with_len (a + 1) n)) (filter test (range_with_len (a + 1) n))) f ≡ true →
+    (a ≤ f) × (f < a + suc n) × (test f ≡ true)) [
+      | true ↦ λ t h. (elim (eqb f a) as (λ b. eqb f a ≡ b → (a ≤ f) × (f < a + suc n) × (test f ≡ true)) [
+        | true ↦ λ u. let is : f ≡ a = eqb-true f a u in (omega arith, omega arith, ap test is ∙ t)
+        | false ↦ λ u.
+            let on = among-range test (a + 1) n f (split f a (filter test (range_with_len (a + 1) n)) h u) in
+            (omega (arith, on.0), omega (arith, on.1), on.2)
+      ]) refl
+      | false ↦ λ t h. let on = among-range test (a + 1) n f h in (omega (arith, on.0), omega (arith, on.1), on.2)
+    ]) refl h
 
 pub range-among : (test : ℕ → Bool) (a n f : ℕ) → a ≤ f → f < a + n → test f ≡ true → among (filter test (range_with_len a n)) f ≡ true
 range-among test a zero f low high h = absurd (omega arith)
@@ -121,7 +130,13 @@ same_truth false true f g = g refl
 same_truth false false f g = refl
 
 -- a sorted list without equal numbers is that of the numbers below a bound which are in it
-pub sorted-is : (xs sorted : List ℕ) (test : ℕ → Bool) (n : ℕ) → IsDistinct eqb xs → IsPermutation xs sorted → IsNonDecreasing sorted → ((f : ℕ) → among xs f ≡ true → (f < n) × (test f ≡ true)) → ((f : ℕ) → test f ≡ true → among xs f ≡ true) → sorted ≡ filter test (range_with_len 0 n)
+pub sorted-is : (xs sorted : List ℕ) (test : ℕ → Bool) (n : ℕ)
+    → IsDistinct eqb xs
+    → IsPermutation xs sorted
+    → IsNonDecreasing sorted
+    → ((f : ℕ) → among xs f ≡ true → (f < n) × (test f ≡ true))
+    → ((f : ℕ) → test f ≡ true → among xs f ≡ true)
+    → sorted ≡ filter test (range_with_len 0 n)
 sorted-is xs sorted test n apart moved up inside outside =
     Rises-unique sorted (filter test (range_with_len 0 n)) (Rises-sorted xs sorted apart moved up) (Rises-range test 0 n)
     (λ f. same_truth (among sorted f) (among (filter test (range_with_len 0 n)) f)

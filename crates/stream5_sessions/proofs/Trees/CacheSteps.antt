@@ -21,10 +21,15 @@ promoted-some key flow es h = ap (λ (o : Option (Key × ℕ)). option_map_or (�
   where
     entry : (es : List (Key × ℕ)) → lookup (same_key key) es ≡ Some flow → lookup_entry (same_key key) es ≡ Some (key, flow)
     entry [] h = cc
-    entry (e ∷ es) h = (elim (same_key key e.0) as (λ x. same_key key e.0 ≡ x → cond x (Some e.1) (lookup (same_key key) es) ≡ Some flow → cond x (Some e) (lookup_entry (same_key key) es) ≡ Some (key, flow)) [
-      | true ↦ λ t h. let named : key ≡ e.0 = same_key-is key e.0 t in let numbered : e.1 ≡ flow = cc in ap (λ (k : Key). Some (k, e.1)) (sym named) ∙ ap (λ (f : ℕ). Some (key, f)) numbered
-      | false ↦ λ t h. entry es h
-    ]) refl h
+    entry (e ∷ es) h =
+        (elim (same_key key e.0) as
+        (λ x. same_key key e.0 ≡ x → cond x (Some e.1) (lookup (same_key key) es) ≡ Some flow →
+        cond x (Some e) (lookup_entry (same_key key) es) ≡ Some (key, flow)) [
+          | true ↦ λ t h.
+              let named : key ≡ e.0 = same_key-is key e.0 t in
+              let numbered : e.1 ≡ flow = cc in ap (λ (k : Key). Some (k, e.1)) (sym named) ∙ ap (λ (f : ℕ). Some (key, f)) numbered
+          | false ↦ λ t h. entry es h
+        ]) refl h
 
 -- a key that isn't kept leaves what is kept as it is
 pub promoted-none : (key : Key) (es : List (Key × ℕ)) → lookup (same_key key) es ≡ None → promoted (same_key key) es ≡ es

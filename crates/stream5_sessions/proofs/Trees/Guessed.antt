@@ -23,12 +23,15 @@ module _ (numbers : FlowNumbers) (key : Key) (number : ℕ) where
   has_number : (es : List (Numbered × ℕ)) (flow : ℕ) → lookup (eq-value.it (numbered key number)) es ≡ Some flow → AllByRecursion (HasNumber numbers) es
       → number_in numbers key ≡ Some number
   has_number [] flow is all = cc
-  has_number (e ∷ es) flow is all = (elim (eq-value.it (numbered key number) e.0) as (λ b. eq-value.it (numbered key number) e.0 ≡ b → cond b (Some e.1) (lookup (eq-value.it (numbered key number)) es) ≡ Some flow → number_in numbers key ≡ Some number) [
-    | true ↦ λ t is.
-        let both = and_parts (same_key key e.0.key) (eqb number e.0.number) (sym (test_parts (numbered key number) e.0) ∙ t) in
-        ap (number_in numbers) (same_key-is key e.0.key both.0) ∙ all.0 ∙ ap Some (sym (eqb-true number e.0.number both.1))
-    | false ↦ λ t is. has_number es flow is all.1
-  ]) refl is
+  has_number (e ∷ es) flow is all =
+      (elim (eq-value.it (numbered key number) e.0) as
+      (λ b. eq-value.it (numbered key number) e.0 ≡ b →
+      cond b (Some e.1) (lookup (eq-value.it (numbered key number)) es) ≡ Some flow → number_in numbers key ≡ Some number) [
+        | true ↦ λ t is.
+            let both = and_parts (same_key key e.0.key) (eqb number e.0.number) (sym (test_parts (numbered key number) e.0) ∙ t) in
+            ap (number_in numbers) (same_key-is key e.0.key both.0) ∙ all.0 ∙ ap Some (sym (eqb-true number e.0.number both.1))
+        | false ↦ λ t is. has_number es flow is all.1
+      ]) refl is
 
   unmoved : (es : List (Numbered × ℕ)) → lookup (eq-value.it (numbered key number)) es ≡ None → promoted (eq-value.it (numbered key number)) es ≡ es
   unmoved es is = (promoted_absent eq-value.it (lru_cache es 0) (numbered key number) (ap (λ (o : Option ℕ). is_some o) is)).1

@@ -65,10 +65,13 @@ IsOther key e = same_key key e.0.key ≡ false
 
 pub others : (key : Key) (es : List (Numbered × ℕ)) → lookup (same_key key) (entries_of es) ≡ None → AllByRecursion (IsOther key) es
 others key [] none = tt
-others key (e ∷ es) none = (elim (same_key key e.0.key) as (λ b. same_key key e.0.key ≡ b → cond b (Some e.1) (lookup (same_key key) (entries_of es)) ≡ None → IsOther key e × AllByRecursion (IsOther key) es) [
-  | true ↦ λ t h. cc
-  | false ↦ λ t h. (t, others key es h)
-]) refl none
+others key (e ∷ es) none =
+    (elim (same_key key e.0.key) as
+    (λ b. same_key key e.0.key ≡ b → cond b (Some e.1) (lookup (same_key key) (entries_of es)) ≡ None →
+    IsOther key e × AllByRecursion (IsOther key) es) [
+      | true ↦ λ t h. cc
+      | false ↦ λ t h. (t, others key es h)
+    ]) refl none
 
 fails : (key : Key) (number : ℕ) (e : Numbered × ℕ) → IsOther key e → eq-value.it (numbered key number) e.0 ≡ false
 fails key number e is = test_parts (numbered key number) e.0 ∙ ap (λ (b : Bool). b && eqb number e.0.number) is
@@ -87,7 +90,9 @@ module _ (cache : LruCache Numbered ℕ) (key : Key) (number : ℕ) (apart : All
   -- pushes out the last one of a full cache
   pub put_is : put_entries eq-value.it cache (numbered key number) number ≡ (numbered key number, number) ∷ take (cache.cap - 1) cache.entries
   put_is =
-      ap (λ (o : Option (Numbered × ℕ)). option_map_or (λ e. (e.0, number) ∷ remove_entry (eq-value.it (numbered key number)) cache.entries) o ((numbered key number, number) ∷ take (cache.cap - 1) cache.entries))
+      ap (λ (o : Option (Numbered × ℕ)). option_map_or
+      (λ e. (e.0, number) ∷ remove_entry (eq-value.it (numbered key number)) cache.entries) o
+      ((numbered key number, number) ∷ take (cache.cap - 1) cache.entries))
       (unmatched key number cache.entries apart)
 
   pub displaced_is : displaced eq-value.it cache (numbered key number) number ≡ slice_get cache.entries (cache.cap - 1)
@@ -228,14 +233,19 @@ module _ (numbers put : FlowNumbers) (es : List (Numbered × ℕ)) (key : Key) (
   }
   indexed-begun after i (Some last) few at gone =
       let Gone : Key → Type 0 = λ q. same_key last.0.key q ≡ false in
-      let there : slice_get (entries_of es) i ≡ Some (last.0.key, last.1) = slice_get-map (plain_entry named) es i ∙ ap (option_map (plain_entry named)) at in
+      let there : slice_get (entries_of es) i ≡ Some (last.0.key, last.1) =
+      slice_get-map (plain_entry named) es i ∙ ap (option_map (plain_entry named)) at in
       let left : AllByRecursion (λ (e : Numbered × ℕ). Gone e.0.key) (take i es) =
-      by_numbers Gone (take i es) (subst (AllByRecursion (λ (e : Key × ℕ). Gone e.0)) (sym (entries-take i es)) (apart-from same_key same_key-flips i (entries_of es) (last.0.key, last.1) indexed.apart there)) in
+      by_numbers Gone (take i es)
+      (subst (AllByRecursion (λ (e : Key × ℕ). Gone e.0))
+      (sym (entries-take i es))
+      (apart-from same_key same_key-flips i (entries_of es) (last.0.key, last.1) indexed.apart there)) in
       let stays : (q : Key) → Gone q → number_in after q ≡ number_in put q =
       λ q r. gone q ∙ ap (λ (b : Bool). cond b None (number_in put q)) r in
       record {
         found = (
-          stays key (same_key-flips key last.0.key (all-get (IsOther key) es i last at apart)) ∙ puts_at numbers put key key (Some number) true puts (same_key-self key),
+          stays key (same_key-flips key last.0.key (all-get (IsOther key) es i last at apart))
+              ∙ puts_at numbers put key key (Some number) true puts (same_key-self key),
           still numbers after Free Gone (λ q p r. stays q r ∙ puts_at numbers put key q (Some number) false puts p) (take i es)
               (all-take (IsOther key) i es apart) left (all-take (HasNumber numbers) i es indexed.found),
         );

@@ -44,7 +44,10 @@ module _ {K N V : Type 0} (part : N → K) where
     entry-plain [] alike = refl
     entry-plain (e ∷ es) alike = ap (λ (b : Bool). option_map plain_entry (cond b (Some e) (lookup_entry test es))) alike.0 ∙ by (by_part (part e.0)) (entry-plain es alike.1)
       where
-        by : (b : Bool) → option_map plain_entry (lookup_entry test es) ≡ lookup_entry by_part (plain es) → option_map plain_entry (cond b (Some e) (lookup_entry test es)) ≡ cond b (Some (plain_entry e)) (lookup_entry by_part (plain es))
+        by : (b : Bool)
+            → option_map plain_entry (lookup_entry test es) ≡ lookup_entry by_part (plain es)
+            → option_map plain_entry (cond b (Some e) (lookup_entry test es)) ≡
+            cond b (Some (plain_entry e)) (lookup_entry by_part (plain es))
         by true later = refl
         by false later = later
 
@@ -52,7 +55,9 @@ module _ {K N V : Type 0} (part : N → K) where
     remove-plain [] alike = refl
     remove-plain (e ∷ es) alike = ap (λ (b : Bool). plain (cond b es (e ∷ remove_entry test es))) alike.0 ∙ by (by_part (part e.0)) (remove-plain es alike.1)
       where
-        by : (b : Bool) → plain (remove_entry test es) ≡ remove_entry by_part (plain es) → plain (cond b es (e ∷ remove_entry test es)) ≡ cond b (plain es) (plain_entry e ∷ remove_entry by_part (plain es))
+        by : (b : Bool)
+            → plain (remove_entry test es) ≡ remove_entry by_part (plain es)
+            → plain (cond b es (e ∷ remove_entry test es)) ≡ cond b (plain es) (plain_entry e ∷ remove_entry by_part (plain es))
         by true later = refl
         by false later = ap (λ (l : List (K × V)). plain_entry e ∷ l) later
 
@@ -68,13 +73,21 @@ module _ {K V : Type 0} (by : K → Bool) where
   module _ (test : K → Bool) where
     unless_removed : (es : List (K × V)) (e : K × V) → lookup_entry test es ≡ Some e → by e.0 ≡ false → lookup by (remove_entry test es) ≡ None → lookup by es ≡ None
     unless_removed [] e is off none = refl
-    unless_removed (f ∷ es) e is off none = (elim (test f.0) as (λ b. cond b (Some f) (lookup_entry test es) ≡ Some e → lookup by (cond b es (f ∷ remove_entry test es)) ≡ None → cond (by f.0) (Some f.1) (lookup by es) ≡ None) [
-      | true ↦ λ is none. let same : f ≡ e = cc in ap (λ (b : Bool). cond {A = Option V} b (Some f.1) (lookup by es)) (ap (λ (g : K × V). by g.0) same ∙ off) ∙ none
-      | false ↦ λ is none. (elim (by f.0) as (λ b. cond {A = Option V} b (Some f.1) (lookup by (remove_entry test es)) ≡ None → cond b (Some f.1) (lookup by es) ≡ None) [
-        | true ↦ λ none. none
-        | false ↦ λ none. unless_removed es e is off none
-      ]) none
-    ]) is none
+    unless_removed (f ∷ es) e is off none =
+        (elim (test f.0) as
+        (λ b. cond b (Some f) (lookup_entry test es) ≡ Some e → lookup by (cond b es (f ∷ remove_entry test es)) ≡ None →
+        cond (by f.0) (Some f.1) (lookup by es) ≡ None) [
+          | true ↦ λ is none.
+              let same : f ≡ e = cc in
+              ap (λ (b : Bool). cond {A = Option V} b (Some f.1) (lookup by es)) (ap (λ (g : K × V). by g.0) same ∙ off) ∙ none
+          | false ↦ λ is none.
+              (elim (by f.0) as
+              (λ b. cond {A = Option V} b (Some f.1) (lookup by (remove_entry test es)) ≡ None →
+              cond b (Some f.1) (lookup by es) ≡ None) [
+                | true ↦ λ none. none
+                | false ↦ λ none. unless_removed es e is off none
+              ]) none
+        ]) is none
 
     pub unless_promoted : (es : List (K × V)) → lookup by (promoted test es) ≡ None → lookup by es ≡ None
     unless_promoted es none = (elim (lookup_entry test es) as (λ o. lookup_entry test es ≡ o → lookup by (option_map_or (λ e. e ∷ remove_entry test es) o es) ≡ None → lookup by es ≡ None) [
@@ -165,13 +178,20 @@ module _ {K V : Type 0} (same : K → K → Bool) (flips : (a b : K) → same a 
   ]
 
   -- an entry that is found is apart from the others
-  apart-found : (test : K → Bool) (es : List (K × V)) (f : K × V) → lookup_entry test es ≡ Some f → IsDistinct same (keys_of es) → AllByRecursion (λ y. same f.0 y ≡ false) (keys_of (remove_entry test es))
+  apart-found : (test : K → Bool) (es : List (K × V)) (f : K × V)
+      → lookup_entry test es ≡ Some f
+      → IsDistinct same (keys_of es)
+      → AllByRecursion (λ y. same f.0 y ≡ false) (keys_of (remove_entry test es))
   unfolding IsDistinct
   apart-found test [] f is apart = cc
-  apart-found test (e ∷ es) f is apart = (elim (test e.0) as (λ b. cond b (Some e) (lookup_entry test es) ≡ Some f → AllByRecursion (λ y. same f.0 y ≡ false) (keys_of (cond b es (e ∷ remove_entry test es)))) [
-    | true ↦ λ is. let one : e ≡ f = cc in subst (λ (g : K × V). AllByRecursion (λ y. same g.0 y ≡ false) (keys_of es)) one apart.0
-    | false ↦ λ is. (flips e.0 f.0 (keys-entry test (λ y. same e.0 y ≡ false) es f is apart.0), apart-found test es f is apart.1)
-  ]) is
+  apart-found test (e ∷ es) f is apart =
+      (elim (test e.0) as
+      (λ b. cond b (Some e) (lookup_entry test es) ≡ Some f →
+      AllByRecursion (λ y. same f.0 y ≡ false) (keys_of (cond b es (e ∷ remove_entry test es)))) [
+        | true ↦ λ is.
+            let one : e ≡ f = cc in subst (λ (g : K × V). AllByRecursion (λ y. same g.0 y ≡ false) (keys_of es)) one apart.0
+        | false ↦ λ is. (flips e.0 f.0 (keys-entry test (λ y. same e.0 y ≡ false) es f is apart.0), apart-found test es f is apart.1)
+      ]) is
 
   pub distinct-promoted : (test : K → Bool) (es : List (K × V)) → IsDistinct same (keys_of es) → IsDistinct same (keys_of (promoted test es))
   unfolding IsDistinct

@@ -10,5 +10,16 @@ returns-clause-appended c =
     let u = c.utc_time-utc.ensures.utc in
     let t = c.utc_time-utc.result in
     on_ok_weaker c.push_pieces.result
-    (λ e. e ∙ ap (λ (x : List ℕ). c.args.out.now.items ++ x) (rw (c.two_digits.ensures, c.two_digits-2.ensures, c.two_digits-3.ensures, c.two_digits-4.ensures, c.two_digits-5.ensures, c.six_digits.ensures) (time_text-pieces c.args.moment.nanos t.month t.day t.hour t.minute t.second t.microsecond u.month u.day u.hour u.minute u.second u.microsecond)))
+    (λ e. e ∙
+    ap (λ (x : List ℕ). c.args.out.now.items ++ x)
+    (rw (
+      c.two_digits.ensures,
+      c.two_digits-2.ensures,
+      c.two_digits-3.ensures,
+      c.two_digits-4.ensures,
+      c.two_digits-5.ensures,
+      c.six_digits.ensures,
+    )
+    (time_text-pieces c.args.moment.nanos t.month t.day t.hour t.minute t.second t.microsecond u.month u.day u.hour u.minute
+    u.second u.microsecond)))
     c.push_pieces.ensures.appended

@@ -13,4 +13,6 @@ pub returns-in-None-2 : goal.returns-in-None-2
 returns-in-None-2 c = ported_no_address c.args.word.now c.in-Some.front.now c.in-Some.digits.now c.in-Some.ensures (rw c.in-None-2.is at c.in_ok-address-in-Some-port.ensures)
 
 pub returns-in-Some-2 : goal.returns-in-Some-2
-returns-in-Some-2 c = ported_whole c.args.word.now c.in-Some.front.now c.in-Some.digits.now c.in-Some.ensures c.in-Some-2.address c.in-Some-port.port c.in-Some-port.ensures (rw c.in-Some-2.is at c.in_ok-address-in-Some-port.ensures)
+returns-in-Some-2 c =
+    ported_whole c.args.word.now c.in-Some.front.now c.in-Some.digits.now c.in-Some.ensures c.in-Some-2.address
+    c.in-Some-port.port c.in-Some-port.ensures (rw c.in-Some-2.is at c.in_ok-address-in-Some-port.ensures)

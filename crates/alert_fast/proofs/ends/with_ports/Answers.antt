@@ -10,4 +10,7 @@ pub returns-in-None-2 : goal.returns-in-None-2
 returns-in-None-2 c = with_no_target c.args.from.now c.args.to.now (rw c.in-None-2.is at c.in_ok-ported-in-Some.ensures)
 
 pub returns-in-Some-2 : goal.returns-in-Some-2
-returns-in-Some-2 c = with_ends c.args.from.now c.args.to.now c.in-Some.src c.in-Some-2.dst c.in-Some.sport c.in-Some-2.dport (rw c.in-Some.is at c.in_ok-ported.ensures) (rw c.in-Some-2.is at c.in_ok-ported-in-Some.ensures)
+returns-in-Some-2 c =
+    with_ends c.args.from.now c.args.to.now c.in-Some.src c.in-Some-2.dst c.in-Some.sport c.in-Some-2.dport
+    (rw c.in-Some.is at c.in_ok-ported.ensures)
+    (rw c.in-Some-2.is at c.in_ok-ported-in-Some.ensures)

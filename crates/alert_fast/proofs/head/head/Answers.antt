@@ -10,25 +10,42 @@ use Rattle.alert_fast.proofs.ReadBack.Fronts.{both_front, both_none, both_no, fo
 use Rattle.alert_fast.proofs.head.head.Goals as goal
 
 pub returns-in_err-when : goal.returns-in_err-when
-returns-in_err-when c = rw c.from_residual.ensures (both_none IsLineTime (followed time_text (codes " [**] [")) AreNumbers (followed numbers_text (codes " ")) c.args.text.now (followed_none IsLineTime time_text (codes " [**] [") c.args.text.now c.in_err-when.ensures))
+returns-in_err-when c =
+    rw c.from_residual.ensures
+    (both_none IsLineTime (followed time_text (codes " [**] [")) AreNumbers (followed numbers_text (codes " ")) c.args.text.now
+    (followed_none IsLineTime time_text (codes " [**] [") c.args.text.now c.in_err-when.ensures))
 
 pub returns-in_err-after : goal.returns-in_err-after
-returns-in_err-after c = rw c.from_residual-in_err-after.ensures (both_none IsLineTime (followed time_text (codes " [**] [")) AreNumbers (followed numbers_text (codes " ")) c.args.text.now (followed_no IsLineTime time_text (codes " [**] [") c.args.text.now c.in_ok-when.following.now c.in_ok-when.when c.in_ok-when.ensures c.in_err-after.ensures))
+returns-in_err-after c =
+    rw c.from_residual-in_err-after.ensures
+    (both_none IsLineTime (followed time_text (codes " [**] [")) AreNumbers (followed numbers_text (codes " ")) c.args.text.now
+    (followed_no IsLineTime time_text (codes " [**] [") c.args.text.now c.in_ok-when.following.now c.in_ok-when.when
+    c.in_ok-when.ensures c.in_err-after.ensures))
 
 pub returns-in_err-marks : goal.returns-in_err-marks
 returns-in_err-marks c =
-    rw c.from_residual-in_err-marks.ensures (both_no IsLineTime (followed time_text (codes " [**] [")) AreNumbers (followed numbers_text (codes " ")) c.args.text.now c.in_ok-after.after.now c.in_ok-when.when
-    (followed_front IsLineTime time_text (codes " [**] [") c.args.text.now c.in_ok-when.following.now c.in_ok-after.after.now c.in_ok-when.when c.in_ok-when.ensures c.in_ok-after.ensures)
+    rw c.from_residual-in_err-marks.ensures
+    (both_no IsLineTime (followed time_text (codes " [**] [")) AreNumbers (followed numbers_text (codes " ")) c.args.text.now
+    c.in_ok-after.after.now c.in_ok-when.when
+    (followed_front IsLineTime time_text (codes " [**] [") c.args.text.now c.in_ok-when.following.now c.in_ok-after.after.now
+    c.in_ok-when.when c.in_ok-when.ensures c.in_ok-after.ensures)
     (followed_none AreNumbers numbers_text (codes " ") c.in_ok-after.after.now c.in_err-marks.ensures))
 
 pub returns-in_err-rest : goal.returns-in_err-rest
 returns-in_err-rest c =
-    rw c.from_residual-in_err-rest.ensures (both_no IsLineTime (followed time_text (codes " [**] [")) AreNumbers (followed numbers_text (codes " ")) c.args.text.now c.in_ok-after.after.now c.in_ok-when.when
-    (followed_front IsLineTime time_text (codes " [**] [") c.args.text.now c.in_ok-when.following.now c.in_ok-after.after.now c.in_ok-when.when c.in_ok-when.ensures c.in_ok-after.ensures)
-    (followed_no AreNumbers numbers_text (codes " ") c.in_ok-after.after.now c.in_ok-marks.later.now c.in_ok-marks.marks c.in_ok-marks.ensures c.in_err-rest.ensures))
+    rw c.from_residual-in_err-rest.ensures
+    (both_no IsLineTime (followed time_text (codes " [**] [")) AreNumbers (followed numbers_text (codes " ")) c.args.text.now
+    c.in_ok-after.after.now c.in_ok-when.when
+    (followed_front IsLineTime time_text (codes " [**] [") c.args.text.now c.in_ok-when.following.now c.in_ok-after.after.now
+    c.in_ok-when.when c.in_ok-when.ensures c.in_ok-after.ensures)
+    (followed_no AreNumbers numbers_text (codes " ") c.in_ok-after.after.now c.in_ok-marks.later.now c.in_ok-marks.marks
+    c.in_ok-marks.ensures c.in_err-rest.ensures))
 
 pub returns : goal.returns
 returns c =
-    both_front IsLineTime (followed time_text (codes " [**] [")) AreNumbers (followed numbers_text (codes " ")) c.args.text.now c.in_ok-after.after.now c.in_ok-rest.rest.now c.in_ok-when.when c.in_ok-marks.marks
-    (followed_front IsLineTime time_text (codes " [**] [") c.args.text.now c.in_ok-when.following.now c.in_ok-after.after.now c.in_ok-when.when c.in_ok-when.ensures c.in_ok-after.ensures)
-    (followed_front AreNumbers numbers_text (codes " ") c.in_ok-after.after.now c.in_ok-marks.later.now c.in_ok-rest.rest.now c.in_ok-marks.marks c.in_ok-marks.ensures c.in_ok-rest.ensures)
+    both_front IsLineTime (followed time_text (codes " [**] [")) AreNumbers (followed numbers_text (codes " ")) c.args.text.now
+    c.in_ok-after.after.now c.in_ok-rest.rest.now c.in_ok-when.when c.in_ok-marks.marks
+    (followed_front IsLineTime time_text (codes " [**] [") c.args.text.now c.in_ok-when.following.now c.in_ok-after.after.now
+    c.in_ok-when.when c.in_ok-when.ensures c.in_ok-after.ensures)
+    (followed_front AreNumbers numbers_text (codes " ") c.in_ok-after.after.now c.in_ok-marks.later.now c.in_ok-rest.rest.now
+    c.in_ok-marks.marks c.in_ok-marks.ensures c.in_ok-rest.ensures)

@@ -11,7 +11,12 @@ pub returns-in_err-first : goal.returns-in_err-first
 returns-in_err-first c = rw c.from_residual.ensures (both_none IsTwo (ended (digits 2) 58) IsTwo (ended (digits 2) 58) c.args.text.now c.in_err-first.ensures)
 
 pub returns-in_err-minute : goal.returns-in_err-minute
-returns-in_err-minute c = rw c.from_residual-in_err-minute.ensures (both_no IsTwo (ended (digits 2) 58) IsTwo (ended (digits 2) 58) c.args.text.now c.in_ok-first.following.now c.in_ok-first.first c.in_ok-first.ensures c.in_err-minute.ensures)
+returns-in_err-minute c =
+    rw c.from_residual-in_err-minute.ensures
+    (both_no IsTwo (ended (digits 2) 58) IsTwo (ended (digits 2) 58) c.args.text.now c.in_ok-first.following.now
+    c.in_ok-first.first c.in_ok-first.ensures c.in_err-minute.ensures)
 
 pub returns : goal.returns
-returns c = both_front IsTwo (ended (digits 2) 58) IsTwo (ended (digits 2) 58) c.args.text.now c.in_ok-first.following.now c.in_ok-minute.rest.now c.in_ok-first.first c.in_ok-minute.minute c.in_ok-first.ensures c.in_ok-minute.ensures
+returns c =
+    both_front IsTwo (ended (digits 2) 58) IsTwo (ended (digits 2) 58) c.args.text.now c.in_ok-first.following.now
+    c.in_ok-minute.rest.now c.in_ok-first.first c.in_ok-minute.minute c.in_ok-first.ensures c.in_ok-minute.ensures

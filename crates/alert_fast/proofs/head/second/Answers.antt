@@ -11,7 +11,12 @@ pub returns-in_err-first : goal.returns-in_err-first
 returns-in_err-first c = rw c.from_residual.ensures (both_none IsTwo (ended (digits 2) 46) IsMicros (ended (digits 6) 32) c.args.text.now c.in_err-first.ensures)
 
 pub returns-in_err-micros : goal.returns-in_err-micros
-returns-in_err-micros c = rw c.from_residual-in_err-micros.ensures (both_no IsTwo (ended (digits 2) 46) IsMicros (ended (digits 6) 32) c.args.text.now c.in_ok-first.following.now c.in_ok-first.first c.in_ok-first.ensures c.in_err-micros.ensures)
+returns-in_err-micros c =
+    rw c.from_residual-in_err-micros.ensures
+    (both_no IsTwo (ended (digits 2) 46) IsMicros (ended (digits 6) 32) c.args.text.now c.in_ok-first.following.now
+    c.in_ok-first.first c.in_ok-first.ensures c.in_err-micros.ensures)
 
 pub returns : goal.returns
-returns c = both_front IsTwo (ended (digits 2) 46) IsMicros (ended (digits 6) 32) c.args.text.now c.in_ok-first.following.now c.in_ok-micros.rest.now c.in_ok-first.first c.in_ok-micros.micros c.in_ok-first.ensures c.in_ok-micros.ensures
+returns c =
+    both_front IsTwo (ended (digits 2) 46) IsMicros (ended (digits 6) 32) c.args.text.now c.in_ok-first.following.now
+    c.in_ok-micros.rest.now c.in_ok-first.first c.in_ok-micros.micros c.in_ok-first.ensures c.in_ok-micros.ensures

@@ -12,7 +12,13 @@ pub returns-in_err-back : goal.returns-in_err-back
 returns-in_err-back c = rw c.from_residual-in_err-back.ensures (arrow_no c.args.text.now c.in_ok-from.from.now c.in_ok-from.following.now c.in_ok-from.ensures c.in_err-back.ensures)
 
 pub returns-in_err-to : goal.returns-in_err-to
-returns-in_err-to c = rw c.from_residual-in_err-to.ensures (arrow_nowhere c.args.text.now c.in_ok-from.from.now c.in_ok-from.following.now c.in_ok-from.ensures c.in_ok-back.back.now c.in_ok-back.ensures c.in_err-to.ensures)
+returns-in_err-to c =
+    rw c.from_residual-in_err-to.ensures
+    (arrow_nowhere c.args.text.now c.in_ok-from.from.now c.in_ok-from.following.now c.in_ok-from.ensures c.in_ok-back.back.now
+    c.in_ok-back.ensures c.in_err-to.ensures)
 
 pub returns-else-is_empty : goal.returns-else-is_empty
-returns-else-is_empty c = arrow_more c.args.text.now c.in_ok-from.from.now c.in_ok-from.following.now c.in_ok-from.ensures c.in_ok-back.back.now c.in_ok-back.ensures c.in_ok-to.to.now c.in_ok-to.left.now c.in_ok-to.ensures (λ e. true≢false (sym (eq-eqb (length c.in_ok-to.left.now) 0 (ap length e)) ∙ sym c.is_empty.ensures ∙ c.if-is_empty.false))
+returns-else-is_empty c =
+    arrow_more c.args.text.now c.in_ok-from.from.now c.in_ok-from.following.now c.in_ok-from.ensures c.in_ok-back.back.now
+    c.in_ok-back.ensures c.in_ok-to.to.now c.in_ok-to.left.now c.in_ok-to.ensures
+    (λ e. true≢false (sym (eq-eqb (length c.in_ok-to.left.now) 0 (ap length e)) ∙ sym c.is_empty.ensures ∙ c.if-is_empty.false))

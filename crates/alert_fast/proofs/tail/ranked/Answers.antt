@@ -10,25 +10,49 @@ use Rattle.alert_fast.proofs.ReadBack.Fronts.{both_front, both_none, both_no, fo
 use Rattle.alert_fast.proofs.tail.ranked.Goals as goal
 
 pub returns-in_err-priority : goal.returns-in_err-priority
-returns-in_err-priority c = rw c.from_residual.ensures (both_none IsNumber (followed (ended decimal 93) (codes " {")) IsProtocol (followed (ended protocol_text 125) (codes " ")) c.args.text.now (followed_none IsNumber (ended decimal 93) (codes " {") c.args.text.now c.in_err-priority.ensures))
+returns-in_err-priority c =
+    rw c.from_residual.ensures
+    (both_none IsNumber (followed (ended decimal 93) (codes " {")) IsProtocol
+    (followed (ended protocol_text 125) (codes " "))
+    c.args.text.now
+    (followed_none IsNumber (ended decimal 93) (codes " {") c.args.text.now c.in_err-priority.ensures))
 
 pub returns-in_err-after : goal.returns-in_err-after
-returns-in_err-after c = rw c.from_residual-in_err-after.ensures (both_none IsNumber (followed (ended decimal 93) (codes " {")) IsProtocol (followed (ended protocol_text 125) (codes " ")) c.args.text.now (followed_no IsNumber (ended decimal 93) (codes " {") c.args.text.now c.in_ok-priority.following.now c.in_ok-priority.priority c.in_ok-priority.ensures c.in_err-after.ensures))
+returns-in_err-after c =
+    rw c.from_residual-in_err-after.ensures
+    (both_none IsNumber (followed (ended decimal 93) (codes " {")) IsProtocol
+    (followed (ended protocol_text 125) (codes " "))
+    c.args.text.now
+    (followed_no IsNumber (ended decimal 93) (codes " {") c.args.text.now c.in_ok-priority.following.now c.in_ok-priority.priority
+    c.in_ok-priority.ensures c.in_err-after.ensures))
 
 pub returns-in_err-named : goal.returns-in_err-named
 returns-in_err-named c =
-    rw c.from_residual-in_err-named.ensures (both_no IsNumber (followed (ended decimal 93) (codes " {")) IsProtocol (followed (ended protocol_text 125) (codes " ")) c.args.text.now c.in_ok-after.after.now c.in_ok-priority.priority
-    (followed_front IsNumber (ended decimal 93) (codes " {") c.args.text.now c.in_ok-priority.following.now c.in_ok-after.after.now c.in_ok-priority.priority c.in_ok-priority.ensures c.in_ok-after.ensures)
+    rw c.from_residual-in_err-named.ensures
+    (both_no IsNumber (followed (ended decimal 93) (codes " {")) IsProtocol
+    (followed (ended protocol_text 125) (codes " "))
+    c.args.text.now c.in_ok-after.after.now c.in_ok-priority.priority
+    (followed_front IsNumber (ended decimal 93) (codes " {") c.args.text.now c.in_ok-priority.following.now
+    c.in_ok-after.after.now c.in_ok-priority.priority c.in_ok-priority.ensures c.in_ok-after.ensures)
     (followed_none IsProtocol (ended protocol_text 125) (codes " ") c.in_ok-after.after.now c.in_err-named.ensures))
 
 pub returns-in_err-rest : goal.returns-in_err-rest
 returns-in_err-rest c =
-    rw c.from_residual-in_err-rest.ensures (both_no IsNumber (followed (ended decimal 93) (codes " {")) IsProtocol (followed (ended protocol_text 125) (codes " ")) c.args.text.now c.in_ok-after.after.now c.in_ok-priority.priority
-    (followed_front IsNumber (ended decimal 93) (codes " {") c.args.text.now c.in_ok-priority.following.now c.in_ok-after.after.now c.in_ok-priority.priority c.in_ok-priority.ensures c.in_ok-after.ensures)
-    (followed_no IsProtocol (ended protocol_text 125) (codes " ") c.in_ok-after.after.now c.in_ok-named.later.now c.in_ok-named.named c.in_ok-named.ensures c.in_err-rest.ensures))
+    rw c.from_residual-in_err-rest.ensures
+    (both_no IsNumber (followed (ended decimal 93) (codes " {")) IsProtocol
+    (followed (ended protocol_text 125) (codes " "))
+    c.args.text.now c.in_ok-after.after.now c.in_ok-priority.priority
+    (followed_front IsNumber (ended decimal 93) (codes " {") c.args.text.now c.in_ok-priority.following.now
+    c.in_ok-after.after.now c.in_ok-priority.priority c.in_ok-priority.ensures c.in_ok-after.ensures)
+    (followed_no IsProtocol (ended protocol_text 125) (codes " ") c.in_ok-after.after.now c.in_ok-named.later.now
+    c.in_ok-named.named c.in_ok-named.ensures c.in_err-rest.ensures))
 
 pub returns : goal.returns
 returns c =
-    both_front IsNumber (followed (ended decimal 93) (codes " {")) IsProtocol (followed (ended protocol_text 125) (codes " ")) c.args.text.now c.in_ok-after.after.now c.in_ok-rest.rest.now c.in_ok-priority.priority c.in_ok-named.named
-    (followed_front IsNumber (ended decimal 93) (codes " {") c.args.text.now c.in_ok-priority.following.now c.in_ok-after.after.now c.in_ok-priority.priority c.in_ok-priority.ensures c.in_ok-after.ensures)
-    (followed_front IsProtocol (ended protocol_text 125) (codes " ") c.in_ok-after.after.now c.in_ok-named.later.now c.in_ok-rest.rest.now c.in_ok-named.named c.in_ok-named.ensures c.in_ok-rest.ensures)
+    both_front IsNumber (followed (ended decimal 93) (codes " {")) IsProtocol
+    (followed (ended protocol_text 125) (codes " "))
+    c.args.text.now c.in_ok-after.after.now c.in_ok-rest.rest.now c.in_ok-priority.priority c.in_ok-named.named
+    (followed_front IsNumber (ended decimal 93) (codes " {") c.args.text.now c.in_ok-priority.following.now
+    c.in_ok-after.after.now c.in_ok-priority.priority c.in_ok-priority.ensures c.in_ok-after.ensures)
+    (followed_front IsProtocol (ended protocol_text 125) (codes " ") c.in_ok-after.after.now c.in_ok-named.later.now
+    c.in_ok-rest.rest.now c.in_ok-named.named c.in_ok-named.ensures c.in_ok-rest.ensures)

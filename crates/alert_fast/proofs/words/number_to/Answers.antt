@@ -11,7 +11,12 @@ pub returns-in_err-word : goal.returns-in_err-word
 returns-in_err-word c = rw c.from_residual.ensures (ended_nowhere IsNumber decimal c.args.end c.args.text.now c.in_err-word.ensures)
 
 pub returns-in_err-value : goal.returns-in_err-value
-returns-in_err-value c = rw c.from_residual-in_err-value.ensures (ended_no IsNumber decimal c.args.end c.args.text.now c.in_ok-word.word.now c.in_ok-word.rest.now (free_number c.args.end c.requires) c.in_ok-word.ensures c.in_err-value.ensures)
+returns-in_err-value c =
+    rw c.from_residual-in_err-value.ensures
+    (ended_no IsNumber decimal c.args.end c.args.text.now c.in_ok-word.word.now c.in_ok-word.rest.now
+    (free_number c.args.end c.requires) c.in_ok-word.ensures c.in_err-value.ensures)
 
 pub returns : goal.returns
-returns c = ended_front IsNumber decimal c.args.end c.args.text.now c.in_ok-word.word.now c.in_ok-word.rest.now c.in_ok-value.value (free_number c.args.end c.requires) c.in_ok-word.ensures c.in_ok-value.ensures
+returns c =
+    ended_front IsNumber decimal c.args.end c.args.text.now c.in_ok-word.word.now c.in_ok-word.rest.now c.in_ok-value.value
+    (free_number c.args.end c.requires) c.in_ok-word.ensures c.in_ok-value.ensures

@@ -17,6 +17,9 @@ returns-then-eq c =
 
 pub returns-else-eq : goal.returns-else-eq
 returns-else-eq c =
-    let same = slice_eq-Decides (λ a b. (eqb-true a b, eq-eqb a b)) c.as_bytes.result.now c.args.word.now c.eq.result c.eq.ensures in
+    let same =
+    slice_eq-Decides (λ a b. (eqb-true a b, eq-eqb a b)) c.as_bytes.result.now c.args.word.now c.eq.result c.eq.ensures in
     let text = c.as_bytes.ensures.value ∙ c.format.ensures.text in
-    no_whole IsPort decimal value_of_port c.args.word.now (c.read_value.result % 2 ^ 16) (λ n small e. omega (arith, small, e, c.read_value.ensures)) (λ e. true≢false (sym (same.1 (text ∙ e)) ∙ c.if-eq.false))
+    no_whole IsPort decimal value_of_port c.args.word.now (c.read_value.result % 2 ^ 16)
+    (λ n small e. omega (arith, small, e, c.read_value.ensures))
+    (λ e. true≢false (sym (same.1 (text ∙ e)) ∙ c.if-eq.false))

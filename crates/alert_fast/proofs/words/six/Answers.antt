@@ -17,6 +17,9 @@ returns-then-eq c =
 
 pub returns-else-eq : goal.returns-else-eq
 returns-else-eq c =
-    let same = slice_eq-Decides (λ a b. (eqb-true a b, eq-eqb a b)) c.as_slice.result.now c.args.word.now c.eq.result c.eq.ensures in
+    let same =
+    slice_eq-Decides (λ a b. (eqb-true a b, eq-eqb a b)) c.as_slice.result.now c.args.word.now c.eq.result c.eq.ensures in
     let text = c.as_slice.ensures ∙ c.six_digits.ensures in
-    no_whole IsMicros (digits 6) value_of_six c.args.word.now (c.read_value-value.result % 1_000_000) (λ n small e. omega (arith, small, e, c.read_value-value.ensures)) (λ e. true≢false (sym (same.1 (text ∙ e)) ∙ c.if-eq.false))
+    no_whole IsMicros (digits 6) value_of_six c.args.word.now (c.read_value-value.result % 1_000_000)
+    (λ n small e. omega (arith, small, e, c.read_value-value.ensures))
+    (λ e. true≢false (sym (same.1 (text ∙ e)) ∙ c.if-eq.false))

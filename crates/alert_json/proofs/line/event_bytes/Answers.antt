@@ -8,8 +8,13 @@ use Rattle.alert_json.proofs.line.event_bytes.Goals as goal
 
 pub returns-clause-text : goal.returns-clause-text
 returns-clause-text c =
-    let w = writes _ _ _ _ _ c.new-writer.ensures.tokens c.in_ok-begin_object.ensures.ok c.in_ok-push_members.ensures.added c.in_ok-end_object.ensures.ok in
-    line-text _ _ _ _ w (c.in_ok-end_object.ensures.room.0 ∙ c.in_ok-push_members.ensures.before ∙ c.in_ok-begin_object.ensures.room.0 ∙ c.new-writer.ensures.before ∙ c.in_ok-text.ensures.items) c.into_inner.ensures.items
+    let w =
+    writes _ _ _ _ _ c.new-writer.ensures.tokens c.in_ok-begin_object.ensures.ok c.in_ok-push_members.ensures.added
+    c.in_ok-end_object.ensures.ok in
+    line-text _ _ _ _ w
+    (c.in_ok-end_object.ensures.room.0 ∙ c.in_ok-push_members.ensures.before ∙ c.in_ok-begin_object.ensures.room.0 ∙
+    c.new-writer.ensures.before ∙ c.in_ok-text.ensures.items)
+    c.into_inner.ensures.items
 
 pub returns-clause-reads_back : goal.returns-clause-reads_back
 returns-clause-reads_back c =

@@ -9,4 +9,6 @@ use Rattle.alert_json.proofs.texts.print_over.Goals as goal
 pub loop-at-preserved : goal.loop-at-preserved
 loop-at-preserved c =
     let old = get_or c.loop-at.text c.loop-at.at 0 in
-    rw c.printable.ensures (map_over_more printable c.args.text.now c.loop-at.text c.loop-at.at old c.loop-at-test.true c.loop-at.invariant (get_or_default c.loop-at.text c.loop-at.at 0 old (omega arith)))
+    rw c.printable.ensures
+    (map_over_more printable c.args.text.now c.loop-at.text c.loop-at.at old c.loop-at-test.true c.loop-at.invariant
+    (get_or_default c.loop-at.text c.loop-at.at 0 old (omega arith)))

@@ -18,11 +18,17 @@ returns-in_err-number g c =
 pub returns-in_err-count : goal.returns-in_err-count
 returns-in_err-count g c =
     let p = err_from_is_err_and c.from_residual-in_err-count.result c.from_residual-in_err-count.ensures.1 in
-    rw (p.1, p.2) (places_part (subject_of c.args.subject.now) c.args.before c.args.places.now c.loop-place.place-index c.loop-place.count c.in_ok-number.number _ _ _ _ c.loop-place-test.true c.in_ok-number.ensures c.loop-place.invariant.shown c.in_err-count.ensures.shown)
+    rw (p.1, p.2)
+    (places_part (subject_of c.args.subject.now) c.args.before c.args.places.now c.loop-place.place-index c.loop-place.count
+    c.in_ok-number.number _ _ _ _ c.loop-place-test.true c.in_ok-number.ensures c.loop-place.invariant.shown
+    c.in_err-count.ensures.shown)
 
 pub loop-place-preserved : goal.loop-place-preserved
 loop-place-preserved g c = record {
-  shown = places_step (subject_of c.args.subject.now) c.args.before c.args.places.now c.loop-place.place-index c.loop-place.count c.in_ok-count.field-0 c.in_ok-number.number _ _ _ c.loop-place-test.true c.in_ok-number.ensures c.loop-place.invariant.shown c.in_ok-count.ensures.shown;
+  shown =
+      places_step (subject_of c.args.subject.now) c.args.before c.args.places.now c.loop-place.place-index c.loop-place.count
+      c.in_ok-count.field-0 c.in_ok-number.number _ _ _ c.loop-place-test.true c.in_ok-number.ensures c.loop-place.invariant.shown
+      c.in_ok-count.ensures.shown;
   few = omega (arith, c.in_ok-count.ensures.few, c.loop-place.invariant.few);
 }
 

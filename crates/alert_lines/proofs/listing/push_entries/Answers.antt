@@ -9,7 +9,9 @@ loop-entry-init c = record { lines = sym (append-nil c.args.out.now.items) }
 
 pub loop-entry-preserved : goal.loop-entry-preserved
 loop-entry-preserved c = record {
-  lines = entries_more c.args.entries.now c.loop-entry.entry-index c.entry-item.result c.args.out.now.items _ _ c.loop-entry-test.true c.entry-item.is c.loop-entry.invariant.lines c.in_ok-push_entry.ensures;
+  lines =
+      entries_more c.args.entries.now c.loop-entry.entry-index c.entry-item.result c.args.out.now.items _ _ c.loop-entry-test.true
+      c.entry-item.is c.loop-entry.invariant.lines c.in_ok-push_entry.ensures;
 }
 
 pub returns : goal.returns

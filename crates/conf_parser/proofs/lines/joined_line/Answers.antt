@@ -8,7 +8,10 @@ use Rattle.conf_parser.proofs.lines.joined_line.Goals as goal
 
 pub joining-init : goal.joining-init
 joining-init c = record {
-  so_far = joined_lines-start c.args.number c.args.text.now c.requires.some ∙ ap (λ f. joined_onto c.args.number f (joined_lines c.args.number (lines c.args.text.now))) (sym c.new-joined.ensures.items);
+  so_far =
+      joined_lines-start c.args.number c.args.text.now c.requires.some
+      ∙ ap (λ f. joined_onto c.args.number f (joined_lines c.args.number (lines c.args.text.now)))
+      (sym c.new-joined.ensures.items);
   few = omega arith;
   shorter = omega arith;
 }

@@ -13,7 +13,9 @@ pub included-returns-then-left-eq0-clause-goes : goal.included-returns-then-left
 included-returns-then-left-eq0-clause-goes g t c = λ seen may. inner-none seen c.args.left c.args.name c.args.at c.args.read c.if-left-eq0.true
 
 pub included-returns-clause-goes : goal.included-returns-clause-goes
-included-returns-clause-goes g t c = λ seen may. inner-some seen c.args.left c.args.name c.args.at c.args.read c.read_file.result (omega (arith, c.if-left-eq0.false)) (c.read_file.ensures.goes seen may)
+included-returns-clause-goes g t c = λ seen may.
+    inner-some seen c.args.left c.args.name c.args.at c.args.read c.read_file.result (omega (arith, c.if-left-eq0.false))
+    (c.read_file.ensures.goes seen may)
 
 pub read_file-returns-clause-goes : goal.read_file-returns-clause-goes
 read_file-returns-clause-goes g t c = λ seen may.

@@ -21,12 +21,17 @@ decreases-read_lines g l = 4 * l.left + 2
 
 abbrev pub invariant-read_lines-lines : goal.invariant-read_lines-lines
 invariant-read_lines-lines g l = record {
-  goes : (seen : Option Files) → MaySee (g.H.Host.contents l.host) (g.H.Host.agrees l.host) seen → Goes seen (file_count l.fn.read) (file_count l.read) (lines_of l.left l.source l.lines l.fn.read) (lines_of l.left l.source l.rest l.read);
+  goes : (seen : Option Files)
+      → MaySee (g.H.Host.contents l.host) (g.H.Host.agrees l.host) seen
+      → Goes seen (file_count l.fn.read) (file_count l.read) (lines_of l.left l.source l.lines l.fn.read)
+      (lines_of l.left l.source l.rest l.read);
   few : file_count l.read ≤ most_files;
   contents : g.H.Host.contents l.host ≡ g.H.Host.contents l.fn.host;
   left : g.H.Host.left l.host ≡ g.H.Host.left l.fn.host;
   left_of : (files : Files) → g.H.Host.left_of l.host files ≡ g.H.Host.left_of l.fn.host files;
-  earlier : (seen : Option Files) → MaySee (g.H.Host.contents l.host) (g.H.Host.agrees l.host) seen → MaySee (g.H.Host.contents l.fn.host) (g.H.Host.agrees l.fn.host) seen;
+  earlier : (seen : Option Files)
+      → MaySee (g.H.Host.contents l.host) (g.H.Host.agrees l.host) seen
+      → MaySee (g.H.Host.contents l.fn.host) (g.H.Host.agrees l.fn.host) seen;
   opens : g.H.Host.opens l.host ≡ g.H.Host.opens l.fn.host;
   quiet : g.H.Host.faults l.host ≡ g.H.Host.faults l.fn.host;
 }

@@ -15,7 +15,10 @@ returns-in-Err-clause-reading_seen g c = λ seen may. record { seen = seen_by se
 
 pub read_file-requires-clause-name : goal.read_file-requires-clause-name
 read_file-requires-clause-name g c =
-    first-may c.args.name.now c.in-Ok.first c.args.vars.now c.nothing_read-before.result (c.in-Ok.ensures ∙ c.as_bytes.ensures.value) (c.nothing_read-before.ensures ∙ ap nothing_read c.replace.ensures.value) c.utf8.name
+    first-may c.args.name.now c.in-Ok.first c.args.vars.now c.nothing_read-before.result
+    (c.in-Ok.ensures ∙ c.as_bytes.ensures.value)
+    (c.nothing_read-before.ensures ∙ ap nothing_read c.replace.ensures.value)
+    c.utf8.name
 
 pub returns-in-Ok-read_file-clause-reading_seen : goal.returns-in-Ok-read_file-clause-reading_seen
 returns-in-Ok-read_file-clause-reading_seen g c = λ seen may.
@@ -26,9 +29,14 @@ returns-in-Ok-read_file-clause-reading_seen g c = λ seen may.
 
 pub returns-in-Ok-read_file-clause-agreed : goal.returns-in-Ok-read_file-clause-agreed
 returns-in-Ok-read_file-clause-agreed g c = λ files agree.
-    told-whole (tt {0}) (Rose (g.H.Host.faults c.args.host.now) (g.H.Host.faults c.read_file.new.host)) (Some files) files (file_count c.in-Ok-read_file.read) c.args.name.now c.args.vars.now c.in-Ok-read_file.read c.hand_out.new.vars c.hand_out.new.out refl
-    (first-goes (Some files) c.args.name.now c.in-Ok.first c.args.vars.now c.nothing_read-before.result (whole c.in-Ok-read_file.read)
-    (c.in-Ok.ensures ∙ c.as_bytes.ensures.value) (c.nothing_read-before.ensures ∙ ap nothing_read c.replace.ensures.value) (c.in-Ok-read_file.ensures.goes (Some files) agree))
+    told-whole (tt {0}) (Rose (g.H.Host.faults c.args.host.now) (g.H.Host.faults c.read_file.new.host))
+    (Some files) files (file_count c.in-Ok-read_file.read) c.args.name.now c.args.vars.now c.in-Ok-read_file.read
+    c.hand_out.new.vars c.hand_out.new.out refl
+    (first-goes (Some files) c.args.name.now c.in-Ok.first c.args.vars.now c.nothing_read-before.result
+    (whole c.in-Ok-read_file.read)
+    (c.in-Ok.ensures ∙ c.as_bytes.ensures.value)
+    (c.nothing_read-before.ensures ∙ ap nothing_read c.replace.ensures.value)
+    (c.in-Ok-read_file.ensures.goes (Some files) agree))
     c.hand_out.ensures.vars c.hand_out.ensures.out
 
 pub returns-in-Err-read_file-clause-reading_seen : goal.returns-in-Err-read_file-clause-reading_seen
@@ -41,10 +49,16 @@ returns-in-Err-read_file-clause-reading_seen g c = λ seen may.
 pub returns-in-Err-read_file-clause-agreed : goal.returns-in-Err-read_file-clause-agreed
 returns-in-Err-read_file-clause-agreed g c = λ files agree.
     let host = c.read_file.new.host in
-    told-stopped (Unit {0}) (Rose (g.H.Host.faults c.args.host.now) (g.H.Host.faults c.read_file.new.host)) (Some files) files c.args.name.now c.args.vars.now c.in-Err-read_file.stopped c.stop_out.result c.replace.new.dest c.stop_out.new.out refl
-    (first-goes (Some files) c.args.name.now c.in-Ok.first c.args.vars.now c.nothing_read-before.result (stopped_at c.in-Err-read_file.stopped)
-    (c.in-Ok.ensures ∙ c.as_bytes.ensures.value) (c.nothing_read-before.ensures ∙ ap nothing_read c.replace.ensures.value) (c.in-Err-read_file.ensures.goes (Some files) agree))
-    (seen_cause _ (g.H.Host.contents c.args.host.now) (g.H.Host.contents host) (g.H.Host.left host) (g.H.Host.agrees host) (g.H.Host.left_of host) c.in-Err-read_file.stopped (Some files)
+    told-stopped (Unit {0}) (Rose (g.H.Host.faults c.args.host.now) (g.H.Host.faults c.read_file.new.host))
+    (Some files) files c.args.name.now c.args.vars.now c.in-Err-read_file.stopped c.stop_out.result c.replace.new.dest
+    c.stop_out.new.out refl
+    (first-goes (Some files) c.args.name.now c.in-Ok.first c.args.vars.now c.nothing_read-before.result
+    (stopped_at c.in-Err-read_file.stopped)
+    (c.in-Ok.ensures ∙ c.as_bytes.ensures.value)
+    (c.nothing_read-before.ensures ∙ ap nothing_read c.replace.ensures.value)
+    (c.in-Err-read_file.ensures.goes (Some files) agree))
+    (seen_cause _ (g.H.Host.contents c.args.host.now) (g.H.Host.contents host) (g.H.Host.left host) (g.H.Host.agrees host)
+    (g.H.Host.left_of host) c.in-Err-read_file.stopped (Some files)
     (g.met.H.Host.as_told host) c.read_file.ensures.only_loaded.files agree c.in-Err-read_file.ensures.cause) c.stop_out.ensures
 
 pub returns-in-Err-clause-reading : goal.returns-in-Err-clause-reading
@@ -54,25 +68,31 @@ pub returns-in-Ok-read_file-clause-reading : goal.returns-in-Ok-read_file-clause
 returns-in-Ok-read_file-clause-reading g c =
     let host = c.read_file.new.host in
     returns-in-Ok-read_file-clause-reading_seen g c (g.H.Host.contents c.args.host.now)
-    (told_before (g.H.Host.contents c.args.host.now) (g.H.Host.contents host) (g.H.Host.left host) (g.H.Host.agrees host) (g.H.Host.left_of host) (g.met.H.Host.as_told host) c.read_file.ensures.only_loaded.files)
+    (told_before (g.H.Host.contents c.args.host.now) (g.H.Host.contents host) (g.H.Host.left host) (g.H.Host.agrees host)
+    (g.H.Host.left_of host) (g.met.H.Host.as_told host) c.read_file.ensures.only_loaded.files)
 
 pub returns-in-Ok-read_file-clause-told : goal.returns-in-Ok-read_file-clause-told
 returns-in-Ok-read_file-clause-told g c = λ files is.
     let host = c.read_file.new.host in
     returns-in-Ok-read_file-clause-agreed g c files
-    (rw is at (told_before (g.H.Host.contents c.args.host.now) (g.H.Host.contents host) (g.H.Host.left host) (g.H.Host.agrees host) (g.H.Host.left_of host) (g.met.H.Host.as_told host) c.read_file.ensures.only_loaded.files))
+    (rw is at
+    (told_before (g.H.Host.contents c.args.host.now) (g.H.Host.contents host) (g.H.Host.left host) (g.H.Host.agrees host)
+    (g.H.Host.left_of host) (g.met.H.Host.as_told host) c.read_file.ensures.only_loaded.files))
 
 pub returns-in-Err-read_file-clause-reading : goal.returns-in-Err-read_file-clause-reading
 returns-in-Err-read_file-clause-reading g c =
     let host = c.read_file.new.host in
     returns-in-Err-read_file-clause-reading_seen g c (g.H.Host.contents c.args.host.now)
-    (told_before (g.H.Host.contents c.args.host.now) (g.H.Host.contents host) (g.H.Host.left host) (g.H.Host.agrees host) (g.H.Host.left_of host) (g.met.H.Host.as_told host) c.read_file.ensures.only_loaded.files)
+    (told_before (g.H.Host.contents c.args.host.now) (g.H.Host.contents host) (g.H.Host.left host) (g.H.Host.agrees host)
+    (g.H.Host.left_of host) (g.met.H.Host.as_told host) c.read_file.ensures.only_loaded.files)
 
 pub returns-in-Err-read_file-clause-told : goal.returns-in-Err-read_file-clause-told
 returns-in-Err-read_file-clause-told g c = λ files is.
     let host = c.read_file.new.host in
     returns-in-Err-read_file-clause-agreed g c files
-    (rw is at (told_before (g.H.Host.contents c.args.host.now) (g.H.Host.contents host) (g.H.Host.left host) (g.H.Host.agrees host) (g.H.Host.left_of host) (g.met.H.Host.as_told host) c.read_file.ensures.only_loaded.files))
+    (rw is at
+    (told_before (g.H.Host.contents c.args.host.now) (g.H.Host.contents host) (g.H.Host.left host) (g.H.Host.agrees host)
+    (g.H.Host.left_of host) (g.met.H.Host.as_told host) c.read_file.ensures.only_loaded.files))
 
 pub returns-in-Ok-read_file-clause-places : goal.returns-in-Ok-read_file-clause-places
 returns-in-Ok-read_file-clause-places g c =
@@ -80,7 +100,8 @@ returns-in-Ok-read_file-clause-places g c =
 
 pub returns-in-Err-read_file-clause-places : goal.returns-in-Err-read_file-clause-places
 returns-in-Err-read_file-clause-places g c =
-    hold-in {A = Unit {0}} (g.H.Host.contents c.args.host.now) c.args.name.now c.args.vars.now (Err c.stop_out.result) c.replace.new.dest c.stop_out.new.out (returns-in-Err-read_file-clause-reading g c)
+    hold-in {A = Unit {0}} (g.H.Host.contents c.args.host.now) c.args.name.now c.args.vars.now (Err c.stop_out.result)
+    c.replace.new.dest c.stop_out.new.out (returns-in-Err-read_file-clause-reading g c)
 
 pub returns-in-Ok-read_file-clause-sound : goal.returns-in-Ok-read_file-clause-sound
 returns-in-Ok-read_file-clause-sound g c =

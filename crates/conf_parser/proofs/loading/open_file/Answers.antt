@@ -23,5 +23,6 @@ returns-in-Err-clause-goes g c = λ seen may.
 
 pub returns-in-Err-clause-cause : goal.returns-in-Err-clause-cause
 returns-in-Err-clause-cause g c =
-    fault_cause (Rose (g.H.Host.faults c.args.host.now) (g.H.Host.faults c.file_bytes.new.host)) (g.H.Host.contents c.args.host.now) c.args.name c.args.at c.args.read.output c.in-Err.fault c.load_stop.result
+    fault_cause (Rose (g.H.Host.faults c.args.host.now) (g.H.Host.faults c.file_bytes.new.host))
+    (g.H.Host.contents c.args.host.now) c.args.name c.args.at c.args.read.output c.in-Err.fault c.load_stop.result
     (rw c.bytes.ensures at c.in-Err.ensures.failed) c.load_stop.ensures

@@ -9,9 +9,15 @@ pub returns-in-Some-clause-after : goal.returns-in-Some-clause-after
 returns-in-Some-clause-after c =
     let new = c.get_mut.follows.lender c.next_window.result in
     let updates = (c.get_mut.follows.holds c.next_window.result).3 (search rules) in
-    λ key. subst (λ (test : Key → Key → Bool). lookup (test key) new.entries ≡ cond (test c.args.count.key key) (Some c.next_window.result) (lookup (test key) c.args.windows.now.entries)) keys_test (updates.0 key)
+    λ key.
+    subst (λ (test : Key → Key → Bool). lookup (test key) new.entries ≡
+    cond (test c.args.count.key key) (Some c.next_window.result) (lookup (test key) c.args.windows.now.entries)) keys_test
+    (updates.0 key)
 
 pub returns-clause-after : goal.returns-clause-after
 returns-clause-after c =
     let updates = rw c.get_mut.follows.holds-at-none at c.in-Ok.ensures.updates in
-    λ key. subst (λ (test : Key → Key → Bool). lookup (test key) c.insert.new.self.entries ≡ cond (test c.args.count.key key) (Some c.next_window-window.result) (lookup (test key) c.args.windows.now.entries)) keys_test (updates.0 key)
+    λ key.
+    subst (λ (test : Key → Key → Bool). lookup (test key) c.insert.new.self.entries ≡
+    cond (test c.args.count.key key) (Some c.next_window-window.result) (lookup (test key) c.args.windows.now.entries)) keys_test
+    (updates.0 key)

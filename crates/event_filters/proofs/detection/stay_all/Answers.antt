@@ -9,7 +9,11 @@ use Rattle.event_filters.proofs.detection.stay_all.Goals as goal
 pub loop-place-init : goal.loop-place-init
 loop-place-init c =
     let empty : Matched = record { matches = c.args.windows.now.entries; written = [] } in record {
-      stays = subst (λ (written : List ℕ). Stays c.args.rules.now c.args.head.now empty [] (record { matches = c.args.windows.now.entries; written = written })) (sym c.requires.empty) (Stays-none c.args.rules.now c.args.head.now empty);
+      stays =
+          subst (λ (written : List ℕ). Stays c.args.rules.now c.args.head.now empty []
+          (record { matches = c.args.windows.now.entries; written = written }))
+          (sym c.requires.empty)
+          (Stays-none c.args.rules.now c.args.head.now empty);
       room = omega arith;
       few = grind (arith, c.requires.empty, c.args.staying.now.ok.0);
       space = omega arith;

@@ -8,7 +8,10 @@ use Rattle.event_filters.proofs.filtering.keep.Goals as goal
 
 pub returns-then-is_suppressed-clause-keeps : goal.returns-then-is_suppressed-clause-keeps
 returns-then-is_suppressed-clause-keeps c =
-    Keeps-suppressed (lines_of c.args.lines) c.args.head.now (state_of c.args.own.now.entries c.args.global.now.entries c.args.out.now.items) c.args.event (sym c.is_suppressed.ensures ∙ c.if-is_suppressed.true)
+    Keeps-suppressed (lines_of c.args.lines) c.args.head.now
+    (state_of c.args.own.now.entries c.args.global.now.entries c.args.out.now.items)
+    c.args.event
+    (sym c.is_suppressed.ensures ∙ c.if-is_suppressed.true)
 
 pub returns-then-not-lets_through-clause-keeps : goal.returns-then-not-lets_through-clause-keeps
 returns-then-not-lets_through-clause-keeps c =

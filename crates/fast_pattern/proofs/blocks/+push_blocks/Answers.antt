@@ -22,12 +22,18 @@ returns-then-not-share t c =
     let high = a.low + c.size.result - 1 in
     let end : high + 1 ≡ a.low + 2 ^ a.bits = omega (arith, c.size.ensures, pow_pos a.bits) in
     elim c.then-not-share.branch [
-      | then-not-share-via-then-not-share w ↦ add-nothing a.parts.now a.bits a.low high a.blocks.now.items end (sym c.share_of-share.ensures.some ∙ not-true c.share_of-share.result.some w.if-not-share.true)
-      | then-not-share-via-else-not-share+then-bits-eq0 w ↦ add-not-one a.parts.now a.bits a.low high a.blocks.now.items w.if-bits-eq0.true end (sym c.share_of-share.ensures.all ∙ c.if-share.false)
+      | then-not-share-via-then-not-share w ↦
+          add-nothing a.parts.now a.bits a.low high a.blocks.now.items end
+          (sym c.share_of-share.ensures.some ∙ not-true c.share_of-share.result.some w.if-not-share.true)
+      | then-not-share-via-else-not-share+then-bits-eq0 w ↦
+          add-not-one a.parts.now a.bits a.low high a.blocks.now.items w.if-bits-eq0.true end
+          (sym c.share_of-share.ensures.all ∙ c.if-share.false)
     ]
 
 pub returns : goal.returns
 returns t c =
     let a = c.args in
-    let P : ℕ → Type 0 = λ size. AddBlocks a.parts.now (a.bits - 1) (a.low + size) c.push_blocks.new.blocks.items c.push_blocks-2.new.blocks.items in
-    add-parts a.parts.now a.bits a.low a.blocks.now.items c.push_blocks.new.blocks.items c.push_blocks-2.new.blocks.items (omega arith) c.in_ok-push_blocks.ensures (subst P c.size-2.ensures c.in_ok-push_blocks-2.ensures)
+    let P : ℕ → Type 0 =
+    λ size. AddBlocks a.parts.now (a.bits - 1) (a.low + size) c.push_blocks.new.blocks.items c.push_blocks-2.new.blocks.items in
+    add-parts a.parts.now a.bits a.low a.blocks.now.items c.push_blocks.new.blocks.items c.push_blocks-2.new.blocks.items
+    (omega arith) c.in_ok-push_blocks.ensures (subst P c.size-2.ensures c.in_ok-push_blocks-2.ensures)

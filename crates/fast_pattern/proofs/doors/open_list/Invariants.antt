@@ -7,4 +7,7 @@ use Rattle.fast_pattern.specs.Doors.{is_all, OpensPart}
 use Rattle.fast_pattern.proofs.doors.open_list.Given as goal
 
 abbrev pub invariant-loop-range : goal.invariant-loop-range
-invariant-loop-range l = KeepsSlots l.fn.table l.table × (length l.ports ≡ 0 → is_all l.table l.part ≡ true) × ((k : ℕ) (d : Part (Bounds ℕ)) → k < l.range-index → OpensPart l.part l.table (get_or l.ports k d))
+invariant-loop-range l =
+    KeepsSlots l.fn.table l.table
+    × (length l.ports ≡ 0 → is_all l.table l.part ≡ true)
+    × ((k : ℕ) (d : Part (Bounds ℕ)) → k < l.range-index → OpensPart l.part l.table (get_or l.ports k d))

@@ -11,8 +11,11 @@ use Rattle.fast_pattern.proofs.doors.open_rules.Goals as goal
 pub loop-asked-preserved : goal.loop-asked-preserved
 loop-asked-preserved c = (
   keeps-trans c.args.table.now c.loop-asked.table c.open_rule.new.table c.loop-asked.invariant.0 c.open_rule.ensures.keeps,
-  rules-more c.args.rules.now c.loop-asked.table c.open_rule.new.table c.loop-asked.asked-index c.open_rule.ensures.keeps c.loop-asked.invariant.1
-      (λ d. subst (λ (a : Asked). LetsIn a c.open_rule.new.table) (c.asked-item.is ∙ get_or_default c.args.rules.now c.loop-asked.asked-index c.asked-item.result d c.loop-asked-test.true) c.open_rule.ensures.opens),
+  rules-more c.args.rules.now c.loop-asked.table c.open_rule.new.table c.loop-asked.asked-index c.open_rule.ensures.keeps
+      c.loop-asked.invariant.1
+      (λ d. subst (λ (a : Asked). LetsIn a c.open_rule.new.table)
+      (c.asked-item.is ∙ get_or_default c.args.rules.now c.loop-asked.asked-index c.asked-item.result d c.loop-asked-test.true)
+      c.open_rule.ensures.opens),
 )
 
 pub returns-clause-guards : goal.returns-clause-guards

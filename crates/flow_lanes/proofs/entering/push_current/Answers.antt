@@ -15,18 +15,26 @@ returns-in_err-left-clause-grows c = λ tcp places is h. IsFound-more tcp places
 pub returns-in_err-queued-clause-grows : goal.returns-in_err-queued-clause-grows
 returns-in_err-queued-clause-grows c = λ tcp places is h.
     c.accept_packet.ensures.grows tcp places
-    (record { same = subst (λ (b : Bool). IsOf b (session_at_hand c.enter.new.found)) is c.enter.ensures.same; within = c.enter.ensures.within places (c.take_left_stretches.ensures.keeps tcp places h).within })
+    (record {
+      same = subst (λ (b : Bool). IsOf b (session_at_hand c.enter.new.found)) is c.enter.ensures.same;
+      within = c.enter.ensures.within places (c.take_left_stretches.ensures.keeps tcp places h).within;
+    })
 
 pub returns-clause-grows : goal.returns-clause-grows
 returns-clause-grows c = λ tcp places is h.
     c.accept_packet.ensures.grows tcp places
-    (record { same = subst (λ (b : Bool). IsOf b (session_at_hand c.enter.new.found)) is c.enter.ensures.same; within = c.enter.ensures.within places (c.take_left_stretches.ensures.keeps tcp places h).within })
+    (record {
+      same = subst (λ (b : Bool). IsOf b (session_at_hand c.enter.new.found)) is c.enter.ensures.same;
+      within = c.enter.ensures.within places (c.take_left_stretches.ensures.keeps tcp places h).within;
+    })
 
 pub returns-clause-items : goal.returns-clause-items
 returns-clause-items c =
     let p = packet_of c.args.p.now in
     let found = session_at_hand c.args.found.now in
     let session = session_at_hand c.enter.new.found in
-    items-on (making_of c.args.settings.now) p c.args.step.now c.args.state.now found session c.in_ok-left.left c.in_ok-queued.queued c.own_facts.result c.args.out.now.items c.accept_packet.new.out.items
-    c.in_ok-left.ensures.left (c.enter.ensures.session found c.in_ok-left.ensures.session) c.in_ok-queued.ensures.items c.in_ok-queued.ensures.queued
+    items-on (making_of c.args.settings.now) p c.args.step.now c.args.state.now found session c.in_ok-left.left
+    c.in_ok-queued.queued c.own_facts.result c.args.out.now.items c.accept_packet.new.out.items
+    c.in_ok-left.ensures.left (c.enter.ensures.session found c.in_ok-left.ensures.session)
+    c.in_ok-queued.ensures.items c.in_ok-queued.ensures.queued
     (c.own_facts.ensures (session_after p c.args.step.now session) c.in_ok-queued.ensures.sizes)

@@ -14,21 +14,29 @@ use Rattle.flow_lanes.proofs.Sessions.ItemsOn.{state_found-tcp, state_of-tcp}
 use Rattle.flow_lanes.proofs.packet.packet_on.Goals as goal
 
 pub returns-in_err-end_before-clause-grows : goal.returns-in_err-end_before-clause-grows
-returns-in_err-end_before-clause-grows g c = λ places h. IsFound-more (is_tcp c.args.p.now.head.now.body) places (session_at_hand c.end_before.new.found) (c.end_before.ensures.keeps (is_tcp c.args.p.now.head.now.body) places h)
+returns-in_err-end_before-clause-grows g c = λ places h.
+    IsFound-more (is_tcp c.args.p.now.head.now.body) places (session_at_hand c.end_before.new.found)
+    (c.end_before.ensures.keeps (is_tcp c.args.p.now.head.now.body) places h)
 
 pub returns-in_err-go_on-clause-grows : goal.returns-in_err-go_on-clause-grows
 returns-in_err-go_on-clause-grows g c = λ places h.
     let p = packet_of c.args.p.now in
     let found = session_at_hand c.args.found.now in
     let tcp = is_tcp c.args.p.now.head.now.body in
-    c.go_on.ensures.grows tcp places (ap (λ (s : State). s.tcp) c.take_step.ensures.state ∙ state_of-tcp (making_of c.args.settings.now) p found ∙ state_found-tcp p found c.requires.found.same) (c.end_before.ensures.keeps tcp places h)
+    c.go_on.ensures.grows tcp places
+    (ap (λ (s : State). s.tcp) c.take_step.ensures.state ∙ state_of-tcp (making_of c.args.settings.now) p found ∙
+    state_found-tcp p found c.requires.found.same)
+    (c.end_before.ensures.keeps tcp places h)
 
 pub returns-clause-grows : goal.returns-clause-grows
 returns-clause-grows g c = λ places h.
     let p = packet_of c.args.p.now in
     let found = session_at_hand c.args.found.now in
     let tcp = is_tcp c.args.p.now.head.now.body in
-    c.go_on.ensures.grows tcp places (ap (λ (s : State). s.tcp) c.take_step.ensures.state ∙ state_of-tcp (making_of c.args.settings.now) p found ∙ state_found-tcp p found c.requires.found.same) (c.end_before.ensures.keeps tcp places h)
+    c.go_on.ensures.grows tcp places
+    (ap (λ (s : State). s.tcp) c.take_step.ensures.state ∙ state_of-tcp (making_of c.args.settings.now) p found ∙
+    state_found-tcp p found c.requires.found.same)
+    (c.end_before.ensures.keeps tcp places h)
 
 pub returns-clause-tallies : goal.returns-clause-tallies
 returns-clause-tallies g c =

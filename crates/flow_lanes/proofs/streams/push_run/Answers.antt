@@ -11,5 +11,10 @@ returns-then-is_one_part c =
 
 pub returns : goal.returns
 returns c =
-    let parts = c.from_vec.ensures ∙ c.in_ok-cut.ensures ∙ ap (λ (ps : List (List ℕ)). ps ++ parts_of item_size c.bytes-2.result.now) c.new-parts.ensures.items ∙ ap (parts_of item_size) c.bytes-2.ensures in
-    pushed-are c.push_payloads.result c.args.out.now.items c.push_payloads.new.out.items c.args.head.now c.args.head.now c.from_vec.result (parts_of item_size c.args.run) (λ _. c.args.head.now) parts c.push_payloads.ensures
+    let parts =
+    c.from_vec.ensures
+    ∙ c.in_ok-cut.ensures
+    ∙ ap (λ (ps : List (List ℕ)). ps ++ parts_of item_size c.bytes-2.result.now) c.new-parts.ensures.items
+    ∙ ap (parts_of item_size) c.bytes-2.ensures in
+    pushed-are c.push_payloads.result c.args.out.now.items c.push_payloads.new.out.items c.args.head.now c.args.head.now
+    c.from_vec.result (parts_of item_size c.args.run) (λ _. c.args.head.now) parts c.push_payloads.ensures

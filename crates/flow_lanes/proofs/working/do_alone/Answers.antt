@@ -11,5 +11,6 @@ pub returns : goal.returns
 returns g c = λ making.
     let by = inspection_of g.P.Pattern.finds c.args.inspector.now in
     do-alone by making c.args.moment c.args.head.now c.args.payload.now c.args.flows.now.entries (so_far c.try_item.new.tally)
-    (alone by (so_far c.new-tally.result) c.new-tally.ensures.hits c.new-tally.ensures.items c.new-tally.ensures.tries c.new-tally.ensures.visits c.args.head.now c.args.payload.now None c.try_item.new.bits
+    (alone by (so_far c.new-tally.result) c.new-tally.ensures.hits c.new-tally.ensures.items c.new-tally.ensures.tries
+    c.new-tally.ensures.visits c.args.head.now c.args.payload.now None c.try_item.new.bits
     (so_far c.try_item.new.tally) refl c.in_ok-try_item.ensures)

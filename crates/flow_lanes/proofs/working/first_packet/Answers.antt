@@ -17,8 +17,13 @@ use Rattle.flow_lanes.proofs.working.first_packet.Goals as goal
 
 pub begin-requires-clause-sound : goal.begin-requires-clause-sound
 begin-requires-clause-sound g c κs sound =
-    let empty = put-new c.args.flow c.args.flows.now.entries (entry_value c.in_ok-flows.field-0) c.new.result c.or_insert-kept.result.now c.in_ok-flows.ensures.value c.requires.first c.or_insert-kept.ensures.value in
-    sound-first (length c.args.settings.now.stream.now.engines) (packet_of c.args.p.now) c.or_insert-kept.result.now.facts (ap (λ (k : KeptFlow). k.facts) empty ∙ c.new.ensures.facts) c.requires.sound
+    let empty =
+    put-new c.args.flow c.args.flows.now.entries (entry_value c.in_ok-flows.field-0) c.new.result c.or_insert-kept.result.now
+    c.in_ok-flows.ensures.value c.requires.first c.or_insert-kept.ensures.value in
+    sound-first (length c.args.settings.now.stream.now.engines)
+    (packet_of c.args.p.now) c.or_insert-kept.result.now.facts
+    (ap (λ (k : KeptFlow). k.facts) empty ∙ c.new.ensures.facts)
+    c.requires.sound
 
 pub returns : goal.returns
 returns g c =

@@ -18,21 +18,33 @@ pub returns-in_err-entry : goal.returns-in_err-entry
 returns-in_err-entry c =
     let p = err_from_is_err_and c.from_residual.result c.from_residual.ensures.1 in
     let fault = c.in_err-entry.field-0.0 in
-    let meant = c.loop-line.invariant.1 ∙ turn-refused c.loop-line.hosts (c.loop-line.number + 1) c.loop-line.rest.now c.in-Some.line.now c.in-Some.after.now c.trimmed-line.result.now c.in-Some.ensures.cut c.trimmed-line.ensures c.if-has_content.ensures fault c.in_err-entry.ensures.entry in
+    let meant =
+    c.loop-line.invariant.1
+    ∙ turn-refused c.loop-line.hosts (c.loop-line.number + 1) c.loop-line.rest.now c.in-Some.line.now c.in-Some.after.now
+    c.trimmed-line.result.now c.in-Some.ensures.cut c.trimmed-line.ensures c.if-has_content.ensures fault
+    c.in_err-entry.ensures.entry in
     rw (p.1, p.2) (given-fault fault (hosts_of c.args.text.now) meant)
 
 pub loop-line-preserved-then-has_content : goal.loop-line-preserved-then-has_content
 loop-line-preserved-then-has_content c =
     let entry = c.in_ok-entry.entry in
-    let meant = turn-taken c.loop-line.hosts (c.loop-line.number + 1) c.loop-line.rest.now c.in-Some.line.now c.in-Some.after.now c.trimmed-line.result.now c.in-Some.ensures.cut c.trimmed-line.ensures c.if-has_content.ensures entry c.in_ok-entry.ensures.entry in (
+    let meant =
+    turn-taken c.loop-line.hosts (c.loop-line.number + 1) c.loop-line.rest.now c.in-Some.line.now c.in-Some.after.now
+    c.trimmed-line.result.now c.in-Some.ensures.cut c.trimmed-line.ensures c.if-has_content.ensures entry
+    c.in_ok-entry.ensures.entry in (
       omega (arith, c.in-Some.ensures.shorter),
-      c.loop-line.invariant.1 ∙ meant ∙ ap (λ es. hosts_after es (kept (numbered_lines (c.loop-line.number + 1 + 1) (lines c.in-Some.after.now)))) (sym c.in_ok-hosts.ensures),
+      c.loop-line.invariant.1
+          ∙ meant
+          ∙ ap (λ es. hosts_after es (kept (numbered_lines (c.loop-line.number + 1 + 1) (lines c.in-Some.after.now))))
+          (sym c.in_ok-hosts.ensures),
     )
 
 pub loop-line-preserved : goal.loop-line-preserved
 loop-line-preserved c = (
   omega (arith, c.in-Some.ensures.shorter),
-  c.loop-line.invariant.1 ∙ turn-skipped c.loop-line.hosts (c.loop-line.number + 1) c.loop-line.rest.now c.in-Some.line.now c.in-Some.after.now c.trimmed-line.result.now c.in-Some.ensures.cut c.trimmed-line.ensures c.if-has_content.ensures,
+  c.loop-line.invariant.1
+      ∙ turn-skipped c.loop-line.hosts (c.loop-line.number + 1) c.loop-line.rest.now c.in-Some.line.now c.in-Some.after.now
+      c.trimmed-line.result.now c.in-Some.ensures.cut c.trimmed-line.ensures c.if-has_content.ensures,
 )
 
 pub returns : goal.returns

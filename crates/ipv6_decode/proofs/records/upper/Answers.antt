@@ -6,4 +6,6 @@ use Rattle.ipv6_decode.proofs.records.upper.Goals as goal
 pub returns-clause-exact : goal.returns-clause-exact
 returns-clause-exact c =
     c.decode_datagram.ensures.exact
-    ∙ transport_part {bytes = c.args.packet.now} {start = c.args.walk.place} {stop = length c.args.packet.now} (record { is = refl; in_order = c.requires; captured = omega arith }) c.args.walk.head c.args.checks
+    ∙ transport_part {bytes = c.args.packet.now} {start = c.args.walk.place} {stop = length c.args.packet.now}
+    (record { is = refl; in_order = c.requires; captured = omega arith })
+    c.args.walk.head c.args.checks

@@ -7,4 +7,6 @@ use Rattle.layer_rows.proofs.batches.add_job.Goals as goal
 
 pub returns : goal.returns
 returns c = λ are.
-    pushed (is_ok c.push.result) c.args.first c.args.jobs.now.items c.push.new.self.items c.packet-job.result are c.packet-job.ensures.plain (omega (arith, c.packet-job.ensures.number, c.args.jobs.now.ok.0)) c.push.ensures.items
+    pushed (is_ok c.push.result) c.args.first c.args.jobs.now.items c.push.new.self.items c.packet-job.result are
+    c.packet-job.ensures.plain (omega (arith, c.packet-job.ensures.number, c.args.jobs.now.ok.0))
+    c.push.ensures.items

@@ -11,4 +11,10 @@ loop-digit-init c = omega arith
 
 pub loop-digit-preserved : goal.loop-digit-preserved
 unfolding hex_value
-loop-digit-preserved c = omega (arith, fold_more (λ value digit. value * 16 + hex_digit digit) 0 c.args.digits.now c.loop-digit.digit-index 0 c.loop-digit-test.true, c.hex_digit.ensures, c.min-value.ensures, c.loop-digit.invariant)
+loop-digit-preserved c = omega (
+  arith,
+  fold_more (λ value digit. value * 16 + hex_digit digit) 0 c.args.digits.now c.loop-digit.digit-index 0 c.loop-digit-test.true,
+  c.hex_digit.ensures,
+  c.min-value.ensures,
+  c.loop-digit.invariant,
+)

@@ -9,13 +9,17 @@ pub returns-then-starts_with-clause-place : goal.returns-then-starts_with-clause
 returns-then-starts_with-clause-place c =
     let text = c.args.text.now in
     let place = c.loop-place.place in
-    gap_found text place _ c.loop-place.invariant c.loop-place-test.true (ap (λ rest. starts_with nat_eq rest (codes "::")) (sym (take_rest text place)) ∙ sym c.starts_with.ensures.value ∙ c.if-starts_with.true)
+    gap_found text place _ c.loop-place.invariant c.loop-place-test.true
+    (ap (λ rest. starts_with nat_eq rest (codes "::")) (sym (take_rest text place)) ∙ sym c.starts_with.ensures.value ∙
+    c.if-starts_with.true)
 
 pub loop-place-preserved : goal.loop-place-preserved
 loop-place-preserved c =
     let text = c.args.text.now in
     let place = c.loop-place.place in
-    gap_goes_on text place _ c.loop-place.invariant c.loop-place-test.true (ap (λ rest. starts_with nat_eq rest (codes "::")) (sym (take_rest text place)) ∙ sym c.starts_with.ensures.value ∙ c.if-starts_with.false)
+    gap_goes_on text place _ c.loop-place.invariant c.loop-place-test.true
+    (ap (λ rest. starts_with nat_eq rest (codes "::")) (sym (take_rest text place)) ∙ sym c.starts_with.ensures.value ∙
+    c.if-starts_with.false)
 
 pub returns-clause-place : goal.returns-clause-place
 returns-clause-place c = gap_ends c.args.text.now c.loop-place.place _ c.loop-place.invariant (omega arith)

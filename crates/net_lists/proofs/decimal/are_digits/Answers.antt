@@ -8,5 +8,7 @@ use Rattle.net_lists.proofs.decimal.are_digits.Goals as goal
 
 pub returns-then-not-is_empty : goal.returns-then-not-is_empty
 returns-then-not-is_empty c =
-    let all : c.all.result ≡ list_all is_ascii_digit c.args.text.now = all_from_yields_List is_ascii_digit _ _ c.all.result c.all.ensures.ran (YieldsList-from_slice _ c.iter.ensures.rest) (λ x b q k. search (rules, tests)) in
+    let all : c.all.result ≡ list_all is_ascii_digit c.args.text.now =
+    all_from_yields_List is_ascii_digit _ _ c.all.result c.all.ensures.ran (YieldsList-from_slice _ c.iter.ensures.rest)
+    (λ x b q k. search (rules, tests)) in
     all ∙ ap (λ b. not b && list_all is_ascii_digit c.args.text.now) (sym c.if-not-is_empty.true ∙ c.is_empty.ensures)

@@ -12,4 +12,11 @@ loop-digit-init c = omega arith
 pub loop-digit-preserved : goal.loop-digit-preserved
 unfolding decimal_value
 loop-digit-preserved c =
-    omega (arith, fold_more (λ value digit. 10 * value + (digit - 48)) 0 c.args.digits.now c.loop-digit.digit-index 0 c.loop-digit-test.true, c.saturating_sub.ensures, c.from.ensures, c.min-value.ensures, c.loop-digit.invariant)
+    omega (
+      arith,
+      fold_more (λ value digit. 10 * value + (digit - 48)) 0 c.args.digits.now c.loop-digit.digit-index 0 c.loop-digit-test.true,
+      c.saturating_sub.ensures,
+      c.from.ensures,
+      c.min-value.ensures,
+      c.loop-digit.invariant,
+    )

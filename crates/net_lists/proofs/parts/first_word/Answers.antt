@@ -10,14 +10,27 @@ pub returns-clause-words : goal.returns-clause-words
 unfolding first_word after_word
 returns-clause-words c =
     let start = c.without_front_blanks-text.result.now in
-    let word : c.split_at.result.0.now ≡ first_word c.args.text.now = c.split_at.ensures.front ∙ ap (λ n. take n start) c.front_len.ensures.len ∙ ap (λ t. take (front_len is_blank 0 t) t) c.without_front_blanks-text.ensures in
-    let rest : c.without_front_blanks.result.now ≡ after_word c.args.text.now = c.without_front_blanks.ensures ∙ ap without_front_blanks (c.split_at.ensures.back ∙ ap (λ n. drop n start) c.front_len.ensures.len ∙ ap (λ t. drop (front_len is_blank 0 t) t) c.without_front_blanks-text.ensures) in
-    words-first_word c.args.text.now ∙ sym (ap (λ w. cond (is_filled w) (w ∷ words c.without_front_blanks.result.now) []) word ∙ ap (λ r. cond (is_filled (first_word c.args.text.now)) (first_word c.args.text.now ∷ words r) []) rest)
+    let word : c.split_at.result.0.now ≡ first_word c.args.text.now =
+    c.split_at.ensures.front
+    ∙ ap (λ n. take n start) c.front_len.ensures.len
+    ∙ ap (λ t. take (front_len is_blank 0 t) t) c.without_front_blanks-text.ensures in
+    let rest : c.without_front_blanks.result.now ≡ after_word c.args.text.now =
+    c.without_front_blanks.ensures
+    ∙ ap without_front_blanks
+    (c.split_at.ensures.back ∙ ap (λ n. drop n start) c.front_len.ensures.len ∙
+    ap (λ t. drop (front_len is_blank 0 t) t) c.without_front_blanks-text.ensures) in
+    words-first_word c.args.text.now
+    ∙ sym (ap (λ w. cond (is_filled w) (w ∷ words c.without_front_blanks.result.now) []) word ∙
+    ap (λ r. cond (is_filled (first_word c.args.text.now)) (first_word c.args.text.now ∷ words r) []) rest)
 
 pub returns-clause-shorter : goal.returns-clause-shorter
 unfolding after_word
 returns-clause-shorter c = λ some.
     let start = c.without_front_blanks-text.result.now in
-    let rest : c.without_front_blanks.result.now ≡ after_word c.args.text.now = c.without_front_blanks.ensures ∙ ap without_front_blanks (c.split_at.ensures.back ∙ ap (λ n. drop n start) c.front_len.ensures.len ∙ ap (λ t. drop (front_len is_blank 0 t) t) c.without_front_blanks-text.ensures) in
+    let rest : c.without_front_blanks.result.now ≡ after_word c.args.text.now =
+    c.without_front_blanks.ensures
+    ∙ ap without_front_blanks
+    (c.split_at.ensures.back ∙ ap (λ n. drop n start) c.front_len.ensures.len ∙
+    ap (λ t. drop (front_len is_blank 0 t) t) c.without_front_blanks-text.ensures) in
     let Shorter : List ℕ → Type 0 = λ xs. length xs < length c.args.text.now in
     subst Shorter (sym rest) (after_word-shorter c.args.text.now some)

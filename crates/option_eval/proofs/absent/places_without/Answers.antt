@@ -25,11 +25,24 @@ loop-rest-preserved g c =
     let bound = length payload - length needle.bytes.now + 1 in
     let inside : (i : ℕ) → i + length needle.bytes.now ≤ length payload → i < bound = λ i within. omega arith in
     let least = least_first rest c.loop-rest.asked (length payload + 1) some old.rest_rising in
-    let holds = tells needle.nocase payload needle.bytes.now c.args.reach.now rest (length payload + 1) bound c.low-low.result c.end-end.result c.loop-rest.seen c.seen_in-seen.result some least inside c.low-low.ensures.low c.end-end.ensures.end old.serves c.seen_in-seen.ensures (nat_le c.seen_in-seen.result.last c.low-low.result) refl in
-    let risen = rising_with rest c.loop-rest.next.items c.in_ok-next.next.items c.loop-rest.asked (length payload + 1) (nat_le c.seen_in-seen.result.last c.low-low.result) some old.rest_rising old.rising c.in_ok-next.ensures in
+    let holds =
+    tells needle.nocase payload needle.bytes.now c.args.reach.now rest (length payload + 1) bound c.low-low.result
+    c.end-end.result c.loop-rest.seen c.seen_in-seen.result some least inside c.low-low.ensures.low c.end-end.ensures.end
+    old.serves c.seen_in-seen.ensures (nat_le c.seen_in-seen.result.last c.low-low.result) refl in
+    let risen =
+    rising_with rest c.loop-rest.next.items c.in_ok-next.next.items c.loop-rest.asked (length payload + 1)
+    (nat_le c.seen_in-seen.result.last c.low-low.result) some
+    old.rest_rising old.rising c.in_ok-next.ensures in
     record {
-      kept = kept_next (λ p. ¬ IsReached needle.nocase payload needle.bytes.now c.args.reach.now p) c.args.places.now rest c.loop-rest.next.items c.in_ok-next.next.items (nat_le c.seen_in-seen.result.last c.low-low.result) some old.kept holds c.in_ok-next.ensures;
-      serves = serves_next needle.nocase payload needle.bytes.now c.args.reach.now rest (length payload + 1) bound c.low-low.result c.end-end.result c.loop-rest.seen c.seen_in-seen.result some least inside c.low-low.ensures.low c.end-end.ensures.end old.serves c.seen_in-seen.ensures;
+      kept =
+          kept_next (λ p. ¬ IsReached needle.nocase payload needle.bytes.now c.args.reach.now p)
+          c.args.places.now rest c.loop-rest.next.items c.in_ok-next.next.items
+          (nat_le c.seen_in-seen.result.last c.low-low.result) some
+          old.kept holds c.in_ok-next.ensures;
+      serves =
+          serves_next needle.nocase payload needle.bytes.now c.args.reach.now rest (length payload + 1) bound c.low-low.result
+          c.end-end.result c.loop-rest.seen c.seen_in-seen.result some least inside c.low-low.ensures.low c.end-end.ensures.end
+          old.serves c.seen_in-seen.ensures;
       rest_rising = risen.1;
       rising = risen.0;
       counted = omega (arith, length_later rest some);
@@ -49,7 +62,10 @@ loop-rest-init g c =
 pub returns-clause-found : goal.returns-clause-found
 returns-clause-found g c = λ q. (
   λ has. c.loop-rest.invariant.kept.sound q has,
-  λ both. ⊎_elim (λ (done : Contains c.loop-rest.next.items q). done) (λ (left : Contains c.loop-rest.rest.now q). absurd (none_left c.loop-rest.rest.now q c.in_default.len_below left)) (c.loop-rest.invariant.kept.complete q both.0 both.1),
+  λ both.
+      ⊎_elim (λ (done : Contains c.loop-rest.next.items q). done)
+      (λ (left : Contains c.loop-rest.rest.now q). absurd (none_left c.loop-rest.rest.now q c.in_default.len_below left))
+      (c.loop-rest.invariant.kept.complete q both.0 both.1),
 )
 
 pub returns-clause-rising : goal.returns-clause-rising

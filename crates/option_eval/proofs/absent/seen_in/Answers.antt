@@ -8,7 +8,9 @@ use Rattle.option_eval.proofs.absent.seen_in.Goals as goal
 pub returns-in-None : goal.returns-in-None
 returns-in-None c =
     let needle = c.args.needle.now in
-    sees_none (Occurs needle.nocase c.args.payload.now needle.bytes.now) c.args.low c.args.end c.max-from.result c.args.seen c.max-from.ensures _ refl refl (omega arith) (omega arith) c.in-None.ensures
+    sees_none (Occurs needle.nocase c.args.payload.now needle.bytes.now)
+    c.args.low c.args.end c.max-from.result c.args.seen c.max-from.ensures _ refl refl (omega arith) (omega arith)
+    c.in-None.ensures
 
 pub returns-in-Some : goal.returns-in-Some
 returns-in-Some c =

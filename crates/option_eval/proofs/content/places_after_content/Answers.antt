@@ -13,6 +13,8 @@ returns-then-needle-payload-clause-found g c = λ means.
 pub returns-clause-found : goal.returns-clause-found
 returns-clause-found g c = λ means.
     IfOk-weaker c.sweep.result _ _
-    (λ next found. content_gathers c.args.every means c.args.payload.now c.args.values.now c.args.content.now c.requires.plain c.args.places.now c.reach.result c.reach.ensures.from c.reach.ensures.room
-    c.needle-needle.result.nocase c.needle-needle.result.bytes.now c.asked_from-asked.result.now next.items c.needle-needle.ensures.bytes c.needle-needle.ensures.nocase c.requires.asked c.asked_from-asked.ensures found)
+    (λ next found. content_gathers c.args.every means c.args.payload.now c.args.values.now c.args.content.now c.requires.plain
+    c.args.places.now c.reach.result c.reach.ensures.from c.reach.ensures.room
+    c.needle-needle.result.nocase c.needle-needle.result.bytes.now c.asked_from-asked.result.now next.items
+    c.needle-needle.ensures.bytes c.needle-needle.ensures.nocase c.requires.asked c.asked_from-asked.ensures found)
     c.sweep.ensures.found

@@ -9,7 +9,13 @@ overflow_mul-sum c =
 
 pub overflow_add-sum : goal.overflow_add-sum
 overflow_add-sum c =
-    omega (arith, digits_fit c.loop-byte.sum c.from.result c.loop-byte.byte-index c.loop-byte.invariant.below (omega arith) (omega (arith, c.from.ensures)), c.digit_of.ensures.small, c.from-in-loop-byte.ensures)
+    omega (
+      arith,
+      digits_fit c.loop-byte.sum c.from.result c.loop-byte.byte-index c.loop-byte.invariant.below (omega arith)
+          (omega (arith, c.from.ensures)),
+      c.digit_of.ensures.small,
+      c.from-in-loop-byte.ensures,
+    )
 
 pub returns-clause-small : goal.returns-clause-small
 returns-clause-small c = digits_small c.loop-byte.sum c.loop-byte.byte-index c.loop-byte.invariant.below (omega arith)

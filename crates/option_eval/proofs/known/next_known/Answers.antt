@@ -10,7 +10,9 @@ use Rattle.option_eval.proofs.known.next_known.Goals as goal
 
 pub returns-in-Some-clause-found : goal.returns-in-Some-clause-found
 returns-in-Some-clause-found g c = λ means made known.
-    found_known (LeadsAlike means c.args.at.now.payload.now c.args.option.now (needs_place c.args.later.now)) _ c.in-Some.next c.in-Some.ensures.value known c.args.at.now.values.now c.args.at.now.places.now c.args.at.now.two c.args.at.now.some
+    found_known (LeadsAlike means c.args.at.now.payload.now c.args.option.now (needs_place c.args.later.now)) _
+    c.in-Some.next c.in-Some.ensures.value known c.args.at.now.values.now c.args.at.now.places.now c.args.at.now.two
+    c.args.at.now.some
 
 pub returns-in-Some-clause-alike : goal.returns-in-Some-clause-alike
 returns-in-Some-clause-alike g c = λ means made known free.
@@ -21,12 +23,18 @@ returns-in-Some-clause-rising g c = found_known (RisesTo (length c.args.at.now.p
 
 pub returns-clause-found : goal.returns-clause-found
 returns-clause-found g c = λ means made known.
-    subst (λ (every : Bool). Gathers every (IsLedTo (LeadsFrom means c.args.at.now.payload.now c.args.at.now.values.now c.args.option.now) c.args.at.now.places.now) (next_set c.in_ok-next.next c.args.at.now.places.now)) c.needs_place.ensures (c.in_ok-next.ensures.found means made)
+    subst (λ (every : Bool). Gathers every
+    (IsLedTo (LeadsFrom means c.args.at.now.payload.now c.args.at.now.values.now c.args.option.now) c.args.at.now.places.now)
+    (next_set c.in_ok-next.next c.args.at.now.places.now)) c.needs_place.ensures (c.in_ok-next.ensures.found means made)
 
 pub returns-clause-alike : goal.returns-clause-alike
 returns-clause-alike g c = λ means made known free.
-    let found = subst (λ (every : Bool). Gathers every (IsLedTo (LeadsFrom means c.args.at.now.payload.now c.args.at.now.values.now c.args.option.now) c.args.at.now.places.now) (next_set c.in_ok-next.next c.args.at.now.places.now)) c.needs_place.ensures (c.in_ok-next.ensures.found means made) in
-    leads_all means c.args.at.now.payload.now c.args.option.now c.requires.plain free (needs_place c.args.later.now) c.in_ok-next.next c.args.at.now.values.now c.args.at.now.places.now c.args.at.now.two c.args.at.now.some
+    let found =
+    subst (λ (every : Bool). Gathers every
+    (IsLedTo (LeadsFrom means c.args.at.now.payload.now c.args.at.now.values.now c.args.option.now) c.args.at.now.places.now)
+    (next_set c.in_ok-next.next c.args.at.now.places.now)) c.needs_place.ensures (c.in_ok-next.ensures.found means made) in
+    leads_all means c.args.at.now.payload.now c.args.option.now c.requires.plain free (needs_place c.args.later.now)
+    c.in_ok-next.next c.args.at.now.values.now c.args.at.now.places.now c.args.at.now.two c.args.at.now.some
     (c.in_ok-next.ensures.apart (fixed means c.args.at.now.payload.now c.args.option.now c.requires.plain free)) found
 
 pub returns-clause-rising : goal.returns-clause-rising

@@ -17,5 +17,7 @@ returns-in-None c = λ means. (
 pub returns-in-Some : goal.returns-in-Some
 returns-in-Some c = λ means.
     let wide = to_z-of_z w128 c.number.result (record { sfits = c.number.type_inv }) ∙ c.number.ensures.value in
-    byte_test_some means c.args.payload.now c.args.values.now c.args.place c.args.fetch.now c.args.negated c.args.cmp c.args.value _ c.compares.result c.unless.result c.in-Some.ensures.value c.unless.ensures
-    (subst (λ (z : ℤ). (IsTrue c.compares.result → Compares c.args.cmp c.in-Some.read.number z) × (Compares c.args.cmp c.in-Some.read.number z → IsTrue c.compares.result)) wide c.compares.ensures)
+    byte_test_some means c.args.payload.now c.args.values.now c.args.place c.args.fetch.now c.args.negated c.args.cmp c.args.value
+    _ c.compares.result c.unless.result c.in-Some.ensures.value c.unless.ensures
+    (subst (λ (z : ℤ). (IsTrue c.compares.result → Compares c.args.cmp c.in-Some.read.number z) ×
+    (Compares c.args.cmp c.in-Some.read.number z → IsTrue c.compares.result)) wide c.compares.ensures)

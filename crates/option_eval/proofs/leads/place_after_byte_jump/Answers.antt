@@ -14,5 +14,8 @@ returns-in-None-clause-only c = λ means.
 
 pub returns-in-Some-clause-only : goal.returns-in-Some-clause-only
 returns-in-Some-clause-only c = λ means.
-    byte_jump_some means c.args.payload.now c.args.values.now c.args.place c.args.fetch.now c.args.times c.args.align c.args.beginning c.args.post _ c.byte_jump_place.result c.in-Some.ensures.value
-    (subst (λ (z : ℤ). PlaceIn (pos ((cond c.args.beginning 0 c.in-Some.read.stop) + byte_jump_len c.args.times c.args.align c.in-Some.read.number) +ℤ z) (length c.args.payload.now) c.byte_jump_place.result) (to_z-of_z w32 c.args.post c.ranges.post) c.byte_jump_place.ensures)
+    byte_jump_some means c.args.payload.now c.args.values.now c.args.place c.args.fetch.now c.args.times c.args.align
+    c.args.beginning c.args.post _ c.byte_jump_place.result c.in-Some.ensures.value
+    (subst (λ (z : ℤ). PlaceIn
+    (pos ((cond c.args.beginning 0 c.in-Some.read.stop) + byte_jump_len c.args.times c.args.align c.in-Some.read.number) +ℤ z)
+    (length c.args.payload.now) c.byte_jump_place.result) (to_z-of_z w32 c.args.post c.ranges.post) c.byte_jump_place.ensures)

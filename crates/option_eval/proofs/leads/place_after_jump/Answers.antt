@@ -19,5 +19,10 @@ returns-in-Pcre-clause-only g c = λ means made.
 pub returns-in-ByteJump-clause-only : goal.returns-in-ByteJump-clause-only
 returns-in-ByteJump-clause-only g c = λ means made.
     let fits : SFits w32 c.in-ByteJump.post = search rules in
-    rw c.in-ByteJump.is (subst (λ (z : ℤ). LeadsOnlyTo (LeadsFrom means c.args.payload.now c.args.values.now (opt.ByteJump c.in-ByteJump.fetch c.in-ByteJump.times c.in-ByteJump.align c.in-ByteJump.beginning z) c.args.place) c.place_after_byte_jump.result)
+    rw c.in-ByteJump.is
+    (subst (λ (z : ℤ). LeadsOnlyTo
+    (LeadsFrom means c.args.payload.now c.args.values.now
+    (opt.ByteJump c.in-ByteJump.fetch c.in-ByteJump.times c.in-ByteJump.align c.in-ByteJump.beginning z)
+    c.args.place)
+    c.place_after_byte_jump.result)
     (to_z-of_z w32 c.in-ByteJump.post fits) (c.place_after_byte_jump.ensures.only means))

@@ -12,4 +12,6 @@ returns-in-None-clause-only g c = λ text flags means values made.
 pub returns-in-Some-clause-only : goal.returns-in-Some-clause-only
 returns-in-Some-clause-only g c = λ text flags means values made.
     let finds = rw c.in-Pattern.is at made in
-    rw c.origin.ensures (pcre_only means c.args.payload.now values c.args.place text flags c.args.relative (Some c.in-Some.span) (sym c.in-Some.is ∙ c.in_ok-pcre_finds-in-Pattern.ensures.found ∙ finds _))
+    rw c.origin.ensures
+    (pcre_only means c.args.payload.now values c.args.place text flags c.args.relative (Some c.in-Some.span)
+    (sym c.in-Some.is ∙ c.in_ok-pcre_finds-in-Pattern.ensures.found ∙ finds _))

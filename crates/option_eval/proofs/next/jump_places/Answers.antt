@@ -16,8 +16,13 @@ loop-rest-preserved g c =
     let counted = old.counted in
     let ticked = c.tick.ensures in
     record {
-      led = λ means made. led_next (LeadsFrom means c.args.payload.now c.args.values.now c.args.option.now) c.args.places.now rest c.loop-rest.led.items c.in_ok-led.led.items c.in_ok-next.next some (old.led means made) (c.in_ok-next.ensures.only means made) c.in_ok-led.ensures;
+      led = λ means made.
+          led_next (LeadsFrom means c.args.payload.now c.args.values.now c.args.option.now)
+          c.args.places.now rest c.loop-rest.led.items c.in_ok-led.led.items c.in_ok-next.next some (old.led means made)
+          (c.in_ok-next.ensures.only means made) c.in_ok-led.ensures;
       rest_within = λ p has. old.rest_within p (contains_later rest p some has);
-      within = λ q has. with_if_within c.loop-rest.led.items c.in_ok-led.led.items c.in_ok-next.next (length c.args.payload.now) q c.in_ok-led.ensures c.in_ok-next.ensures.inside old.within has;
+      within = λ q has.
+          with_if_within c.loop-rest.led.items c.in_ok-led.led.items c.in_ok-next.next (length c.args.payload.now) q
+          c.in_ok-led.ensures c.in_ok-next.ensures.inside old.within has;
       counted = omega (arith, length_later rest some);
     }

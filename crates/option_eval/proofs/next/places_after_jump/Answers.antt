@@ -17,11 +17,21 @@ jump_places-requires-clause-inside g c κs within = λ p has.
 
 pub returns-in_err-led-clause-bounded : goal.returns-in_err-led-clause-bounded
 returns-in_err-led-clause-bounded g c =
-    omega (arith, c.jump_places.ensures.bounded, length-asked c.is_relative.result c.args.places.now c.asked_of.result.now c.asked_of.ensures, rising_length c.args.places.now 0 (length c.args.payload.now + 1) c.requires.rising)
+    omega (
+      arith,
+      c.jump_places.ensures.bounded,
+      length-asked c.is_relative.result c.args.places.now c.asked_of.result.now c.asked_of.ensures,
+      rising_length c.args.places.now 0 (length c.args.payload.now + 1) c.requires.rising,
+    )
 
 pub returns-clause-bounded : goal.returns-clause-bounded
 returns-clause-bounded g c =
-    omega (arith, c.jump_places.ensures.bounded, length-asked c.is_relative.result c.args.places.now c.asked_of.result.now c.asked_of.ensures, rising_length c.args.places.now 0 (length c.args.payload.now + 1) c.requires.rising)
+    omega (
+      arith,
+      c.jump_places.ensures.bounded,
+      length-asked c.is_relative.result c.args.places.now c.asked_of.result.now c.asked_of.ensures,
+      rising_length c.args.places.now 0 (length c.args.payload.now + 1) c.requires.rising,
+    )
 
 pub rising-requires : goal.rising-requires
 rising-requires g c =
@@ -40,8 +50,12 @@ returns-clause-found g c = λ means every made.
     let same = subst (λ (xs : List ℕ). IsPermutation c.in_ok-led.led.items xs) (sym c.as_slice-2.ensures) c.sorted.ensures.same in
     let relative = sym c.is_relative.ensures in
     IfOk-weaker c.rising.result _ _
-    (λ next deduped. jumps_gathered every c.is_relative.result (LeadsFrom means c.args.payload.now c.args.values.now c.args.option.now) c.args.places.now c.asked_of.result.now c.in_ok-led.led.items c.as_slice-2.result.now next.items c.requires.asked c.asked_of.ensures
-    (λ free. jump_free means c.args.payload.now c.args.values.now c.args.option.now c.requires.jumps (relative ∙ free)) (c.in_ok-led.ensures.found means made) same deduped)
+    (λ next deduped. jumps_gathered every c.is_relative.result
+    (LeadsFrom means c.args.payload.now c.args.values.now c.args.option.now)
+    c.args.places.now c.asked_of.result.now c.in_ok-led.led.items c.as_slice-2.result.now next.items c.requires.asked
+    c.asked_of.ensures
+    (λ free. jump_free means c.args.payload.now c.args.values.now c.args.option.now c.requires.jumps (relative ∙ free))
+    (c.in_ok-led.ensures.found means made) same deduped)
     c.rising.ensures.same
 
 pub returns-clause-rising : goal.returns-clause-rising

@@ -22,11 +22,16 @@ loop-rest-preserved g c =
     let old = c.loop-rest.invariant in
     let rest = c.loop-rest.rest.now in
     let some = c.in-len1-up.len_at_least in
-    let risen = rising_with rest c.loop-rest.next.items c.in_ok-next.next.items c.loop-rest.done (length c.args.payload.now + 1) c.in_ok-holds.holds some old.rest_rising old.rising c.in_ok-next.ensures in
+    let risen =
+    rising_with rest c.loop-rest.next.items c.in_ok-next.next.items c.loop-rest.done (length c.args.payload.now + 1)
+    c.in_ok-holds.holds some old.rest_rising old.rising c.in_ok-next.ensures in
     let counted = old.counted in
     let ticked = c.tick.ensures in
     record {
-      kept = λ means made. kept_next (λ p. LeadsFrom means c.args.payload.now c.args.values.now c.args.option.now p p) c.args.places.now rest c.loop-rest.next.items c.in_ok-next.next.items c.in_ok-holds.holds some (old.kept means made) (c.in_ok-holds.ensures means made) c.in_ok-next.ensures;
+      kept = λ means made.
+          kept_next (λ p. LeadsFrom means c.args.payload.now c.args.values.now c.args.option.now p p)
+          c.args.places.now rest c.loop-rest.next.items c.in_ok-next.next.items c.in_ok-holds.holds some (old.kept means made)
+          (c.in_ok-holds.ensures means made) c.in_ok-next.ensures;
       rest_rising = risen.1;
       rising = risen.0;
       counted = omega (arith, length_later rest some);
@@ -34,7 +39,10 @@ loop-rest-preserved g c =
 
 pub returns-clause-found : goal.returns-clause-found
 returns-clause-found g c = λ means every made.
-    kept_all every (LeadsFrom means c.args.payload.now c.args.values.now c.args.option.now) c.args.places.now c.loop-rest.rest.now c.loop-rest.next.items (test_stays means c.args.payload.now c.args.values.now c.args.option.now c.requires.test) c.in_default.len_below (c.loop-rest.invariant.kept means made)
+    kept_all every (LeadsFrom means c.args.payload.now c.args.values.now c.args.option.now)
+    c.args.places.now c.loop-rest.rest.now c.loop-rest.next.items
+    (test_stays means c.args.payload.now c.args.values.now c.args.option.now c.requires.test)
+    c.in_default.len_below (c.loop-rest.invariant.kept means made)
 
 pub returns-clause-rising : goal.returns-clause-rising
 returns-clause-rising g c =

@@ -19,7 +19,9 @@ pub loop-rest-preserved : goal.loop-rest-preserved
 loop-rest-preserved c =
     let old = c.loop-rest.invariant in
     let place = get_or c.loop-rest.rest.now 0 0 in
-    let all = deduped_next c.args.sorted.now c.loop-rest.rest.now c.loop-rest.next.items c.in_ok-next.next.items c.loop-rest.low (nat_le c.loop-rest.low place) c.in-len1-up.len_at_least old.deduped old.ascending old.rising refl c.in_ok-next.ensures in
+    let all =
+    deduped_next c.args.sorted.now c.loop-rest.rest.now c.loop-rest.next.items c.in_ok-next.next.items c.loop-rest.low
+    (nat_le c.loop-rest.low place) c.in-len1-up.len_at_least old.deduped old.ascending old.rising refl c.in_ok-next.ensures in
     record {
       deduped = all.0;
       ascending = all.1;

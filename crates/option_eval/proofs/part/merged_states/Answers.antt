@@ -25,9 +25,16 @@ loop-state-preserved c =
     let places = c.in_ok-once.once.places.items in
     let more = rw c.in_ok-once.ensures.values at c.in_ok-put.ensures.put in
     record {
-      merged = merged_next c.args.states c.loop-state.left c.take_first.new.self c.loop-state.done c.put.new.self values taken places old.left_was c.in-Some.ensures.taken c.in-Some.ensures.left c.in_ok-once.ensures.same more old.merged;
-      left_was = λ v ps found. old.left_was v ps (left_was c.loop-state.left c.take_first.new.self values taken c.in-Some.ensures.taken c.in-Some.ensures.left v ps found).0;
-      few = λ listed each. listed_next listed c.loop-state.left c.take_first.new.self values taken places (2 ^ 63) c.loop-state.done.place_count c.put.new.self.place_count c.in-Some.ensures.taken c.in-Some.ensures.left (λ p. (c.in_ok-once.ensures.same p).0)
+      merged =
+          merged_next c.args.states c.loop-state.left c.take_first.new.self c.loop-state.done c.put.new.self values taken places
+          old.left_was c.in-Some.ensures.taken c.in-Some.ensures.left c.in_ok-once.ensures.same more old.merged;
+      left_was = λ v ps found.
+          old.left_was v ps
+          (left_was c.loop-state.left c.take_first.new.self values taken c.in-Some.ensures.taken c.in-Some.ensures.left v ps
+          found).0;
+      few = λ listed each.
+          listed_next listed c.loop-state.left c.take_first.new.self values taken places (2 ^ 63) c.loop-state.done.place_count
+          c.put.new.self.place_count c.in-Some.ensures.taken c.in-Some.ensures.left (λ p. (c.in_ok-once.ensures.same p).0)
           c.in_ok-once.ensures.rising c.in_ok-put.ensures.counted (old.few listed each);
     }
 

@@ -23,18 +23,29 @@ decreases-is_passed_from g l = 3 * length l.options.now + 2
 
 abbrev pub invariant-is_passed_from-loop-state : goal.invariant-is_passed_from-loop-state
 invariant-is_passed_from-loop-state g l = record {
-  gone : (means : Means) → AllZip (IsMade g.P.Pattern.finds means) l.options (map pattern_of l.made) → GoneOnFrom means l.payload l.options l.fn.states l.left l.after.states;
+  gone : (means : Means)
+      → AllZip (IsMade g.P.Pattern.finds means) l.options (map pattern_of l.made)
+      → GoneOnFrom means l.payload l.options l.fn.states l.left l.after.states;
   left_was : IsLeft l.fn.states l.left;
   within : AreWithin (length l.payload) l.after.states;
   nowhere : ExtractsNothing l.options → (values : List ℕ) → places_at l.after.states values ≡ None;
-  known : (means : Means) → AllZip (IsMade g.P.Pattern.finds means) l.options (map pattern_of l.made) → AreKnown means l.payload l.options l.after.known;
+  known : (means : Means)
+      → AllZip (IsMade g.P.Pattern.finds means) l.options (map pattern_of l.made)
+      → AreKnown means l.payload l.options l.after.known;
   known_rising : AreRising (length l.payload + 1) l.after.known;
-  together : (means : Means) → AllZip (IsMade g.P.Pattern.finds means) l.options (map pattern_of l.made)
-      → (lists : List (List ℕ)) (listed : List Point) → HaveValues means l.payload lists (Some listed) l.options l.fn.states → length listed ≤ part_points
+  together : (means : Means)
+      → AllZip (IsMade g.P.Pattern.finds means) l.options (map pattern_of l.made)
+      → (lists : List (List ℕ)) (listed : List Point)
+      → HaveValues means l.payload lists (Some listed) l.options l.fn.states
+      → length listed ≤ part_points
       → Counted (visits_of (upto_extraction l.options) (length l.payload)) lists l.left l.fn.visits l.visits;
-  owing : (means : Means) → AllZip (IsMade g.P.Pattern.finds means) l.options (map pattern_of l.made)
-      → (lists : List (List ℕ)) → HaveValues means l.payload lists None l.options l.fn.states
-      → Owing (visits_apart (length lists) l.options (length l.payload)) (length lists * visits_apart (length lists) (after_extraction l.options) (length l.payload)) lists l.left l.after.states l.fn.visits l.visits;
+  owing : (means : Means)
+      → AllZip (IsMade g.P.Pattern.finds means) l.options (map pattern_of l.made)
+      → (lists : List (List ℕ))
+      → HaveValues means l.payload lists None l.options l.fn.states
+      → Owing (visits_apart (length lists) l.options (length l.payload))
+      (length lists * visits_apart (length lists) (after_extraction l.options) (length l.payload)) lists
+      l.left l.after.states l.fn.visits l.visits;
 }
 
 abbrev pub decreases-is_passed_from-loop-state : goal.decreases-is_passed_from-loop-state

@@ -20,26 +20,38 @@ pub is_passed-requires-clause-ready : goal.is_passed-requires-clause-ready
 is_passed-requires-clause-ready g c κs within =
     let same = ap (λ (s : Rules g.row.P.Denot). length s.rules) c.set.view_is in
     rw (c.as_slice.ensures, c.deref.ensures.value)
-    (zip_at (λ rule made. AllZip (IsReady {P = g.row.P.Denot}) rule.opts made.items) c.set.inside.rules.items c.set.inside.made.items c.args.rule c.set.invariant (omega (arith, c.requires)) c.index-rule.result.now c.index-made.result.now c.index-rule.ensures c.index-made.ensures)
+    (zip_at (λ rule made. AllZip (IsReady {P = g.row.P.Denot}) rule.opts made.items)
+    c.set.inside.rules.items c.set.inside.made.items c.args.rule c.set.invariant (omega (arith, c.requires))
+    c.index-rule.result.now c.index-made.result.now c.index-rule.ensures c.index-made.ensures)
 
 pub returns-clause-right : goal.returns-clause-right
 returns-clause-right g c = λ means chosen finds at.
     let same = ap (λ (s : Rules g.row.P.Denot). length s.rules) c.set.view_is in
     let below : c.args.rule < length c.set.inside.rules.items = omega (arith, c.requires) in
-    let finds' = subst (λ (s : Rules g.row.P.Denot). AllZip (AreMade g.P.Pattern.finds means) s.rules s.patterns) (sym c.set.view_is) finds in
-    let made = zip_map_at (AreMade g.P.Pattern.finds means) (λ made. map (pattern_of {P = g.row.P.Denot}) made.items) c.set.inside.rules.items c.set.inside.made.items c.args.rule finds' below c.index-rule.result.now c.index-made.result.now c.index-rule.ensures c.index-made.ensures in
+    let finds' =
+    subst (λ (s : Rules g.row.P.Denot). AllZip (AreMade g.P.Pattern.finds means) s.rules s.patterns) (sym c.set.view_is) finds in
+    let made =
+    zip_map_at (AreMade g.P.Pattern.finds means) (λ made. map (pattern_of {P = g.row.P.Denot}) made.items)
+    c.set.inside.rules.items c.set.inside.made.items c.args.rule finds' below c.index-rule.result.now c.index-made.result.now
+    c.index-rule.ensures c.index-made.ensures in
     let at' = subst (λ (s : Rules g.row.P.Denot). chosen ≡ get_or s.rules c.args.rule chosen) (sym c.set.view_is) at in
     let is = same_at c.set.inside.rules.items c.args.rule chosen c.index-rule.result.now below at' c.index-rule.ensures in
     let from = way_start means c.args.payload.now c.as_slice.result.now in
     let served = rw (← c.as_slice.ensures, ← c.deref.ensures.value) at made in
-    rw (is, ← c.as_slice.ensures) (IfOk-weaker c.is_passed.result _ _ (λ passed h. (λ yes. from.1 (h.0 yes), λ way. h.1 (from.0 way))) (c.is_passed.ensures.right means served))
+    rw (is, ← c.as_slice.ensures)
+    (IfOk-weaker c.is_passed.result _ _ (λ passed h. (λ yes. from.1 (h.0 yes), λ way. h.1 (from.0 way)))
+    (c.is_passed.ensures.right means served))
 
 pub returns-clause-bounded_by_values : goal.returns-clause-bounded_by_values
 returns-clause-bounded_by_values g c = λ means chosen finds at lists listed each few.
     let same = ap (λ (s : Rules g.row.P.Denot). length s.rules) c.set.view_is in
     let below : c.args.rule < length c.set.inside.rules.items = omega (arith, c.requires) in
-    let finds' = subst (λ (s : Rules g.row.P.Denot). AllZip (AreMade g.P.Pattern.finds means) s.rules s.patterns) (sym c.set.view_is) finds in
-    let made = zip_map_at (AreMade g.P.Pattern.finds means) (λ made. map (pattern_of {P = g.row.P.Denot}) made.items) c.set.inside.rules.items c.set.inside.made.items c.args.rule finds' below c.index-rule.result.now c.index-made.result.now c.index-rule.ensures c.index-made.ensures in
+    let finds' =
+    subst (λ (s : Rules g.row.P.Denot). AllZip (AreMade g.P.Pattern.finds means) s.rules s.patterns) (sym c.set.view_is) finds in
+    let made =
+    zip_map_at (AreMade g.P.Pattern.finds means) (λ made. map (pattern_of {P = g.row.P.Denot}) made.items)
+    c.set.inside.rules.items c.set.inside.made.items c.args.rule finds' below c.index-rule.result.now c.index-made.result.now
+    c.index-rule.ensures c.index-made.ensures in
     let at' = subst (λ (s : Rules g.row.P.Denot). chosen ≡ get_or s.rules c.args.rule chosen) (sym c.set.view_is) at in
     let is = same_at c.set.inside.rules.items c.args.rule chosen c.index-rule.result.now below at' c.index-rule.ensures in
     let served = rw (← c.as_slice.ensures, ← c.deref.ensures.value) at made in
@@ -50,8 +62,12 @@ pub returns-clause-bounded_in_parts : goal.returns-clause-bounded_in_parts
 returns-clause-bounded_in_parts g c = λ means chosen finds at lists each.
     let same = ap (λ (s : Rules g.row.P.Denot). length s.rules) c.set.view_is in
     let below : c.args.rule < length c.set.inside.rules.items = omega (arith, c.requires) in
-    let finds' = subst (λ (s : Rules g.row.P.Denot). AllZip (AreMade g.P.Pattern.finds means) s.rules s.patterns) (sym c.set.view_is) finds in
-    let made = zip_map_at (AreMade g.P.Pattern.finds means) (λ made. map (pattern_of {P = g.row.P.Denot}) made.items) c.set.inside.rules.items c.set.inside.made.items c.args.rule finds' below c.index-rule.result.now c.index-made.result.now c.index-rule.ensures c.index-made.ensures in
+    let finds' =
+    subst (λ (s : Rules g.row.P.Denot). AllZip (AreMade g.P.Pattern.finds means) s.rules s.patterns) (sym c.set.view_is) finds in
+    let made =
+    zip_map_at (AreMade g.P.Pattern.finds means) (λ made. map (pattern_of {P = g.row.P.Denot}) made.items)
+    c.set.inside.rules.items c.set.inside.made.items c.args.rule finds' below c.index-rule.result.now c.index-made.result.now
+    c.index-rule.ensures c.index-made.ensures in
     let at' = subst (λ (s : Rules g.row.P.Denot). chosen ≡ get_or s.rules c.args.rule chosen) (sym c.set.view_is) at in
     let is = same_at c.set.inside.rules.items c.args.rule chosen c.index-rule.result.now below at' c.index-rule.ensures in
     let served = rw (← c.as_slice.ensures, ← c.deref.ensures.value) at made in

@@ -12,8 +12,15 @@ loop-rest-preserved g c =
     let needle = c.args.needle.now in
     let payload = c.args.payload.now in
     let fits = c.requires.fits in
-    let swept = swept_next c.args.every needle.nocase payload needle.bytes.now c.args.reach.now c.args.places.now c.loop-rest.rest.now c.still_asked-rest.result.now (length payload + 1) c.loop-rest.from c.loop-rest.done (length payload - length needle.bytes.now + 1) c.low.result c.end.result c.min-low.result c.max-end.result c.loop-rest.next.items c.in_ok-next.next.items c.is_empty.result (nat_lt c.max-end.result (length payload - length needle.bytes.now + 1))
-    c.in-len1-up.len_at_least old.rest_rising old.swept (λ i within. omega arith) c.low.ensures.low c.end.ensures.end c.max-end.ensures (c.min-low.ensures ∙ ap (λ (n : ℕ). min n c.max-end.result) c.max.ensures) c.in_ok-next.ensures.found c.is_empty.ensures refl c.still_asked-rest.ensures in
+    let swept =
+    swept_next c.args.every needle.nocase payload needle.bytes.now c.args.reach.now c.args.places.now c.loop-rest.rest.now
+    c.still_asked-rest.result.now (length payload + 1) c.loop-rest.from c.loop-rest.done
+    (length payload - length needle.bytes.now + 1)
+    c.low.result c.end.result c.min-low.result c.max-end.result c.loop-rest.next.items c.in_ok-next.next.items c.is_empty.result
+    (nat_lt c.max-end.result (length payload - length needle.bytes.now + 1))
+    c.in-len1-up.len_at_least old.rest_rising old.swept (λ i within. omega arith) c.low.ensures.low c.end.ensures.end
+    c.max-end.ensures (c.min-low.ensures ∙ ap (λ (n : ℕ). min n c.max-end.result) c.max.ensures)
+    c.in_ok-next.ensures.found c.is_empty.ensures refl c.still_asked-rest.ensures in
     let e = c.max-end.ensures in
     let a = c.max.ensures in
     let b = c.min-low.ensures in
@@ -33,7 +40,9 @@ pub returns-clause-found : goal.returns-clause-found
 returns-clause-found g c =
     let needle = c.args.needle.now in
     IfOk-weaker c.gather.result _ _
-    (λ last added. swept_all c.args.every needle.nocase c.args.payload.now needle.bytes.now c.args.reach.now c.args.places.now c.loop-rest.rest.now c.loop-rest.from c.loop-rest.done c.loop-rest.next.items last.items c.in_default.len_below c.loop-rest.invariant.swept added)
+    (λ last added. swept_all c.args.every needle.nocase c.args.payload.now needle.bytes.now c.args.reach.now c.args.places.now
+    c.loop-rest.rest.now c.loop-rest.from c.loop-rest.done c.loop-rest.next.items last.items c.in_default.len_below
+    c.loop-rest.invariant.swept added)
     c.gather.ensures.found
 
 pub returns-clause-rising : goal.returns-clause-rising

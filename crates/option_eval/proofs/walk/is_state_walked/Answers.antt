@@ -9,7 +9,10 @@ use Rattle.option_eval.proofs.walk.is_state_walked.Goals as goal
 
 pub rising-requires-clause-small : goal.rising-requires-clause-small
 rising-requires-clause-small g c = λ q has.
-    let in_state = (sorted_same c.args.state.places.items c.sorted.result.items c.as_slice-2.result.now c.as_slice-2.result.now c.sorted.ensures.same c.as_slice-2.ensures (λ p. (λ x. x, λ x. x)) q).0 has in
+    let in_state =
+    (sorted_same c.args.state.places.items c.sorted.result.items c.as_slice-2.result.now c.as_slice-2.result.now
+    c.sorted.ensures.same c.as_slice-2.ensures (λ p. (λ x. x, λ x. x)) q).0
+    has in
     let within = c.requires.inside q in_state in
     omega arith
 
@@ -29,11 +32,17 @@ is_walked-requires-clause-rising g c κs within =
 
 pub returns-clause-right : goal.returns-clause-right
 returns-clause-right g c = λ means made known.
-    let same = sorted_same c.args.state.places.items c.sorted.result.items c.as_slice-2.result.now c.in_ok-places.places.items c.sorted.ensures.same c.as_slice-2.ensures c.in_ok-places.ensures.same in
-    let up : (q : ℕ) → Contains c.as_slice-3.result.now q → Contains c.args.state.places.items q = λ q has. (same q).0 (subst (λ (xs : List ℕ). Contains xs q) c.as_slice-3.ensures has) in
-    let down : (q : ℕ) → Contains c.args.state.places.items q → Contains c.as_slice-3.result.now q = λ q has. subst (λ (xs : List ℕ). Contains xs q) (sym c.as_slice-3.ensures) ((same q).1 has) in
+    let same =
+    sorted_same c.args.state.places.items c.sorted.result.items c.as_slice-2.result.now c.in_ok-places.places.items
+    c.sorted.ensures.same c.as_slice-2.ensures c.in_ok-places.ensures.same in
+    let up : (q : ℕ) → Contains c.as_slice-3.result.now q → Contains c.args.state.places.items q =
+    λ q has. (same q).0 (subst (λ (xs : List ℕ). Contains xs q) c.as_slice-3.ensures has) in
+    let down : (q : ℕ) → Contains c.args.state.places.items q → Contains c.as_slice-3.result.now q =
+    λ q has. subst (λ (xs : List ℕ). Contains xs q) (sym c.as_slice-3.ensures) ((same q).1 has) in
     IfOk-weaker c.is_walked.result _ _
     (λ walked h. walked_by walked _ _ _ _ h
-    (λ m. one_same means c.args.payload.now c.args.options.now c.args.state.values c.as_slice-3.result.now c.args.state.places.items up m)
-    (λ left. leaves_same means c.args.payload.now c.args.options.now c.args.state.values c.as_slice-3.result.now c.args.state.places.items c.args.after.now.states c.is_walked.new.after.states up down left))
+    (λ m. one_same means c.args.payload.now c.args.options.now c.args.state.values c.as_slice-3.result.now
+    c.args.state.places.items up m)
+    (λ left. leaves_same means c.args.payload.now c.args.options.now c.args.state.values c.as_slice-3.result.now
+    c.args.state.places.items c.args.after.now.states c.is_walked.new.after.states up down left))
     (c.is_walked.ensures.right means made known)

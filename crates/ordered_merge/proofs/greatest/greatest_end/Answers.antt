@@ -15,7 +15,15 @@ loop-at-preserved g c =
     let so_far = c.loop-at.invariant in
     let up : Ascends part.items = subst (λ (part : _). Ascends part.items) (sym is) (c.requires at part c.loop-at-test.true) in
     elim c.match-last_number.branch [
-      | in-Some+then-exceeds w ↦ subst (GreatestUpTo c.args.parts.now (at + 1)) (sym w.greatest-is) (GreatestUpTo-takes c.args.parts.now at w.in-Some.number part c.loop-at.greatest so_far c.loop-at-test.true is up w.in-Some.ensures (w.if-exceeds.ensures.0 refl))
-      | in-Some+else-exceeds w ↦ subst (GreatestUpTo c.args.parts.now (at + 1)) (sym w.greatest-is) (GreatestUpTo-keeps c.args.parts.now at w.in-Some.number part c.loop-at.greatest so_far c.loop-at-test.true is up w.in-Some.ensures (λ above. let h = w.if-exceeds.ensures.1 above in cc))
-      | in_default w ↦ subst (GreatestUpTo c.args.parts.now (at + 1)) (sym w.greatest-is) (GreatestUpTo-empty c.args.parts.now at part c.loop-at.greatest so_far c.loop-at-test.true is w.in_default.ensures)
+      | in-Some+then-exceeds w ↦
+          subst (GreatestUpTo c.args.parts.now (at + 1)) (sym w.greatest-is)
+          (GreatestUpTo-takes c.args.parts.now at w.in-Some.number part c.loop-at.greatest so_far c.loop-at-test.true is up
+          w.in-Some.ensures (w.if-exceeds.ensures.0 refl))
+      | in-Some+else-exceeds w ↦
+          subst (GreatestUpTo c.args.parts.now (at + 1)) (sym w.greatest-is)
+          (GreatestUpTo-keeps c.args.parts.now at w.in-Some.number part c.loop-at.greatest so_far c.loop-at-test.true is up
+          w.in-Some.ensures (λ above. let h = w.if-exceeds.ensures.1 above in cc))
+      | in_default w ↦
+          subst (GreatestUpTo c.args.parts.now (at + 1)) (sym w.greatest-is)
+          (GreatestUpTo-empty c.args.parts.now at part c.loop-at.greatest so_far c.loop-at-test.true is w.in_default.ensures)
     ]

@@ -15,7 +15,10 @@ pub returns-clause-ascending : goal.returns-clause-ascending
 returns-clause-ascending g c =
     let at = c.in_ok-end.end.at in
     let found = rw c.deref.ensures.value at c.in_ok-end.ensures in
-    All-set (λ part. Ascends part.items) c.args.parts.now.items at c.pop.new.self (popped_ascends c.args.parts.now.items at c.index_mut.result.now c.pop.new.self c.pop.result found.within c.index_mut.ensures.value c.pop.ensures.items c.requires) c.requires
+    All-set (λ part. Ascends part.items) c.args.parts.now.items at c.pop.new.self
+    (popped_ascends c.args.parts.now.items at c.index_mut.result.now c.pop.new.self c.pop.result found.within
+    c.index_mut.ensures.value c.pop.ensures.items c.requires)
+    c.requires
 
 pub returns-clause-taken : goal.returns-clause-taken
 returns-clause-taken g c =

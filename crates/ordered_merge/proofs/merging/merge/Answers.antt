@@ -12,15 +12,30 @@ returns-clause-whole g c = IsPermutation-trans _ _ _ c.in_ok-merged.ensures.whol
 
 pub returns-clause-ascending : goal.returns-clause-ascending
 returns-clause-ascending g c =
-    subst Ascends (sym c.reverse.ensures.items) (Ascends-reversed c.in_ok-merged.merged.items c.in_ok-merged.ensures.falling (IsDistinct-moved (joined c.args.parts.items) c.in_ok-merged.merged.items c.in_ok-merged.ensures.whole c.requires.apart))
+    subst Ascends (sym c.reverse.ensures.items)
+    (Ascends-reversed c.in_ok-merged.merged.items c.in_ok-merged.ensures.falling
+    (IsDistinct-moved (joined c.args.parts.items) c.in_ok-merged.merged.items c.in_ok-merged.ensures.whole c.requires.apart))
 
 pub returns-clause-entries : goal.returns-clause-entries
 returns-clause-entries g c =
-    let moved = IsPermutation-trans (joined c.args.parts.items) c.in_ok-merged.merged.items c.reverse.new.self.items c.in_ok-merged.ensures.whole c.reverse.ensures.permutation in
-    λ number. entry_of-permutation (joined c.args.parts.items) c.reverse.new.self.items number moved c.requires.apart (IsDistinct-moved (joined c.args.parts.items) c.reverse.new.self.items moved c.requires.apart)
+    let moved =
+    IsPermutation-trans (joined c.args.parts.items) c.in_ok-merged.merged.items c.reverse.new.self.items
+    c.in_ok-merged.ensures.whole c.reverse.ensures.permutation in
+    λ number.
+    entry_of-permutation (joined c.args.parts.items) c.reverse.new.self.items number moved c.requires.apart
+    (IsDistinct-moved (joined c.args.parts.items) c.reverse.new.self.items moved c.requires.apart)
 
 pub returns-clause-given : goal.returns-clause-given
 returns-clause-given g c =
-    let moved = IsPermutation-trans (joined c.args.parts.items) c.in_ok-merged.merged.items c.reverse.new.self.items c.in_ok-merged.ensures.whole c.reverse.ensures.permutation in
-    let up : Ascends c.reverse.new.self.items = subst Ascends (sym c.reverse.ensures.items) (Ascends-reversed c.in_ok-merged.merged.items c.in_ok-merged.ensures.falling (IsDistinct-moved (joined c.args.parts.items) c.in_ok-merged.merged.items c.in_ok-merged.ensures.whole c.requires.apart)) in
-    λ given rises same. sym (ascending_unique given (numbers c.reverse.new.self.items) (IsPermutation-trans given (numbers (joined c.args.parts.items)) (numbers c.reverse.new.self.items) same (IsPermutation-map (λ entry. entry.number) (joined c.args.parts.items) c.reverse.new.self.items moved)) rises up)
+    let moved =
+    IsPermutation-trans (joined c.args.parts.items) c.in_ok-merged.merged.items c.reverse.new.self.items
+    c.in_ok-merged.ensures.whole c.reverse.ensures.permutation in
+    let up : Ascends c.reverse.new.self.items =
+    subst Ascends (sym c.reverse.ensures.items)
+    (Ascends-reversed c.in_ok-merged.merged.items c.in_ok-merged.ensures.falling
+    (IsDistinct-moved (joined c.args.parts.items) c.in_ok-merged.merged.items c.in_ok-merged.ensures.whole c.requires.apart)) in
+    λ given rises same.
+    sym (ascending_unique given (numbers c.reverse.new.self.items)
+    (IsPermutation-trans given (numbers (joined c.args.parts.items)) (numbers c.reverse.new.self.items) same
+    (IsPermutation-map (λ entry. entry.number) (joined c.args.parts.items) c.reverse.new.self.items moved))
+    rises up)

@@ -8,4 +8,6 @@ pub returns : goal.returns
 returns c =
     let new = c.args.new.now in
     let start : c.bounds-start.result.start ≡ new.start = ap (λ (b : Bounds). b.start) c.bounds-start.ensures in
-    ap (λ p. p.list) c.push_back.ensures ∙ ap (λ p. c.args.pieces.now.list ++ p ∷ []) (c.of.ensures ∙ ap (λ n. part_of new n (n + length c.args.buffer)) start ∙ ap (part_of new new.start) c.requires.size)
+    ap (λ p. p.list) c.push_back.ensures
+    ∙ ap (λ p. c.args.pieces.now.list ++ p ∷ [])
+    (c.of.ensures ∙ ap (λ n. part_of new n (n + length c.args.buffer)) start ∙ ap (part_of new new.start) c.requires.size)

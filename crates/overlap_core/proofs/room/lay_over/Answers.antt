@@ -22,15 +22,26 @@ lay_among-requires-clause-room c = subst (λ (b : Buffers). IsRoomFor c.args.flo
 
 pub returns-in-AfterAll-clause-row : goal.returns-in-AfterAll-clause-row
 returns-in-AfterAll-clause-row c =
-    let room = room_after c.args.floor c.requires.room.0 (bounds_of c.args.new.now) c.args.pieces.now c.args.buffers c.in-AfterAll.buffer c.in-AfterAll.is c.requires.room.2 in
-    let made = laid_after c.args.preference c.args.new.now c.args.floor c.requires.room.0 c.args.pieces.now.list c.lay_after.new.pieces.list c.requires.room.1 room.after c.requires.some c.lay_after.ensures in
-    λ top row. laid_over-row c.args.preference c.args.new.now c.args.floor top c.args.pieces.now.list c.lay_after.new.pieces.list made row
+    let room =
+    room_after c.args.floor c.requires.room.0 (bounds_of c.args.new.now) c.args.pieces.now c.args.buffers c.in-AfterAll.buffer
+    c.in-AfterAll.is c.requires.room.2 in
+    let made =
+    laid_after c.args.preference c.args.new.now c.args.floor c.requires.room.0 c.args.pieces.now.list c.lay_after.new.pieces.list
+    c.requires.room.1 room.after c.requires.some c.lay_after.ensures in
+    λ top row.
+    laid_over-row c.args.preference c.args.new.now c.args.floor top c.args.pieces.now.list c.lay_after.new.pieces.list made row
 
 pub returns-in-AfterAll-clause-holds : goal.returns-in-AfterAll-clause-holds
 returns-in-AfterAll-clause-holds c =
-    let room = room_after c.args.floor c.requires.room.0 (bounds_of c.args.new.now) c.args.pieces.now c.args.buffers c.in-AfterAll.buffer c.in-AfterAll.is c.requires.room.2 in
-    let made = laid_after c.args.preference c.args.new.now c.args.floor c.requires.room.0 c.args.pieces.now.list c.lay_after.new.pieces.list c.requires.room.1 room.after c.requires.some c.lay_after.ensures in
-    λ top segments row holds. laid_over-holds c.args.preference c.args.new.now segments c.args.floor top c.args.pieces.now.list c.lay_after.new.pieces.list made row holds
+    let room =
+    room_after c.args.floor c.requires.room.0 (bounds_of c.args.new.now) c.args.pieces.now c.args.buffers c.in-AfterAll.buffer
+    c.in-AfterAll.is c.requires.room.2 in
+    let made =
+    laid_after c.args.preference c.args.new.now c.args.floor c.requires.room.0 c.args.pieces.now.list c.lay_after.new.pieces.list
+    c.requires.room.1 room.after c.requires.some c.lay_after.ensures in
+    λ top segments row holds.
+    laid_over-holds c.args.preference c.args.new.now segments c.args.floor top c.args.pieces.now.list c.lay_after.new.pieces.list
+    made row holds
 
 pub returns-in-Among-clause-row : goal.returns-in-Among-clause-row
 returns-in-Among-clause-row c = c.lay_among.ensures.row

@@ -14,8 +14,11 @@ loop-next-preserved c = record {
   list = ap (λ p. p.list) c.next.ensures.place ∙ c.loop-next.invariant.list;
   sizes = λ front rest top between row.
       let walk = c.loop-next.invariant.sizes front rest top between row in
-      buffers_more c.loop-next.low c.args.high top c.loop-next.pieces c.next.new.self c.next.result c.in-Some.next (map length c.loop-next.buffers.items) (map length c.add_buffer.new.buffers.items) (gap_sizes c.args.low c.args.high rest) walk
-      (c.in-Some.ensures.next walk.front walk.rest walk.between) c.next.ensures.moved c.next.ensures.place c.in_ok-add_buffer.ensures;
+      buffers_more c.loop-next.low c.args.high top c.loop-next.pieces c.next.new.self c.next.result c.in-Some.next
+      (map length c.loop-next.buffers.items) (map length c.add_buffer.new.buffers.items)
+      (gap_sizes c.args.low c.args.high rest) walk
+      (c.in-Some.ensures.next walk.front walk.rest walk.between)
+      c.next.ensures.moved c.next.ensures.place c.in_ok-add_buffer.ensures;
 }
 
 pub returns-clause-sizes : goal.returns-clause-sizes

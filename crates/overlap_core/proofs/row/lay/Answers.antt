@@ -24,7 +24,8 @@ fill_gap-requires-clause-ready c =
 pub loop-next-smaller : goal.loop-next-smaller
 loop-next-smaller c =
     let now = c.loop-next.invariant c.requires.ready.front c.requires.ready.rest c.requires.ready.between in
-    laying_smaller c.loop-next.pieces c.fill_gap.new.pieces c.overlay.new.pieces c.args.new.now c.loop-next.low c.bounds-high.result.end c.in-Some.next now.ready.front now.ready.rest c.args.preference now.ready.between
+    laying_smaller c.loop-next.pieces c.fill_gap.new.pieces c.overlay.new.pieces c.args.new.now c.loop-next.low
+    c.bounds-high.result.end c.in-Some.next now.ready.front now.ready.rest c.args.preference now.ready.between
     (c.in-Some.ensures.next now.ready.front now.ready.rest now.ready.between) c.fill_gap.ensures.list c.overlay.ensures.list
 
 pub loop-next-preserved : goal.loop-next-preserved
@@ -42,13 +43,20 @@ pub fill_gap-requires-2-clause-ready : goal.fill_gap-requires-2-clause-ready
 fill_gap-requires-2-clause-ready c =
     let now = c.loop-next.invariant c.requires.ready.front c.requires.ready.rest c.requires.ready.between in
     let high : c.bounds-high.result.end ≡ end_of c.args.new.now = ap (λ (b : Bounds). b.end) c.bounds-high.ensures in
-    let next = rw high at (rw c.in_default.is at (c.next_below.ensures.next now.ready.front now.ready.rest now.ready.between)) in
-    ([], now.ready.sizes ∙ gap_sizes-end c.loop-next.low (end_of c.args.new.now) now.ready.top now.ready.rest next now.ready.row ∙ ap (gap_size c.loop-next.low) (sym high) ∙ sym (append-nil (gap_size c.loop-next.low c.bounds-high.result.end)))
+    let next = rw high at (rw c.in_default.is at (c.next_below.ensures.next now.ready.front now.ready.rest now.ready.between)) in (
+      [],
+      now.ready.sizes
+          ∙ gap_sizes-end c.loop-next.low (end_of c.args.new.now) now.ready.top now.ready.rest next now.ready.row
+          ∙ ap (gap_size c.loop-next.low) (sym high)
+          ∙ sym (append-nil (gap_size c.loop-next.low c.bounds-high.result.end)),
+    )
 
 pub returns : goal.returns
 returns c = λ front rest between.
     let now = c.loop-next.invariant front rest between in
     let high : c.bounds-high.result.end ≡ end_of c.args.new.now = ap (λ (b : Bounds). b.end) c.bounds-high.ensures in
     let next = rw high at (rw c.in_default.is at (c.next_below.ensures.next now.ready.front now.ready.rest now.ready.between)) in
-    laying_end c.loop-next.pieces c.fill_gap-2.new.pieces c.loop-next.buffers.items c.args.preference c.args.new.now c.loop-next.low (front ++ laid c.args.preference c.args.new.now c.args.low rest) now next
-    (λ f r at. subst (λ (n : ℕ). Between c.fill_gap-2.new.pieces (f ++ gap_piece c.args.new.now c.loop-next.low n) r) high (c.fill_gap-2.ensures.list f r at))
+    laying_end c.loop-next.pieces c.fill_gap-2.new.pieces c.loop-next.buffers.items c.args.preference c.args.new.now
+    c.loop-next.low (front ++ laid c.args.preference c.args.new.now c.args.low rest) now next
+    (λ f r at. subst (λ (n : ℕ). Between c.fill_gap-2.new.pieces (f ++ gap_piece c.args.new.now c.loop-next.low n) r) high
+    (c.fill_gap-2.ensures.list f r at))

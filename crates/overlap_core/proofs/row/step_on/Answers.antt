@@ -8,7 +8,9 @@ use Rattle.overlap_core.proofs.row.step_on.Goals as goal
 pub loop-pieces-smaller : goal.loop-pieces-smaller
 loop-pieces-smaller c =
     let at_item = c.begins_below.ensures.yes_at c.loop-pieces-test.true in
-    smaller_next c.loop-pieces.pieces c.next.new.self c.next.result (slice_get_within c.loop-pieces.pieces.list c.loop-pieces.pieces.place at_item.0 at_item.1) c.next.ensures.moved c.next.ensures.place
+    smaller_next c.loop-pieces.pieces c.next.new.self c.next.result
+    (slice_get_within c.loop-pieces.pieces.list c.loop-pieces.pieces.place at_item.0 at_item.1)
+    c.next.ensures.moved c.next.ensures.place
 
 pub loop-pieces-preserved : goal.loop-pieces-preserved
 loop-pieces-preserved c = record {
@@ -22,4 +24,6 @@ loop-pieces-preserved c = record {
 
 pub returns-clause-place : goal.returns-clause-place
 returns-clause-place c = λ front rest list below from within.
-    sought c.args.at c.loop-pieces.pieces c.begins_below.result front rest (c.loop-pieces.invariant.before front rest list from within) (c.loop-pieces.invariant.list ∙ list) below c.begins_below.ensures.no_at c.loop-pieces-test.false
+    sought c.args.at c.loop-pieces.pieces c.begins_below.result front rest
+    (c.loop-pieces.invariant.before front rest list from within)
+    (c.loop-pieces.invariant.list ∙ list) below c.begins_below.ensures.no_at c.loop-pieces-test.false

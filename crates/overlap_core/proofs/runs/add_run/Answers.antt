@@ -16,11 +16,17 @@ returns-then-ends_at c =
 
 pub returns-in_default : goal.returns-in_default
 returns-in_default c =
-    on_ok1 c.push_run.result _ (c.push_run.new.runs.items ≡ with_run c.args.runs.now.items c.args.start c.args.bytes.now) c.push_run.ensures
-    (λ pushed. pushed ∙ with_run-first c.args.runs.now.items c.pop.new.self.items c.args.start c.args.bytes.now c.in_default.ensures.items (omega (arith, c.in_default.ensures.cases.1, c.pop.new.self.ok.0)))
+    on_ok1 c.push_run.result _ (c.push_run.new.runs.items ≡ with_run c.args.runs.now.items c.args.start c.args.bytes.now)
+    c.push_run.ensures
+    (λ pushed. pushed ∙
+    with_run-first c.args.runs.now.items c.pop.new.self.items c.args.start c.args.bytes.now c.in_default.ensures.items
+    (omega (arith, c.in_default.ensures.cases.1, c.pop.new.self.ok.0)))
 
 pub returns : goal.returns
 returns c =
-    on_ok1 c.push_run-2.result _ (c.push_run-2.new.runs.items ≡ with_run c.args.runs.now.items c.args.start c.args.bytes.now) c.push_run-2.ensures
+    on_ok1 c.push_run-2.result _ (c.push_run-2.new.runs.items ≡ with_run c.args.runs.now.items c.args.start c.args.bytes.now)
+    c.push_run-2.ensures
     (λ pushed. pushed ∙ ap (λ rs. rs ++ make_run c.args.start c.args.bytes.now ∷ []) c.in_ok-push-2.ensures.items
-    ∙ sym (ap (λ rs. with_run rs c.args.start c.args.bytes.now) c.in-Some.ensures.items ∙ with_run-apart c.pop.new.self.items c.in-Some.last c.args.start c.args.bytes.now (λ meets. let is = c.ends_at.ensures.1 meets in let fails = c.if-ends_at.false in cc)))
+    ∙ sym (ap (λ rs. with_run rs c.args.start c.args.bytes.now) c.in-Some.ensures.items ∙
+    with_run-apart c.pop.new.self.items c.in-Some.last c.args.start c.args.bytes.now
+    (λ meets. let is = c.ends_at.ensures.1 meets in let fails = c.if-ends_at.false in cc)))

@@ -20,9 +20,11 @@ loop-done-preserved c =
     let count = c.min-count.result in
     let new = take count c.in-Some.piece.now.bytes in
     let bytes : c.bytes-bytes.result.now ≡ c.in-Some.piece.now.bytes = c.bytes-bytes.ensures in
-    let counted : count ≡ min (length c.in-Some.piece.now.bytes) (c.args.len - done) = c.min-count.ensures ∙ ap (λ bs. min (length bs) (c.args.len - done)) bytes in
+    let counted : count ≡ min (length c.in-Some.piece.now.bytes) (c.args.len - done) =
+    c.min-count.ensures ∙ ap (λ bs. min (length bs) (c.args.len - done)) bytes in
     let size : length new ≡ count = length-take-le count c.in-Some.piece.now.bytes (omega (arith, counted)) in
-    let added : c.append.new.out.items ≡ c.loop-done.out.items ++ new = c.append.ensures.items ∙ ap (λ bs. c.loop-done.out.items ++ take count bs) bytes in
+    let added : c.append.new.out.items ≡ c.loop-done.out.items ++ new =
+    c.append.ensures.items ∙ ap (λ bs. c.loop-done.out.items ++ take count bs) bytes in
     let longer : length (take count c.bytes-bytes.result.now) ≡ count = ap (λ bs. length (take count bs)) bytes ∙ size in
     record {
       can = tt;
@@ -34,6 +36,9 @@ loop-done-preserved c =
       longer = omega (arith, c.loop-done.invariant.longer, c.append.ensures.len, longer);
       room = omega (arith, c.loop-done.invariant.room, c.append.ensures.room);
       filling = λ top row.
-          let now = subst (λ ps. IsFilling c.args.pieces.now.list ps c.args.floor done c.args.len past top) c.in-Some.ensures.steps (c.loop-done.invariant.filling top row) in
-          filling_appended c.args.pieces.now.list c.next.new.self c.in-Some.piece.now c.args.floor done c.args.len count past top now c.loop-done.invariant.passed c.loop-done-test.true (sym c.start.ensures ∙ c.if-start-place.false) counted;
+          let now =
+          subst (λ ps. IsFilling c.args.pieces.now.list ps c.args.floor done c.args.len past top)
+          c.in-Some.ensures.steps (c.loop-done.invariant.filling top row) in
+          filling_appended c.args.pieces.now.list c.next.new.self c.in-Some.piece.now c.args.floor done c.args.len count past top
+          now c.loop-done.invariant.passed c.loop-done-test.true (sym c.start.ensures ∙ c.if-start-place.false) counted;
     }

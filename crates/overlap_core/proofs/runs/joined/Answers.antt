@@ -7,16 +7,25 @@ use Rattle.overlap_core.proofs.runs.joined.Goals as goal
 
 pub returns-then-below-start : goal.returns-then-below-start
 returns-then-below-start c = λ floor top row order.
-    joining_past c.args.pieces.now.list c.loop-piece.rest c.next.new.self c.in-Some.piece.now c.loop-piece.runs.items floor c.args.below top (c.loop-piece.invariant.runs floor top row order) c.in-Some.ensures.steps (subst (λ n. c.args.below ≤ n) c.start.ensures c.if-below-start.true)
+    joining_past c.args.pieces.now.list c.loop-piece.rest c.next.new.self c.in-Some.piece.now c.loop-piece.runs.items floor
+    c.args.below top (c.loop-piece.invariant.runs floor top row order)
+    c.in-Some.ensures.steps
+    (subst (λ n. c.args.below ≤ n) c.start.ensures c.if-below-start.true)
 
 pub loop-piece-preserved : goal.loop-piece-preserved
 loop-piece-preserved c = record {
   can = tt;
   finite = tt;
   runs = λ floor top row order.
-      let now = subst (λ ps. IsJoining c.args.pieces.now.list ps c.loop-piece.runs.items floor c.args.below top) c.in-Some.ensures.steps (c.loop-piece.invariant.runs floor top row order) in
-      joining_more c.args.pieces.now.list c.next.new.self c.in-Some.piece.now c.loop-piece.runs.items c.add_run.new.runs.items floor c.args.below top now (subst (λ n. n < c.args.below) c.start.ensures c.if-below-start.false)
-      (c.in_ok-add_run.ensures ∙ ap (λ n. with_run c.loop-piece.runs.items n c.bytes_below-bytes.result.now) c.start-in-Some.ensures ∙ ap (with_run c.loop-piece.runs.items c.in-Some.piece.now.start) c.bytes_below-bytes.ensures);
+      let now =
+      subst (λ ps. IsJoining c.args.pieces.now.list ps c.loop-piece.runs.items floor c.args.below top)
+      c.in-Some.ensures.steps
+      (c.loop-piece.invariant.runs floor top row order) in
+      joining_more c.args.pieces.now.list c.next.new.self c.in-Some.piece.now c.loop-piece.runs.items c.add_run.new.runs.items
+      floor c.args.below top now (subst (λ n. n < c.args.below) c.start.ensures c.if-below-start.false)
+      (c.in_ok-add_run.ensures ∙
+      ap (λ n. with_run c.loop-piece.runs.items n c.bytes_below-bytes.result.now) c.start-in-Some.ensures ∙
+      ap (with_run c.loop-piece.runs.items c.in-Some.piece.now.start) c.bytes_below-bytes.ensures);
 }
 
 pub returns : goal.returns

@@ -14,6 +14,10 @@ returns-in_err-transport-clause-told c =
 
 pub returns-clause-told : goal.returns-clause-told
 returns-clause-told c =
-    sym (placed_part {start = c.args.bounds.start} {stop = c.args.bounds.stop} (record { is = refl; in_order = c.requires.in_order; captured = c.requires.captured }) c.transport.new.out c.in_ok-transport.ensures.within)
+    sym (placed_part {start = c.args.bounds.start} {stop = c.args.bounds.stop}
+    (record { is = refl; in_order = c.requires.in_order; captured = c.requires.captured })
+    c.transport.new.out c.in_ok-transport.ensures.within)
     ∙ c.in_ok-transport.ensures.told
-    ∙ transport_part {start = c.args.bounds.start} {stop = c.args.bounds.stop} (record { is = refl; in_order = c.requires.in_order; captured = c.requires.captured }) c.args.out.now.ip c.args.checks
+    ∙ transport_part {start = c.args.bounds.start} {stop = c.args.bounds.stop}
+    (record { is = refl; in_order = c.requires.in_order; captured = c.requires.captured })
+    c.args.out.now.ip c.args.checks

@@ -8,9 +8,19 @@ pub loop-pattern-preserved : goal.loop-pattern-preserved
 loop-pattern-preserved c =
     let most = c.max-most.result in
     let item = c.pattern-item.result in
-    All-more (λ (pattern : List ℕ). length pattern ≤ most) c.args.patterns.now c.loop-pattern.pattern-index item c.loop-pattern-test.true
-    (All-weaker (λ (pattern : List ℕ). length pattern ≤ c.loop-pattern.most) (λ (pattern : List ℕ). length pattern ≤ most) (λ pattern h. omega (arith, c.max-most.ensures)) (take c.loop-pattern.pattern-index c.args.patterns.now) c.loop-pattern.invariant)
+    All-more (λ (pattern : List ℕ). length pattern ≤ most)
+    c.args.patterns.now c.loop-pattern.pattern-index item c.loop-pattern-test.true
+    (All-weaker (λ (pattern : List ℕ). length pattern ≤ c.loop-pattern.most)
+    (λ (pattern : List ℕ). length pattern ≤ most)
+    (λ pattern h. omega (arith, c.max-most.ensures))
+    (take c.loop-pattern.pattern-index c.args.patterns.now)
+    c.loop-pattern.invariant)
     (omega (arith, c.max-most.ensures, ap length c.bytes.ensures, ap length c.pattern-item.is))
 
 pub returns : goal.returns
-returns c = All-same (λ (pattern : List ℕ). length pattern ≤ c.loop-pattern.most) c.args.patterns.now (take c.loop-pattern.pattern-index c.args.patterns.now) (sym (take_all c.loop-pattern.pattern-index c.args.patterns.now c.loop-pattern-test.false)) c.loop-pattern.invariant
+returns c =
+    All-same (λ (pattern : List ℕ). length pattern ≤ c.loop-pattern.most)
+    c.args.patterns.now
+    (take c.loop-pattern.pattern-index c.args.patterns.now)
+    (sym (take_all c.loop-pattern.pattern-index c.args.patterns.now c.loop-pattern-test.false))
+    c.loop-pattern.invariant

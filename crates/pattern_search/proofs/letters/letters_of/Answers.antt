@@ -6,8 +6,14 @@ use Rattle.pattern_search.proofs.letters.letters_of.Goals as goal
 
 pub returns-clause-told : goal.returns-clause-told
 returns-clause-told c =
-    all-told c.used_bytes-used.result c.numbered-numbered.result.of c.folded.result (c.numbered-numbered.result.count - 1) c.numbered-numbered.ensures.numbered c.folded.ensures c.args.patterns.now c.used_bytes-used.ensures
+    all-told c.used_bytes-used.result c.numbered-numbered.result.of c.folded.result (c.numbered-numbered.result.count - 1)
+    c.numbered-numbered.ensures.numbered c.folded.ensures c.args.patterns.now c.used_bytes-used.ensures
 
 pub returns-clause-below : goal.returns-clause-below
 returns-clause-below c = λ byte.
-    omega (arith, all-below c.used_bytes-used.result c.numbered-numbered.result.of c.folded.result (c.numbered-numbered.result.count - 1) c.numbered-numbered.ensures.numbered c.folded.ensures byte, c.numbered-numbered.ensures.some)
+    omega (
+      arith,
+      all-below c.used_bytes-used.result c.numbered-numbered.result.of c.folded.result (c.numbered-numbered.result.count - 1)
+          c.numbered-numbered.ensures.numbered c.folded.ensures byte,
+      c.numbered-numbered.ensures.some,
+    )

@@ -16,7 +16,10 @@ loop-byte-preserved c =
     record {
       sized = length-set c.loop-byte.used c.lower.result true ∙ was.sized;
       kept = keeps-trans c.args.used.now c.loop-byte.used _ was.kept (keeps-set c.loop-byte.used c.lower.result);
-      marked = marked-more c.loop-byte.used c.args.pattern.now c.loop-byte.byte-index c.lower.result was.marked c.loop-byte-test.true (omega (arith, c.type_inv.pattern c.loop-byte.byte-index)) c.lower.ensures was.sized;
+      marked =
+          marked-more c.loop-byte.used c.args.pattern.now c.loop-byte.byte-index c.lower.result was.marked c.loop-byte-test.true
+          (omega (arith, c.type_inv.pattern c.loop-byte.byte-index))
+          c.lower.ensures was.sized;
     }
 
 pub returns-clause-marked : goal.returns-clause-marked

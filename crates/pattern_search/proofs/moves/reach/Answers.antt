@@ -4,12 +4,16 @@ use Rattle.pattern_search.proofs.States.Moving.{reaching-more, reached-some, rea
 use Rattle.pattern_search.proofs.moves.reach.Goals as goal
 
 pub returns-then-child-ne0 : goal.returns-then-child-ne0
-returns-then-child-ne0 c = reached-some c.args.trie.now c.args.fails.now c.args.below c.args.state c.args.letter c.loop-at.at c.found-child.result c.loop-at.invariant c.found-child.ensures c.if-child-ne0.true
+returns-then-child-ne0 c =
+    reached-some c.args.trie.now c.args.fails.now c.args.below c.args.state c.args.letter c.loop-at.at c.found-child.result
+    c.loop-at.invariant c.found-child.ensures c.if-child-ne0.true
 
 pub loop-at-preserved : goal.loop-at-preserved
 loop-at-preserved c =
     let at = c.loop-at.at in
-    reaching-more c.args.trie.now c.args.fails.now c.args.state c.args.letter at c.found-child.result c.min-at.result (omega (arith, c.max-least.ensures)) c.loop-at.invariant c.found-child.ensures (omega arith) (c.min-at.ensures ∙ ap (λ (n : ℕ). min n (at - 1)) c.read.ensures)
+    reaching-more c.args.trie.now c.args.fails.now c.args.state c.args.letter at c.found-child.result c.min-at.result
+    (omega (arith, c.max-least.ensures)) c.loop-at.invariant c.found-child.ensures (omega arith)
+    (c.min-at.ensures ∙ ap (λ (n : ℕ). min n (at - 1)) c.read.ensures)
 
 pub returns : goal.returns
 returns c = reached-none c.args.trie.now c.args.fails.now c.args.below c.args.state c.args.letter c.loop-at.at c.loop-at.invariant (λ some. omega (arith, c.max-least.ensures))

@@ -5,10 +5,19 @@ use Rattle.pattern_search.proofs.States.Rowing.{entry-child, entry-root, entry-b
 use Rattle.pattern_search.proofs.rows.next_entry.Goals as goal
 
 pub returns-then-child-ne0 : goal.returns-then-child-ne0
-returns-then-child-ne0 c = entry-child c.args.trie.now c.args.fails.now c.args.entries.now c.args.table.now c.args.state c.args.letter c.args.child c.read.result c.requires c.if-child-ne0.true c.read.ensures
+returns-then-child-ne0 c =
+    entry-child c.args.trie.now c.args.fails.now c.args.entries.now c.args.table.now c.args.state c.args.letter c.args.child
+    c.read.result c.requires c.if-child-ne0.true c.read.ensures
 
 pub returns-then-state-eq0 : goal.returns-then-state-eq0
-returns-then-state-eq0 c = entry-root c.args.trie.now c.args.fails.now c.args.entries.now c.args.table.now c.args.state c.args.letter c.args.child c.read-then-state-eq0.result c.requires (omega arith) c.if-state-eq0.true c.read-then-state-eq0.ensures
+returns-then-state-eq0 c =
+    entry-root c.args.trie.now c.args.fails.now c.args.entries.now c.args.table.now c.args.state c.args.letter c.args.child
+    c.read-then-state-eq0.result c.requires (omega arith) c.if-state-eq0.true c.read-then-state-eq0.ensures
 
 pub returns : goal.returns
-returns c = entry-back c.args.trie.now c.args.fails.now c.args.entries.now c.args.table.now c.args.state c.args.letter c.args.child c.read-3.result c.requires (omega arith) c.if-state-eq0.false (c.read-3.ensures ∙ ap (slice_index c.args.table.now) (c.place.ensures ∙ ap (λ (f : ℕ). f * c.args.trie.now.width + c.args.letter) c.read-2.ensures))
+returns c =
+    entry-back c.args.trie.now c.args.fails.now c.args.entries.now c.args.table.now c.args.state c.args.letter c.args.child
+    c.read-3.result c.requires (omega arith) c.if-state-eq0.false
+    (c.read-3.ensures ∙
+    ap (slice_index c.args.table.now)
+    (c.place.ensures ∙ ap (λ (f : ℕ). f * c.args.trie.now.width + c.args.letter) c.read-2.ensures))

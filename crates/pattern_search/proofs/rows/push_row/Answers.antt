@@ -13,7 +13,9 @@ loop-letter-preserved c = λ was.
     let letter = c.loop-letter.letter in
     let P : List ℕ → Type 0 = λ t. IsNextEntry trie fails entries t state letter c.next_entry-entry.result in
     let Q : List ℕ → Type 0 = λ t. HasRows trie fails entries state (letter + 1) t in
-    subst Q (sym c.in_ok-push.ensures.items) (rows-more trie fails entries state letter c.loop-letter.table.items c.next_entry-entry.result (c.loop-letter.invariant was) c.loop-letter-test.true (subst P c.deref.ensures.value c.next_entry-entry.ensures))
+    subst Q (sym c.in_ok-push.ensures.items)
+    (rows-more trie fails entries state letter c.loop-letter.table.items c.next_entry-entry.result (c.loop-letter.invariant was)
+    c.loop-letter-test.true (subst P c.deref.ensures.value c.next_entry-entry.ensures))
 
 pub returns : goal.returns
 returns c = λ was. row-done c.args.trie.now c.args.fails.now c.args.entries.now c.args.state c.loop-letter.letter c.loop-letter.table.items (omega arith) (c.loop-letter.invariant was)

@@ -19,16 +19,35 @@ loop-done-preserved g c =
     record {
       within = grind (arith, common_steps);
       unopened = λ seen may none.
-          let zero = c.loop-done.invariant.unopened seen (seen_earlier (g.H.Host.contents mid) (g.H.Host.contents new) (g.H.Host.agrees mid) (g.H.Host.agrees new) seen c.in-Ok.ensures.same_contents c.in-Ok.ensures.earlier may) none in
-          let same = c.loop-done.invariant.took seen (seen_earlier (g.H.Host.contents mid) (g.H.Host.contents new) (g.H.Host.agrees mid) (g.H.Host.agrees new) seen c.in-Ok.ensures.same_contents c.in-Ok.ensures.earlier may) ∙ ap (λ (n : ℕ). before (take n buf) (left_by (g.H.Host.left_of mid) seen)) zero ∙ before-nil (left_by (g.H.Host.left_of mid) seen) in
-          let count = seen_unopened (g.H.Host.contents new) (g.H.Host.agrees new) (g.H.Host.left_of mid) c.in-Ok.count seen may c.in-Ok.ensures.agreed_unopened (subst (IsUnopened seen) same none) in
+          let zero =
+          c.loop-done.invariant.unopened seen
+          (seen_earlier (g.H.Host.contents mid) (g.H.Host.contents new) (g.H.Host.agrees mid) (g.H.Host.agrees new) seen
+          c.in-Ok.ensures.same_contents c.in-Ok.ensures.earlier may)
+          none in
+          let same =
+          c.loop-done.invariant.took seen
+          (seen_earlier (g.H.Host.contents mid) (g.H.Host.contents new) (g.H.Host.agrees mid) (g.H.Host.agrees new) seen
+          c.in-Ok.ensures.same_contents c.in-Ok.ensures.earlier may)
+          ∙ ap (λ (n : ℕ). before (take n buf) (left_by (g.H.Host.left_of mid) seen)) zero
+          ∙ before-nil (left_by (g.H.Host.left_of mid) seen) in
+          let count =
+          seen_unopened (g.H.Host.contents new) (g.H.Host.agrees new) (g.H.Host.left_of mid) c.in-Ok.count seen may
+          c.in-Ok.ensures.agreed_unopened (subst (IsUnopened seen) same none) in
           omega (arith, zero, count);
       took = λ seen may.
-          c.loop-done.invariant.took seen (seen_earlier (g.H.Host.contents mid) (g.H.Host.contents new) (g.H.Host.agrees mid) (g.H.Host.agrees new) seen c.in-Ok.ensures.same_contents c.in-Ok.ensures.earlier may)
-          ∙ ap (before (take done buf)) (seen_taken (g.H.Host.contents new) (g.H.Host.agrees new) (g.H.Host.left_of mid) (g.H.Host.left_of new) (take c.in-Ok.count c.read.new.buf) seen may c.in-Ok.ensures.agreed)
-          ∙ before_filled buf c.read.new.buf done (length buf - done) c.in-Ok.count (left_by (g.H.Host.left_of new) seen) c.loop-done.invariant.within within;
+          c.loop-done.invariant.took seen
+          (seen_earlier (g.H.Host.contents mid) (g.H.Host.contents new) (g.H.Host.agrees mid) (g.H.Host.agrees new) seen
+          c.in-Ok.ensures.same_contents c.in-Ok.ensures.earlier may)
+          ∙ ap (before (take done buf))
+          (seen_taken (g.H.Host.contents new) (g.H.Host.agrees new) (g.H.Host.left_of mid) (g.H.Host.left_of new)
+          (take c.in-Ok.count c.read.new.buf) seen may c.in-Ok.ensures.agreed)
+          ∙ before_filled buf c.read.new.buf done (length buf - done) c.in-Ok.count (left_by (g.H.Host.left_of new) seen)
+          c.loop-done.invariant.within within;
       contents = c.in-Ok.ensures.same_contents ∙ c.loop-done.invariant.contents;
-      earlier = λ seen may. c.loop-done.invariant.earlier seen (seen_earlier (g.H.Host.contents mid) (g.H.Host.contents new) (g.H.Host.agrees mid) (g.H.Host.agrees new) seen c.in-Ok.ensures.same_contents c.in-Ok.ensures.earlier may);
+      earlier = λ seen may.
+          c.loop-done.invariant.earlier seen
+          (seen_earlier (g.H.Host.contents mid) (g.H.Host.contents new) (g.H.Host.agrees mid) (g.H.Host.agrees new) seen
+          c.in-Ok.ensures.same_contents c.in-Ok.ensures.earlier may);
       opens = c.in-Ok.ensures.same_opens ∙ c.loop-done.invariant.opens;
       same = c.in-Ok.ensures.unfailed ∙ c.loop-done.invariant.same;
     }

@@ -19,7 +19,9 @@ loop-millis-preserved c =
     let added : c.add_record.new.bytes.items ≡ before ++ record_bytes millis c.in_ok-frame.frame.items =
     c.in_ok-add_record.ensures ∙ ap (λ (frame : List ℕ). before ++ record_bytes millis frame) c.deref.ensures.value in
     ap (λ (bytes : List ℕ). bytes ++ records_from (millis + 1) (frames (c.args.count - (millis + 1)) after)) added
-    ∙ records-step (c.args.count - millis) (c.args.count - (millis + 1)) millis c.loop-millis.traffic after c.in_ok-frame.frame.items before (generated c.args.seed c.args.count) (omega arith) c.in_ok-frame.ensures.made c.loop-millis.invariant
+    ∙ records-step (c.args.count - millis) (c.args.count - (millis + 1)) millis c.loop-millis.traffic after
+    c.in_ok-frame.frame.items before (generated c.args.seed c.args.count) (omega arith) c.in_ok-frame.ensures.made
+    c.loop-millis.invariant
 
 pub returns : goal.returns
 returns c =

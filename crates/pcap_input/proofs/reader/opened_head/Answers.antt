@@ -9,8 +9,13 @@ use Rattle.pcap_input.proofs.reader.opened_head.Goals as goal
 
 pub returns-then-count-lt-FILE_HEADER-clause-gives : goal.returns-then-count-lt-FILE_HEADER-clause-gives
 returns-then-count-lt-FILE_HEADER-clause-gives g c = λ seen may. λ bytes told.
-    let size : length (take c.in-Ok.count c.fill.new.buf) ≡ c.in-Ok.count = length-take-le c.in-Ok.count c.fill.new.buf (omega (arith, c.in-Ok.ensures.within)) in
-    let all = all_taken (left_by (g.H.Host.left_of c.args.host.now) seen) (left_by (g.H.Host.left_of c.fill.new.host) seen) (take c.in-Ok.count c.fill.new.buf) bytes (c.in-Ok.ensures.seen_taken seen may) ((c.in-Ok.ensures.seen_ended seen may) (omega arith)) told in
+    let size : length (take c.in-Ok.count c.fill.new.buf) ≡ c.in-Ok.count =
+    length-take-le c.in-Ok.count c.fill.new.buf (omega (arith, c.in-Ok.ensures.within)) in
+    let all =
+    all_taken (left_by (g.H.Host.left_of c.args.host.now) seen)
+    (left_by (g.H.Host.left_of c.fill.new.host) seen)
+    (take c.in-Ok.count c.fill.new.buf) bytes (c.in-Ok.ensures.seen_taken seen may)
+    ((c.in-Ok.ensures.seen_ended seen may) (omega arith)) told in
     head_of_truncated bytes (omega (arith, ap length all))
 
 pub returns-then-count-lt-FILE_HEADER-clause-takes : goal.returns-then-count-lt-FILE_HEADER-clause-takes
@@ -25,13 +30,23 @@ returns-then-count-lt-FILE_HEADER-clause-takes g c = λ seen may.
 
 pub returns-clause-gives : goal.returns-clause-gives
 returns-clause-gives g c = λ seen may.
-    let took = (c.in-Ok.ensures.seen_taken seen may) ∙ ap (λ header. before header (left_by (g.H.Host.left_of c.fill.new.host) seen)) (take_all c.in-Ok.count c.fill.new.buf (omega (arith, c.in-Ok.ensures.within))) in
-    header_reads c.fill.new.buf c.read_head.result (left_by (g.H.Host.left_of c.args.host.now) seen) (left_by (g.H.Host.left_of c.fill.new.host) seen) (omega arith) c.read_head.ensures took
+    let took =
+    (c.in-Ok.ensures.seen_taken seen may)
+    ∙ ap (λ header. before header (left_by (g.H.Host.left_of c.fill.new.host) seen))
+    (take_all c.in-Ok.count c.fill.new.buf (omega (arith, c.in-Ok.ensures.within))) in
+    header_reads c.fill.new.buf c.read_head.result (left_by (g.H.Host.left_of c.args.host.now) seen)
+    (left_by (g.H.Host.left_of c.fill.new.host) seen)
+    (omega arith) c.read_head.ensures took
 
 pub returns-clause-rest : goal.returns-clause-rest
 returns-clause-rest g c = λ seen may.
-    let took = (c.in-Ok.ensures.seen_taken seen may) ∙ ap (λ header. before header (left_by (g.H.Host.left_of c.fill.new.host) seen)) (take_all c.in-Ok.count c.fill.new.buf (omega (arith, c.in-Ok.ensures.within))) in
-    header_leaves c.fill.new.buf c.read_head.result (left_by (g.H.Host.left_of c.args.host.now) seen) (left_by (g.H.Host.left_of c.fill.new.host) seen) (omega arith) took
+    let took =
+    (c.in-Ok.ensures.seen_taken seen may)
+    ∙ ap (λ header. before header (left_by (g.H.Host.left_of c.fill.new.host) seen))
+    (take_all c.in-Ok.count c.fill.new.buf (omega (arith, c.in-Ok.ensures.within))) in
+    header_leaves c.fill.new.buf c.read_head.result (left_by (g.H.Host.left_of c.args.host.now) seen)
+    (left_by (g.H.Host.left_of c.fill.new.host) seen)
+    (omega arith) took
 
 pub returns-clause-kinds : goal.returns-clause-kinds
 returns-clause-kinds g c = rw c.read_head.ensures (head_of_kinds c.fill.new.buf)

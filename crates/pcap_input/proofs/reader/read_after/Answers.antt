@@ -15,16 +15,25 @@ returns-then-len-gt-LONGEST-clause-gives g c = λ seen may. λ rest told.
 pub returns-in_err-bytes-clause-gives : goal.returns-in_err-bytes-clause-gives
 returns-in_err-bytes-clause-gives g c = λ seen may.
     let p = err_from_is_err_and c.from_residual.result c.from_residual.ensures.1 in
-    rw (p.1, p.2) (less_gives c.args.head c.args.number c.args.at c.captured-len.result c.args.header.now c.in_err-bytes.field-0.0 (left_by (g.H.Host.left_of c.args.host.now) seen) (left_by (g.H.Host.left_of c.read_bytes.new.host) seen)
+    rw (p.1, p.2)
+    (less_gives c.args.head c.args.number c.args.at c.captured-len.result c.args.header.now c.in_err-bytes.field-0.0
+    (left_by (g.H.Host.left_of c.args.host.now) seen)
+    (left_by (g.H.Host.left_of c.read_bytes.new.host) seen)
     (sym c.captured-len.ensures) (omega arith) (c.in_err-bytes.ensures.partial seen may))
 
 pub returns-clause-gives : goal.returns-clause-gives
 returns-clause-gives g c = λ seen may.
-    let made = record_made c.args.head c.args.number c.args.header.now c.from_vec.result c.moment.result c.original.result c.moment.ensures c.original.ensures in
-    let fits : captured_length c.args.head c.args.header.now ≡ length c.from_vec.result = sym c.captured-len.ensures ∙ sym (c.in_ok-bytes.ensures.whole seen may).0 ∙ ap length (sym c.from_vec.ensures) in
+    let made =
+    record_made c.args.head c.args.number c.args.header.now c.from_vec.result c.moment.result c.original.result c.moment.ensures
+    c.original.ensures in
+    let fits : captured_length c.args.head c.args.header.now ≡ length c.from_vec.result =
+    sym c.captured-len.ensures ∙ sym (c.in_ok-bytes.ensures.whole seen may).0 ∙ ap length (sym c.from_vec.ensures) in
     let short : length c.from_vec.result ≤ 262144 = omega (arith, fits, c.captured-len.ensures) in
-    whole_gives c.args.head c.args.number c.args.at c.args.header.now c.from_vec.result _ (left_by (g.H.Host.left_of c.args.host.now) seen) (left_by (g.H.Host.left_of c.read_bytes.new.host) seen) fits short made
-    ((c.in_ok-bytes.ensures.whole seen may).1 ∙ ap (λ bytes. before bytes (left_by (g.H.Host.left_of c.read_bytes.new.host) seen)) (sym c.from_vec.ensures))
+    whole_gives c.args.head c.args.number c.args.at c.args.header.now c.from_vec.result _
+    (left_by (g.H.Host.left_of c.args.host.now) seen)
+    (left_by (g.H.Host.left_of c.read_bytes.new.host) seen) fits short made
+    ((c.in_ok-bytes.ensures.whole seen may).1 ∙
+    ap (λ bytes. before bytes (left_by (g.H.Host.left_of c.read_bytes.new.host) seen)) (sym c.from_vec.ensures))
 
 pub returns-then-len-gt-LONGEST-clause-partial : goal.returns-then-len-gt-LONGEST-clause-partial
 returns-then-len-gt-LONGEST-clause-partial g c = λ seen may.
@@ -33,13 +42,22 @@ returns-then-len-gt-LONGEST-clause-partial g c = λ seen may.
 pub returns-in_err-bytes-clause-partial : goal.returns-in_err-bytes-clause-partial
 returns-in_err-bytes-clause-partial g c = λ seen may.
     let p = err_from_is_err_and c.from_residual.result c.from_residual.ensures.1 in
-    rw (p.1, p.2) (less_fewer c.args.head c.args.number c.args.at c.captured-len.result c.args.header.now c.in_err-bytes.field-0.0 (left_by (g.H.Host.left_of c.args.host.now) seen) (left_by (g.H.Host.left_of c.read_bytes.new.host) seen)
+    rw (p.1, p.2)
+    (less_fewer c.args.head c.args.number c.args.at c.captured-len.result c.args.header.now c.in_err-bytes.field-0.0
+    (left_by (g.H.Host.left_of c.args.host.now) seen)
+    (left_by (g.H.Host.left_of c.read_bytes.new.host) seen)
     (sym c.captured-len.ensures) (omega arith) (c.in_err-bytes.ensures.partial seen may))
 
 pub returns-clause-takes : goal.returns-clause-takes
 returns-clause-takes g c = λ seen may.
-    let made = record_made c.args.head c.args.number c.args.header.now c.from_vec.result c.moment.result c.original.result c.moment.ensures c.original.ensures in
-    let fits : captured_length c.args.head c.args.header.now ≡ length c.from_vec.result = sym c.captured-len.ensures ∙ sym (c.in_ok-bytes.ensures.whole seen may).0 ∙ ap length (sym c.from_vec.ensures) in
+    let made =
+    record_made c.args.head c.args.number c.args.header.now c.from_vec.result c.moment.result c.original.result c.moment.ensures
+    c.original.ensures in
+    let fits : captured_length c.args.head c.args.header.now ≡ length c.from_vec.result =
+    sym c.captured-len.ensures ∙ sym (c.in_ok-bytes.ensures.whole seen may).0 ∙ ap length (sym c.from_vec.ensures) in
     let short : length c.from_vec.result ≤ 262144 = omega (arith, fits, c.captured-len.ensures) in
-    whole_takes c.args.head c.args.number c.args.at c.args.header.now c.from_vec.result _ (left_by (g.H.Host.left_of c.args.host.now) seen) (left_by (g.H.Host.left_of c.read_bytes.new.host) seen) fits short made refl
-    ((c.in_ok-bytes.ensures.whole seen may).1 ∙ ap (λ bytes. before bytes (left_by (g.H.Host.left_of c.read_bytes.new.host) seen)) (sym c.from_vec.ensures))
+    whole_takes c.args.head c.args.number c.args.at c.args.header.now c.from_vec.result _
+    (left_by (g.H.Host.left_of c.args.host.now) seen)
+    (left_by (g.H.Host.left_of c.read_bytes.new.host) seen) fits short made refl
+    ((c.in_ok-bytes.ensures.whole seen may).1 ∙
+    ap (λ bytes. before bytes (left_by (g.H.Host.left_of c.read_bytes.new.host) seen)) (sym c.from_vec.ensures))

@@ -19,14 +19,31 @@ loop-left-init g c = record {
 pub returns-in_err-read_piece-clause-partial : goal.returns-in_err-read_piece-clause-partial
 returns-in_err-read_piece-clause-partial g c = λ seen may.
     let p = err_from_is_err_and c.from_residual.result c.from_residual.ensures.1 in
-    rw (p.1, p.2) (less_after c.args.at _ c.args.count c.in_err-read_piece.field-0.0 (c.loop-left.invariant.passed seen (c.in_err-read_piece.ensures.only_read.earlier seen may)).taken (left_by (g.H.Host.left_of c.args.host.now) seen) (left_by (g.H.Host.left_of c.loop-left.host) seen) (left_by (g.H.Host.left_of c.read_piece.new.host) seen)
-    (c.loop-left.invariant.passed seen (c.in_err-read_piece.ensures.only_read.earlier seen may)).took (c.in_err-read_piece.ensures.partial seen may) (omega (arith, (c.loop-left.invariant.passed seen (c.in_err-read_piece.ensures.only_read.earlier seen may)).size, c.min-size.ensures, length-take {A = ℕ})))
+    rw (p.1, p.2)
+    (less_after c.args.at _ c.args.count c.in_err-read_piece.field-0.0
+    (c.loop-left.invariant.passed seen (c.in_err-read_piece.ensures.only_read.earlier seen may)).taken
+    (left_by (g.H.Host.left_of c.args.host.now) seen)
+    (left_by (g.H.Host.left_of c.loop-left.host) seen)
+    (left_by (g.H.Host.left_of c.read_piece.new.host) seen)
+    (c.loop-left.invariant.passed seen (c.in_err-read_piece.ensures.only_read.earlier seen may)).took
+    (c.in_err-read_piece.ensures.partial seen may)
+    (omega (
+      arith,
+      (c.loop-left.invariant.passed seen (c.in_err-read_piece.ensures.only_read.earlier seen may)).size,
+      c.min-size.ensures,
+      length-take {A = ℕ},
+    )))
 
 pub loop-left-preserved : goal.loop-left-preserved
 loop-left-preserved g c = record {
   within = omega arith;
-  passed = λ seen may. bytes_more (c.args.count - c.loop-left.left) _ c.read_piece.new.piece (left_by (g.H.Host.left_of c.args.host.now) seen) (left_by (g.H.Host.left_of c.loop-left.host) seen) (left_by (g.H.Host.left_of c.read_piece.new.host) seen)
-      (c.loop-left.invariant.passed seen (c.in_ok-read_piece.ensures.only_read.earlier seen may)) (c.in_ok-read_piece.ensures.whole seen may) (omega (arith, c.min-size.ensures, length-take {A = ℕ}));
+  passed = λ seen may.
+      bytes_more (c.args.count - c.loop-left.left) _ c.read_piece.new.piece (left_by (g.H.Host.left_of c.args.host.now) seen)
+      (left_by (g.H.Host.left_of c.loop-left.host) seen)
+      (left_by (g.H.Host.left_of c.read_piece.new.host) seen)
+      (c.loop-left.invariant.passed seen (c.in_ok-read_piece.ensures.only_read.earlier seen may))
+      (c.in_ok-read_piece.ensures.whole seen may)
+      (omega (arith, c.min-size.ensures, length-take {A = ℕ}));
   contents = c.in_ok-read_piece.ensures.only_read.files ∙ c.loop-left.invariant.contents;
   earlier = λ seen may. c.loop-left.invariant.earlier seen (c.in_ok-read_piece.ensures.only_read.earlier seen may);
   opens = c.in_ok-read_piece.ensures.only_read.opens ∙ c.loop-left.invariant.opens;

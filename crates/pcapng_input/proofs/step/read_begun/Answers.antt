@@ -6,7 +6,9 @@ use Rattle.pcapng_input.proofs.step.read_begun.Goals as goal
 
 pub returns-then-kind-eq-SECTION-clause-shows : goal.returns-then-kind-eq-SECTION-clause-shows
 returns-then-kind-eq-SECTION-clause-shows g c = λ seen may.
-    begun_on_section c.args.walk.now c.read_section.new.walk c.args.first.now c.read_section.result (left_by (g.H.Host.left_of c.args.host.now) seen) (left_by (g.H.Host.left_of c.read_section.new.host) seen)
+    begun_on_section c.args.walk.now c.read_section.new.walk c.args.first.now c.read_section.result
+    (left_by (g.H.Host.left_of c.args.host.now) seen)
+    (left_by (g.H.Host.left_of c.read_section.new.host) seen)
     (sym c.u32_at-kind.ensures ∙ c.if-kind-eq-SECTION.true) (c.read_section.ensures.shows seen may)
 
 pub returns-clause-shows : goal.returns-clause-shows

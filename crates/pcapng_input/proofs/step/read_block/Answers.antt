@@ -10,13 +10,21 @@ use Rattle.pcapng_input.proofs.step.read_block.Goals as goal
 
 pub returns-in_default-clause-shows : goal.returns-in_default-clause-shows
 returns-in_default-clause-shows g c = λ seen may.
-    let size : length (take c.in_default.field-0.done c.fill.new.buf) ≡ c.in_default.field-0.done = length-take-le c.in_default.field-0.done c.fill.new.buf (omega (arith, c.in_default.ensures.short)) in
-    step_failed c.args.walk.now c.args.walk.now (take c.in_default.field-0.done c.fill.new.buf) (left_by (g.H.Host.left_of c.args.host.now) seen) (left_by (g.H.Host.left_of c.fill.new.host) seen) (omega (arith, c.in_default.ensures.short)) (c.in_default.ensures.seen_stopped seen may)
+    let size : length (take c.in_default.field-0.done c.fill.new.buf) ≡ c.in_default.field-0.done =
+    length-take-le c.in_default.field-0.done c.fill.new.buf (omega (arith, c.in_default.ensures.short)) in
+    step_failed c.args.walk.now c.args.walk.now (take c.in_default.field-0.done c.fill.new.buf)
+    (left_by (g.H.Host.left_of c.args.host.now) seen)
+    (left_by (g.H.Host.left_of c.fill.new.host) seen)
+    (omega (arith, c.in_default.ensures.short))
+    (c.in_default.ensures.seen_stopped seen may)
 
 pub returns-then-count-eq0-clause-shows : goal.returns-then-count-eq0-clause-shows
 returns-then-count-eq0-clause-shows g c = λ seen may.
     step_ended c.args.walk.now (left_by (g.H.Host.left_of c.args.host.now) seen) (left_by (g.H.Host.left_of c.fill.new.host) seen)
-    (none_same (left_by (g.H.Host.left_of c.args.host.now) seen) (left_by (g.H.Host.left_of c.fill.new.host) seen) c.fill.new.buf c.in-Ok.count c.if-count-eq0.true (c.in-Ok.ensures.seen_taken seen may)) ((c.in-Ok.ensures.seen_ended seen may) (omega arith))
+    (none_same (left_by (g.H.Host.left_of c.args.host.now) seen)
+    (left_by (g.H.Host.left_of c.fill.new.host) seen)
+    c.fill.new.buf c.in-Ok.count c.if-count-eq0.true (c.in-Ok.ensures.seen_taken seen may))
+    ((c.in-Ok.ensures.seen_ended seen may) (omega arith))
 
 pub returns-then-full-clause-shows : goal.returns-then-full-clause-shows
 returns-then-full-clause-shows g c = λ seen may.
@@ -35,6 +43,12 @@ read_begun-requires-clause-room g c = room_has c.args.walk.now (sym c.is_full-fu
 
 pub returns-clause-shows : goal.returns-clause-shows
 returns-clause-shows g c = λ seen may.
-    let took = (c.in-Ok.ensures.seen_taken seen (c.read_begun.ensures.only_read.earlier seen may)) ∙ ap (λ first. before first (left_by (g.H.Host.left_of c.fill.new.host) seen)) (take_all c.in-Ok.count c.fill.new.buf (omega (arith, c.in-Ok.ensures.within))) in
-    step_on c.args.walk.now c.read_begun.new.walk c.fill.new.buf c.read_begun.result (left_by (g.H.Host.left_of c.args.host.now) seen) (left_by (g.H.Host.left_of c.fill.new.host) seen) (left_by (g.H.Host.left_of c.read_begun.new.host) seen)
+    let took =
+    (c.in-Ok.ensures.seen_taken seen (c.read_begun.ensures.only_read.earlier seen may))
+    ∙ ap (λ first. before first (left_by (g.H.Host.left_of c.fill.new.host) seen))
+    (take_all c.in-Ok.count c.fill.new.buf (omega (arith, c.in-Ok.ensures.within))) in
+    step_on c.args.walk.now c.read_begun.new.walk c.fill.new.buf c.read_begun.result
+    (left_by (g.H.Host.left_of c.args.host.now) seen)
+    (left_by (g.H.Host.left_of c.fill.new.host) seen)
+    (left_by (g.H.Host.left_of c.read_begun.new.host) seen)
     (omega arith) (sym c.is_full-full.ensures ∙ c.if-full.false) took (c.read_begun.ensures.shows seen may)

@@ -120,13 +120,20 @@ module _ (E : El) (Z : Al) {M : Type 1} {𝓤 : Ura M} (𝓛 : Logic 𝓤) (at_m
       qed 𝓛 Had ∵ enter ! C Λ (function E Z) (vptr rb ro ∷ []) _ $ alloc_all ! (λ l. pass_all ! refl ((tt, tt), tt) $
       let En : Env 𝓤 H = env (function E Z).locals l in
       let both : Body = head (after 1 (function E Z).body) in
-      let Then : After 𝓤 H = any_q (after_seq 𝓤 H (Wp 𝓤 H C Λ En (after 2 (function E Z).body) (at_return 𝓤 H En Post)) (at_return 𝓤 H En Post)) in
+      let Then : After 𝓤 H =
+      any_q (after_seq 𝓤 H (Wp 𝓤 H C Λ En (after 2 (function E Z).body) (at_return 𝓤 H En Post)) (at_return 𝓤 H En Post)) in
       let s : ℕ = capped (size (written E)) in
       let al : ℕ = capped (align (written E)) in
       let y : (Takes Z 𝓛 at_mem run).Ghost = at_takes Z 𝓛 at_mem run κ q (rb, ro) a s al (block E) in
-      use2 𝓛 (raw ((Takes Z 𝓛 at_mem run).pre y)) (Takes-goes Z 𝓛 at_mem run κ q (rb, ro) a (Incl-trans short within) s al (block E) (ap capped (size-raw (written E))) (ap capped (align-raw (written E))) (capped_fits (size (written E))) (capped_fits (align (written E)))) $
-      calls_at ! fm (Takes Z 𝓛 at_mem run) callee y (and_then ! (get ! refl) (and_then ! (size_word !) (and_then ! (align_word !) (no_more !)))) (λ v.
-      use1 𝓛 (later (raw (Answered Z 𝓛 at_mem run a (block E) v) ⊛ ‵ (flft κ q))) (Takes-gives Z 𝓛 at_mem run κ q (rb, ro) a s al (block E) v) $ await ! tt $ split ! $
+      use2 𝓛 (raw ((Takes Z 𝓛 at_mem run).pre y))
+      (Takes-goes Z 𝓛 at_mem run κ q (rb, ro) a (Incl-trans short within) s al (block E) (ap capped (size-raw (written E)))
+      (ap capped (align-raw (written E))) (capped_fits (size (written E))) (capped_fits (align (written E)))) $
+      calls_at ! fm (Takes Z 𝓛 at_mem run) callee y
+      (and_then ! (get ! refl) (and_then ! (size_word !) (and_then ! (align_word !) (no_more !))))
+      (λ v.
+      use1 𝓛 (later (raw (Answered Z 𝓛 at_mem run a (block E) v) ⊛ ‵ (flft κ q)))
+      (Takes-gives Z 𝓛 at_mem run κ q (rb, ro) a s al (block E) v) $
+      await ! tt $ split ! $
       answers Z ! at_mem run a (block E) v
       (λ b o e.
       let p : Ptr = block_ptr b o in
@@ -135,25 +142,33 @@ module _ (E : El) (Z : Al) {M : Type 1} {𝓤 : Ura M} (𝓛 : Logic 𝓤) (at_m
       let made : Val = pair_val (word p) mark in
       let typed : Good (layout (Both E Z)) made = (tt, ((tt, tt), ((tt, tt), tt))) in
       let ok = first_Good (layout (Both E Z)) made typed in
-      lands_as ! e refl (Answer-typed true b o) $ first ! $ switches_on ! (get_tag ! (vrt ! refl (fld ! refl (stop !))) (whole !)) $ exec ! C Λ En (arm_body 0 both) Then $
-      sets ! (of_opd ! (get_in ! (vrt ! refl (fld ! refl (stop !))) (in_variant ! 0 0 refl refl (whole !)))) refl (tt, tt) $ sets ! (of_opd ! (get ! refl)) refl (tt, tt) $
+      lands_as ! e refl (Answer-typed true b o) $ first ! $
+      switches_on ! (get_tag ! (vrt ! refl (fld ! refl (stop !))) (whole !)) $ exec ! C Λ En (arm_body 0 both) Then $
+      sets ! (of_opd ! (get_in ! (vrt ! refl (fld ! refl (stop !))) (in_variant ! 0 0 refl refl (whole !)))) refl (tt, tt) $
+      sets ! (of_opd ! (get ! refl)) refl (tt, tt) $
       sets ! (agg ! (and_then ! (get ! refl) (no_more !))) refl (word-Good [] p) $ sets ! (agg ! (no_more !)) refl (tt, tt) $
       sets ! (agg ! (and_then ! (get ! refl) (no_more !))) refl (tt, (tt, tt)) $
       sets ! (agg ! (and_then ! (get ! refl) (and_then ! (get ! refl) (no_more !)))) refl typed $
       sets_last ! (agg ! (and_then ! (lit ! tt) (and_then ! (get ! refl) (no_more !)))) refl ok $
       exec ! C Λ En (after 2 (function E Z).body) (at_ret En Post) $ sets ! (of_opd ! (get ! refl)) refl ok $
       use1 𝓛 (‵ (blank_owns (RV E) p) ⊛ ‵ (Rejoins E p)) (block_cut E 𝓛 b o) $ split ! $ move ! (2 ∷ 1 ∷ []) $ fjoin ! $
-      use0 𝓛 (‵ ((Mark E).own_val (tt, tt) (mark ∷ []))) (mark_made E 𝓛) $ fjoin ! $ move ! (1 ∷ []) $ word_made ! p $ fjoin ! $ move ! (0 ∷ 1 ∷ []) $
+      use0 𝓛 (‵ ((Mark E).own_val (tt, tt) (mark ∷ []))) (mark_made E 𝓛) $ fjoin ! $ move ! (1 ∷ []) $ word_made ! p $ fjoin ! $
+      move ! (0 ∷ 1 ∷ []) $
       use2 𝓛 (‵ ((Both E Z).own_val (blank, deed) (made ∷ []))) (pair_of 𝓛 (Bl E) (Dd E Z) blank deed (word p) mark) $
-      use1 𝓛 (‵ ((Out E Z).own_val (Ok (blank, deed)) (live 0 (vcons made vnil) ∷ []))) (ok_of 𝓛 (Both E Z) AE.the_row (blank, deed) made) $
-      returns ! (look_at ! 0 refl) $ free_all ! refl $ keep ! (0 ∷ 1 ∷ 2 ∷ []) $ by ! (exits (Ok (blank, deed)) (live 0 (vcons made vnil)) (refl, refl)))
+      use1 𝓛 (‵ ((Out E Z).own_val (Ok (blank, deed)) (live 0 (vcons made vnil) ∷ [])))
+      (ok_of 𝓛 (Both E Z) AE.the_row (blank, deed) made) $
+      returns ! (look_at ! 0 refl) $ free_all ! refl $ keep ! (0 ∷ 1 ∷ 2 ∷ []) $
+      by ! (exits (Ok (blank, deed)) (live 0 (vcons made vnil)) (refl, refl)))
       (λ e.
       let Refusal : RattleType = Struct (Declared.shape AE.the_type) in
       let none : Val = live 1 (vcons (vstruct vnil) vnil) in
-      lands_as ! e refl (Answer-typed false 0 0) $ first ! $ switches_on ! (get_tag ! (vrt ! refl (fld ! refl (stop !))) (whole !)) $ exec ! C Λ En (arm_body 1 both) Then $
+      lands_as ! e refl (Answer-typed false 0 0) $ first ! $
+      switches_on ! (get_tag ! (vrt ! refl (fld ! refl (stop !))) (whole !)) $ exec ! C Λ En (arm_body 1 both) Then $
       sets ! (of_opd ! (get_in ! (vrt ! refl (fld ! refl (stop !))) (in_variant ! 1 0 refl refl (whole !)))) refl (tt, tt) $
-      sets_last ! (agg ! (and_then ! (lit ! tt) (and_then ! (get ! refl) (no_more !)))) refl (tt, (record { fits = lit< tt }, (tt, tt))) $
-      exec ! C Λ En (after 2 (function E Z).body) (at_ret En Post) $ sets ! (of_opd ! (get ! refl)) refl (tt, (record { fits = lit< tt }, (tt, tt))) $
+      sets_last ! (agg ! (and_then ! (lit ! tt) (and_then ! (get ! refl) (no_more !)))) refl
+      (tt, (record { fits = lit< tt }, (tt, tt))) $
+      exec ! C Λ En (after 2 (function E Z).body) (at_ret En Post) $
+      sets ! (of_opd ! (get ! refl)) refl (tt, (record { fits = lit< tt }, (tt, tt))) $
       owned ! Refusal (Is Refusal) (Struct-Makes 𝓛 (Declared.shape AE.the_type) tt) tt (vstruct vnil ∷ []) (tt, (refl, tt)) $
       use1 𝓛 (‵ ((Out E Z).own_val (Err (record {})) (none ∷ []))) (err_of 𝓛 (Both E Z) AE.the_row (record {}) (vstruct vnil)) $
       returns ! (look_at ! 0 refl) $ free_all ! refl $ keep ! (0 ∷ 1 ∷ 2 ∷ []) $ by ! (exits (Err (record {})) none tt))))

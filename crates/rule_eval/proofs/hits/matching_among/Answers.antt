@@ -15,9 +15,15 @@ pick_all-requires-clause-within g c κs within =
 pub returns-clause-hits : goal.returns-clause-hits
 returns-clause-hits g c = λ means find.
     let all = c.in_ok-found.ensures.picks means (test_of means) find (test_of-tells means) in
-    subst (λ (xs : List ℕ). AreHits means c.args.set.now.rules (record { head = c.args.head.now; payload = c.args.payload.now }) c.args.bits.now xs)
-    (sym (c.from_vec.ensures ∙ all.found ∙ ap (λ (xs : List ℕ). picked (test_of means) c.args.set.now.rules (record { head = c.args.head.now; payload = c.args.payload.now }) c.args.bits.now xs) c.requires.candidates))
-    (picked-hits means (test_of means) (test_of-tells means) c.args.set.now.rules (record { head = c.args.head.now; payload = c.args.payload.now }) c.args.bits.now)
+    subst (λ (xs : List ℕ). AreHits means c.args.set.now.rules (record { head = c.args.head.now; payload = c.args.payload.now })
+    c.args.bits.now xs)
+    (sym (c.from_vec.ensures ∙ all.found ∙
+    ap (λ (xs : List ℕ). picked (test_of means) c.args.set.now.rules
+    (record { head = c.args.head.now; payload = c.args.payload.now })
+    c.args.bits.now xs) c.requires.candidates))
+    (picked-hits means (test_of means) (test_of-tells means) c.args.set.now.rules
+    (record { head = c.args.head.now; payload = c.args.payload.now })
+    c.args.bits.now)
 
 pub returns-clause-bits : goal.returns-clause-bits
 returns-clause-bits g c = λ means find.

@@ -9,5 +9,8 @@ use Rattle.rule_parser.proofs.byte_options.blanks_len.Goals as goal
 pub returns : goal.returns
 returns c =
     let text = c.args.text.now in
-    let found : c.position.result ≡ position (λ b. not (is_blank b)) text = position_from_yields_List (λ b. not (is_blank b)) _ _ c.position.result c.position.ensures.ran (YieldsList-from_slice _ c.iter.ensures.rest) (λ x b q k. search (rules, tests)) in
+    let found : c.position.result ≡ position (λ b. not (is_blank b)) text =
+    position_from_yields_List (λ b. not (is_blank b)) _ _ c.position.result c.position.ensures.ran
+    (YieldsList-from_slice _ c.iter.ensures.rest)
+    (λ x b q k. search (rules, tests)) in
     c.unwrap_or.ensures ∙ ap (λ place. unwrap_or place (length text)) found ∙ unwrap_or-position is_blank text

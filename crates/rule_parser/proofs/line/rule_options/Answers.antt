@@ -5,4 +5,6 @@ use Rattle.rule_parser.proofs.Lines.CuttingLaws.{options-read}
 use Rattle.rule_parser.proofs.line.rule_options.Goals as goal
 
 pub returns-clause-written : goal.returns-clause-written
-returns-clause-written c = options-read c.args.classes.now c.args.bits.now c.read_options.new.bits empty_draft (length c.args.inside.now + 1) c.args.inside.now c.read_options.result c.read_options.ensures.gives
+returns-clause-written c =
+    options-read c.args.classes.now c.args.bits.now c.read_options.new.bits empty_draft (length c.args.inside.now + 1)
+    c.args.inside.now c.read_options.result c.read_options.ensures.gives

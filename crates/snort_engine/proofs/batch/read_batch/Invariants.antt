@@ -10,8 +10,10 @@ use Rattle.snort_engine.proofs.batch.read_batch.Given as goal
 
 abbrev pub invariant-batch : goal.invariant-batch
 invariant-batch g l = record {
-  reads : (seen : Option Files) → MaySee (g.H.Host.contents l.host) (g.H.Host.agrees l.host) seen
-      → ReadsOn (record { reader = l.fn.reader; records = []; left = left_by (g.H.Host.left_of l.fn.host) seen }) (record { reader = l.reader; records = l.records.items; left = left_by (g.H.Host.left_of l.host) seen }) More;
+  reads : (seen : Option Files)
+      → MaySee (g.H.Host.contents l.host) (g.H.Host.agrees l.host) seen
+      → ReadsOn (record { reader = l.fn.reader; records = []; left = left_by (g.H.Host.left_of l.fn.host) seen })
+      (record { reader = l.reader; records = l.records.items; left = left_by (g.H.Host.left_of l.host) seen }) More;
   fresh : IsFresh l.reader;
   few : vec_len l.records ≤ l.most;
   number : number_of l.reader ≡ number_of l.fn.reader + vec_len l.records;

@@ -21,7 +21,11 @@ returns-in_err-jobs-clause-ends g c =
 pub run_jobs-requires-clause-ready : goal.run_jobs-requires-clause-ready
 run_jobs-requires-clause-ready g c κs within =
     rw c.deref.ensures.value
-    (ready_closing _ (jobs_way_by c.args.context.now.plan.now.checks c.args.context.now.plan.now.setup.hosts c.args.context.now.plan.now.setup.config) c.args.context.now.plan.now.setup.set.rules c.args.detector c.in_ok-jobs.jobs.items refl c.requires.known c.in_ok-jobs.ensures c.requires.few)
+    (ready_closing _
+    (jobs_way_by c.args.context.now.plan.now.checks c.args.context.now.plan.now.setup.hosts
+    c.args.context.now.plan.now.setup.config)
+    c.args.context.now.plan.now.setup.set.rules
+    c.args.detector c.in_ok-jobs.jobs.items refl c.requires.known c.in_ok-jobs.ensures c.requires.few)
 
 pub returns-in_err-run_jobs-clause-closed : goal.returns-in_err-run_jobs-clause-closed
 returns-in_err-run_jobs-clause-closed g c = λ matches test.

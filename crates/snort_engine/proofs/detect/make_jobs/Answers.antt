@@ -18,12 +18,19 @@ loop-record-init c = record {
 
 pub loop-record-preserved : goal.loop-record-preserved
 loop-record-preserved c = record {
-  makes = makes_step (way_of c.args.by.now) c.args.records.now c.loop-record.record-index c.record-item.result c.args.front.now _ _ _ _ c.loop-record-test.true c.record-item.is
+  makes =
+      makes_step (way_of c.args.by.now) c.args.records.now c.loop-record.record-index c.record-item.result c.args.front.now _ _ _
+      _ c.loop-record-test.true c.record-item.is
       c.loop-record.invariant.makes (rw (c.link.ensures, c.captured.ensures) at c.in_ok-jobs.ensures.takes);
-  places = rw (c.in_ok-resize.ensures.items, c.loop-record.invariant.at) (places_more (way_of c.args.by.now) c.args.records.now c.loop-record.record-index c.record-item.result c.args.front.now _ _ _ _ c.loop-record.places.items c.len.result c.loop-record.places.len c.loop-record-test.true c.record-item.is
-      c.loop-record.invariant.makes (rw (c.link.ensures, c.captured.ensures) at c.in_ok-jobs.ensures.takes) c.loop-record.invariant.places c.loop-record.invariant.each
+  places =
+      rw (c.in_ok-resize.ensures.items, c.loop-record.invariant.at)
+      (places_more (way_of c.args.by.now) c.args.records.now c.loop-record.record-index c.record-item.result c.args.front.now _ _
+      _ _ c.loop-record.places.items c.len.result c.loop-record.places.len c.loop-record-test.true c.record-item.is
+      c.loop-record.invariant.makes (rw (c.link.ensures, c.captured.ensures) at c.in_ok-jobs.ensures.takes)
+      c.loop-record.invariant.places c.loop-record.invariant.each
       (let all : c.len.result ≡ length c.jobs.new.out.items = omega (arith, c.len.ensures, c.jobs.new.out.ok.0) in all)
-      (let sized : c.loop-record.places.len ≡ length c.loop-record.places.items = omega (arith, c.loop-record.places.ok.0) in sized));
+      (let sized : c.loop-record.places.len ≡
+      length c.loop-record.places.items = omega (arith, c.loop-record.places.ok.0) in sized));
   each = omega (arith, c.in_ok-resize.ensures.len, c.resize.new.self.ok.0, c.len.ensures, c.jobs.new.out.ok.0);
   at = omega (arith, c.loop-record.invariant.at);
   count = omega (arith, c.in_ok-jobs.ensures.records, c.loop-record.invariant.count);

@@ -13,7 +13,9 @@ use Rattle.snort_engine.proofs.detect.run_jobs.Goals as goal
 pub returns-in_err-search-clause-shown : goal.returns-in_err-search-clause-shown
 returns-in_err-search-clause-shown g c = λ matches test.
     let p = err_from_is_err_and c.from_residual.result c.from_residual.ensures.1 in
-    rw (p.1, p.2) (advances_nothing (jobs_stage (plan_of matches c.args.context.now.plan.now)) (by_place (source_in c.args.records.now c.args.inspection.now.last c.args.places.now) 0 c.args.jobs.now) _ _ _ _ refl refl)
+    rw (p.1, p.2)
+    (advances_nothing (jobs_stage (plan_of matches c.args.context.now.plan.now))
+    (by_place (source_in c.args.records.now c.args.inspection.now.last c.args.places.now) 0 c.args.jobs.now) _ _ _ _ refl refl)
 
 pub returns-in_err-search-clause-ends : goal.returns-in_err-search-clause-ends
 returns-in_err-search-clause-ends g c =
@@ -23,7 +25,9 @@ returns-in_err-search-clause-ends g c =
 pub returns-in_err-inspection-clause-shown : goal.returns-in_err-inspection-clause-shown
 returns-in_err-inspection-clause-shown g c = λ matches test.
     let p = err_from_is_err_and c.from_residual-in_err-inspection.result c.from_residual-in_err-inspection.ensures.1 in
-    rw (p.1, p.2) (advances_nothing (jobs_stage (plan_of matches c.args.context.now.plan.now)) (by_place (source_in c.args.records.now c.args.inspection.now.last c.args.places.now) 0 c.args.jobs.now) _ _ _ _ refl refl)
+    rw (p.1, p.2)
+    (advances_nothing (jobs_stage (plan_of matches c.args.context.now.plan.now))
+    (by_place (source_in c.args.records.now c.args.inspection.now.last c.args.places.now) 0 c.args.jobs.now) _ _ _ _ refl refl)
 
 pub returns-in_err-inspection-clause-ends : goal.returns-in_err-inspection-clause-ends
 returns-in_err-inspection-clause-ends g c =

@@ -24,7 +24,11 @@ run_jobs-requires-clause-ready g c κs within =
     let makes = rw (c.front_config-by.ensures.way, c.deref.ensures.value) at c.in_ok-made.ensures.makes in
     let few = c.requires.few in
     rw c.deref-2.ensures.value
-    (ready_records _ (jobs_way_by c.args.context.now.plan.now.checks c.args.context.now.plan.now.setup.hosts c.args.context.now.plan.now.setup.config) c.args.context.now.plan.now.setup.set.rules c.args.detector.now c.args.records.now.items _ c.in_ok-made.made.jobs.items
+    (ready_records _
+    (jobs_way_by c.args.context.now.plan.now.checks c.args.context.now.plan.now.setup.hosts
+    c.args.context.now.plan.now.setup.config)
+    c.args.context.now.plan.now.setup.set.rules
+    c.args.detector.now c.args.records.now.items _ c.in_ok-made.made.jobs.items
     refl c.requires.known makes (omega (arith, few)))
 
 pub returns-in_err-run_jobs-clause-shown : goal.returns-in_err-run_jobs-clause-shown
@@ -44,9 +48,14 @@ pub returns-clause-shown : goal.returns-clause-shown
 returns-clause-shown g c = λ matches test.
     let makes = rw (c.front_config-by.ensures.way, c.deref.ensures.value) at c.in_ok-made.ensures.makes in
     let placed = rw (c.front_config-by.ensures.way, c.deref.ensures.value) at c.in_ok-made.ensures.places in
-    let run = rw (c.deref-2.ensures.value, c.deref-3.ensures.value, c.deref-4.ensures.value) at (c.in_ok-run_jobs.ensures.shown matches test) in
-    records_shown (plan_of matches c.args.context.now.plan.now) c.args.records.now.items _ _ c.in_ok-made.made.jobs.items c.in_ok-made.made.places.items _ _ c.run_jobs.new.inspection _ makes placed run
-    (λ before holds. record { lanes = holds.lanes; writer = holds.writer; tries = holds.tries }) (rw c.in_ok-run_jobs.ensures.ran.last at c.keep_last.ensures)
+    let run =
+    rw (c.deref-2.ensures.value, c.deref-3.ensures.value, c.deref-4.ensures.value) at
+    (c.in_ok-run_jobs.ensures.shown matches test) in
+    records_shown (plan_of matches c.args.context.now.plan.now)
+    c.args.records.now.items _ _ c.in_ok-made.made.jobs.items c.in_ok-made.made.places.items _ _ c.run_jobs.new.inspection _ makes
+    placed run
+    (λ before holds. record { lanes = holds.lanes; writer = holds.writer; tries = holds.tries })
+    (rw c.in_ok-run_jobs.ensures.ran.last at c.keep_last.ensures)
 
 pub returns-clause-ends : goal.returns-clause-ends
 returns-clause-ends g c = emits_told c.in_ok-run_jobs.ensures.ends (λ none. absurd none)
@@ -55,5 +64,8 @@ pub returns-clause-known : goal.returns-clause-known
 returns-clause-known g c =
     let makes = rw (c.front_config-by.ensures.way, c.deref.ensures.value) at c.in_ok-made.ensures.makes in
     let learns = rw c.deref-2.ensures.value at c.in_ok-run_jobs.ensures.ran.learns in
-    (known_records (jobs_way_by c.args.context.now.plan.now.checks c.args.context.now.plan.now.setup.hosts c.args.context.now.plan.now.setup.config) c.args.context.now.plan.now.setup.set.rules c.args.detector.now _ c.args.records.now.items c.in_ok-made.made.jobs.items
+    (known_records (jobs_way_by c.args.context.now.plan.now.checks c.args.context.now.plan.now.setup.hosts
+    c.args.context.now.plan.now.setup.config)
+    c.args.context.now.plan.now.setup.set.rules
+    c.args.detector.now _ c.args.records.now.items c.in_ok-made.made.jobs.items
     c.requires.known makes learns c.in_ok-run_jobs.ensures.ran.groups c.in_ok-run_jobs.ensures.ran.none)

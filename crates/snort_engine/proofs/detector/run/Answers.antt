@@ -26,9 +26,11 @@ returns-in-Ok-Show-clause-headline g c = λ seen may.
     let before = c.show_capture-outcome.ensures.host.earlier seen may in
     let ready = rw c.in-Ok-Show.field-0-is at c.in-Ok-Show.ensures.ready in
     let causes = c.show_capture-outcome.ensures.causes in
-    let still = seen_left (g.H.Host.left_of c.args.host.now) (g.H.Host.left_of first) seen c.prepare-prepared.ensures.host.left_of in
+    let still =
+    seen_left (g.H.Host.left_of c.args.host.now) (g.H.Host.left_of first) seen c.prepare-prepared.ensures.host.left_of in
     headline _ _ _ _ _
-    (shown_run (task_way {P = g.row.M-Made.Denot}) _ _ _ _ (Show c.in-Ok-Show.plan) _ c.show_capture-outcome.result c.prepare-prepared.new.warnings _ (c.matching_is_decided.ensures _)
+    (shown_run (task_way {P = g.row.M-Made.Denot}) _ _ _ _ (Show c.in-Ok-Show.plan) _ c.show_capture-outcome.result
+    c.prepare-prepared.new.warnings _ (c.matching_is_decided.ensures _)
     (record {
       middle = record {
         left = left_by (g.H.Host.left_of first) seen;
@@ -36,10 +38,16 @@ returns-in-Ok-Show-clause-headline g c = λ seen may.
         host_faults = g.H.Host.faults c.prepare-prepared.new.host;
         alerts = g.A.Sink.written c.args.alerts.now;
       };
-      prepared = λ files is. (rw c.in-Ok-Show.field-0-is at c.in-Ok-Show.ensures.prepared) files (seen_agree g.H.Host first seen files before is);
+      prepared = λ files is.
+          (rw c.in-Ok-Show.field-0-is at c.in-Ok-Show.ensures.prepared) files (seen_agree g.H.Host first seen files before is);
       faulty_words = λ none. c.in-Ok-Show.ensures.faulty_words none;
       fileless = c.in-Ok-Show.ensures.fileless;
-      since = record { left = still; opens = c.prepare-prepared.ensures.host.opens; alerts = refl; later = c.prepare-prepared.ensures.host.later };
+      since = record {
+        left = still;
+        opens = c.prepare-prepared.ensures.host.opens;
+        alerts = refl;
+        later = c.prepare-prepared.ensures.host.later;
+      };
       ends = λ matches tells files course is goes.
           seen_ends g.H.Host g.A.Sink first last c.args.alerts.now c.show_capture-outcome.new.alerts files course _ _ seen is
           (c.show_capture-outcome.ensures.ends matches
@@ -47,7 +55,8 @@ returns-in-Ok-Show-clause-headline g c = λ seen may.
           files course (seen_agree g.H.Host last seen files may is) goes);
       write_fault = causes.write_fault;
       read_fault = λ matches failed.
-          capture_cause_by g.H.Host first last c.in-Ok-Show.plan.source (plan_of matches c.in-Ok-Show.plan) (Rose (g.H.Host.faults first) (g.H.Host.faults last)) seen law
+          capture_cause_by g.H.Host first last c.in-Ok-Show.plan.source (plan_of matches c.in-Ok-Show.plan)
+          (Rose (g.H.Host.faults first) (g.H.Host.faults last)) seen law
           c.show_capture-outcome.ensures.host.files may refl (causes.read_fault failed);
       quiet = λ uncut. causes.quiet uncut ∙ c.in-Ok-Show.ensures.causes.quiet refl;
       quiet_alerts = causes.quiet_alerts;
@@ -55,8 +64,12 @@ returns-in-Ok-Show-clause-headline g c = λ seen may.
           rw c.prepare-prepared.ensures.host.opens at (c.show_capture-outcome.ensures.opened matches seen may);
       made_unopened = λ for_made.
           let made = (rw c.in-Ok-Show.field-0-is at c.in-Ok-Show.ensures.made) for_made in (
-            opens_made _ c.in-Ok-Show.plan.source _ _ _ _ made (c.show_capture-outcome.ensures.opened (c.matching_is_decided.ensures (g.M.PatternMaker.means c.args.maker.now)).0 seen may) ∙ c.prepare-prepared.ensures.host.opens,
-            seen_left (g.H.Host.left_of first) (g.H.Host.left_of last) seen (c.show_capture-outcome.ensures.made_unopened made) ∙ still,
+            opens_made _ c.in-Ok-Show.plan.source _ _ _ _ made
+                (c.show_capture-outcome.ensures.opened (c.matching_is_decided.ensures (g.M.PatternMaker.means c.args.maker.now)).0
+                seen may)
+                ∙ c.prepare-prepared.ensures.host.opens,
+            seen_left (g.H.Host.left_of first) (g.H.Host.left_of last) seen (c.show_capture-outcome.ensures.made_unopened made)
+                ∙ still,
           );
       same_files = refl;
       counts = record {
@@ -148,12 +161,14 @@ returns-clause-headline g c = λ seen may.
 
 pub returns-in-Ok-Show-clause-told : goal.returns-in-Ok-Show-clause-told
 returns-in-Ok-Show-clause-told g c =
-    told_headline g.H.Host g.A.Sink g.E.Sink _ _ c.args.host.now c.show_capture-outcome.new.host c.args.alerts.now c.show_capture-outcome.new.alerts c.args.errors.now c.report.new.errors _ _ _ g.met.H.Host.as_told
+    told_headline g.H.Host g.A.Sink g.E.Sink _ _ c.args.host.now c.show_capture-outcome.new.host c.args.alerts.now
+    c.show_capture-outcome.new.alerts c.args.errors.now c.report.new.errors _ _ _ g.met.H.Host.as_told
     (c.show_capture-outcome.ensures.host.files ∙ c.prepare-prepared.ensures.host.files) (returns-in-Ok-Show-clause-headline g c)
 
 pub returns-in-Ok-Tell-clause-told : goal.returns-in-Ok-Tell-clause-told
 returns-in-Ok-Tell-clause-told g c =
-    told_headline g.H.Host g.A.Sink g.E.Sink _ _ c.args.host.now c.prepare-prepared.new.host c.args.alerts.now c.write_lines-outcome.new.alerts c.args.errors.now c.report-in-Ok-Tell.new.errors _ _ _ g.met.H.Host.as_told
+    told_headline g.H.Host g.A.Sink g.E.Sink _ _ c.args.host.now c.prepare-prepared.new.host c.args.alerts.now
+    c.write_lines-outcome.new.alerts c.args.errors.now c.report-in-Ok-Tell.new.errors _ _ _ g.met.H.Host.as_told
     c.prepare-prepared.ensures.host.files (returns-in-Ok-Tell-clause-headline g c)
 
 pub returns-clause-told : goal.returns-clause-told

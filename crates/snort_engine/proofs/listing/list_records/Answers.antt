@@ -20,8 +20,11 @@ returns-in-Ok-clause-lists g c = λ files agree.
 pub returns-clause-lists : goal.returns-clause-lists
 returns-clause-lists g c = λ files agree.
     let host = c.load.new.self in
-    let failed = cause_by g.H.Host c.args.host.now host c.args.name.now (Rose (g.H.Host.faults c.args.host.now) (g.H.Host.faults host)) (Some files) (g.met.H.Host.as_told host) c.in-Err.ensures.same_contents agree in
-    file_unloaded c.args.name.now files (Rose (g.H.Host.faults c.args.host.now) (g.H.Host.faults c.load.new.self)) c.in-Err.fault c.file_stop.result
+    let failed =
+    cause_by g.H.Host c.args.host.now host c.args.name.now (Rose (g.H.Host.faults c.args.host.now) (g.H.Host.faults host))
+    (Some files) (g.met.H.Host.as_told host) c.in-Err.ensures.same_contents agree in
+    file_unloaded c.args.name.now files (Rose (g.H.Host.faults c.args.host.now) (g.H.Host.faults c.load.new.self))
+    c.in-Err.fault c.file_stop.result
     (subst (λ (name : List ℕ). StopsAtFile name c.in-Err.fault c.file_stop.result) c.as_bytes.ensures.value c.file_stop.ensures)
     (λ is. c.in-Err.ensures.agreed_large (ap (λ (why : LoadFault). Err why) is) files agree)
     (λ is. failed (c.in-Err.ensures.failed (ap (λ (why : LoadFault). Err why) is)))
@@ -29,11 +32,13 @@ returns-clause-lists g c = λ files agree.
 -- the host is as before, but for its count
 pub returns-in-Ok-clause-host : goal.returns-in-Ok-clause-host
 returns-in-Ok-clause-host g c =
-    loaded_only g.H.Host c.args.host.now c.load.new.self c.in-Ok.ensures.same_contents c.in-Ok.ensures.earlier c.in-Ok.ensures.same_left c.in-Ok.ensures.same_left_of c.in-Ok.ensures.same_opens c.in-Ok.ensures.later
+    loaded_only g.H.Host c.args.host.now c.load.new.self c.in-Ok.ensures.same_contents c.in-Ok.ensures.earlier
+    c.in-Ok.ensures.same_left c.in-Ok.ensures.same_left_of c.in-Ok.ensures.same_opens c.in-Ok.ensures.later
 
 pub returns-clause-host : goal.returns-clause-host
 returns-clause-host g c =
-    loaded_only g.H.Host c.args.host.now c.load.new.self c.in-Err.ensures.same_contents c.in-Err.ensures.earlier c.in-Err.ensures.same_left c.in-Err.ensures.same_left_of c.in-Err.ensures.same_opens c.in-Err.ensures.later
+    loaded_only g.H.Host c.args.host.now c.load.new.self c.in-Err.ensures.same_contents c.in-Err.ensures.earlier
+    c.in-Err.ensures.same_left c.in-Err.ensures.same_left_of c.in-Err.ensures.same_opens c.in-Err.ensures.later
 
 pub returns-in-Ok-clause-quiet : goal.returns-in-Ok-clause-quiet
 returns-in-Ok-clause-quiet g c = λ uncut. c.in-Ok.ensures.unfailed (λ failed. cc)

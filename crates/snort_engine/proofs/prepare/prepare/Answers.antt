@@ -8,7 +8,10 @@ use Rattle.command_words.specs.CommandLine.{command_line}
 use Rattle.command_words.specs.Told.{run_of}
 use Rattle.snort_engine.specs.Steps.Preparing.{task_way, way_for}
 use Rattle.snort_engine.proofs.Preparing.Named.{command_named, command_ranged}
-use Rattle.snort_engine.proofs.Preparing.Prepared.{prepared_faulty, prepared_listed, prepared_unlisted, prepared_help, prepared_version, prepared_lacking, task_ready, task_stopped, fileless_faulty, fileless_help, fileless_lacking, fileless_version, not_fileless_file, not_fileless_run, ready_early, stopped_early}
+use Rattle.snort_engine.proofs.Preparing.Prepared.{prepared_faulty, prepared_listed, prepared_unlisted, prepared_help}
+use Rattle.snort_engine.proofs.Preparing.Prepared.{prepared_version, prepared_lacking, task_ready, task_stopped, fileless_faulty}
+use Rattle.snort_engine.proofs.Preparing.Prepared.{fileless_help, fileless_lacking, fileless_version, not_fileless_file}
+use Rattle.snort_engine.proofs.Preparing.Prepared.{not_fileless_run, ready_early, stopped_early}
 use Rattle.snort_engine.proofs.prepare.prepare.Goals as goal
 
 pub prepare_run-requires-clause-named : goal.prepare_run-requires-clause-named
@@ -18,16 +21,28 @@ pub prepare_run-requires-clause-ranged : goal.prepare_run-requires-clause-ranged
 prepare_run-requires-clause-ranged g c κs within = command_ranged _ (run_of c.in-Ok-Run.wanted) (rw c.in-Ok-Run.field-0-is at c.in-Ok-Run.ensures)
 
 pub returns-in-Ok-Help-clause-fileless : goal.returns-in-Ok-Help-clause-fileless
-returns-in-Ok-Help-clause-fileless g c = λ so. fileless_help _ (Rose (g.H.Host.faults c.args.host.now) (g.H.Host.faults c.args.host.now)) _ (rw c.in-Ok-Help.field-0-is at c.in-Ok-Help.ensures) c.requires
+returns-in-Ok-Help-clause-fileless g c = λ so.
+    fileless_help _ (Rose (g.H.Host.faults c.args.host.now) (g.H.Host.faults c.args.host.now)) _
+    (rw c.in-Ok-Help.field-0-is at c.in-Ok-Help.ensures)
+    c.requires
 
 pub returns-in-Ok-Version-clause-fileless : goal.returns-in-Ok-Version-clause-fileless
-returns-in-Ok-Version-clause-fileless g c = λ so. fileless_version _ (Rose (g.H.Host.faults c.args.host.now) (g.H.Host.faults c.args.host.now)) _ (rw c.in-Ok-Version.field-0-is at c.in-Ok-Version.ensures) c.requires
+returns-in-Ok-Version-clause-fileless g c = λ so.
+    fileless_version _ (Rose (g.H.Host.faults c.args.host.now) (g.H.Host.faults c.args.host.now)) _
+    (rw c.in-Ok-Version.field-0-is at c.in-Ok-Version.ensures)
+    c.requires
 
 pub returns-in-Err-CommandLine-clause-fileless : goal.returns-in-Err-CommandLine-clause-fileless
-returns-in-Err-CommandLine-clause-fileless g c = λ so. fileless_faulty _ (Rose (g.H.Host.faults c.args.host.now) (g.H.Host.faults c.args.host.now)) _ (rw c.in-Err-CommandLine.field-0-is at c.in-Err-CommandLine.ensures) c.requires
+returns-in-Err-CommandLine-clause-fileless g c = λ so.
+    fileless_faulty _ (Rose (g.H.Host.faults c.args.host.now) (g.H.Host.faults c.args.host.now)) _
+    (rw c.in-Err-CommandLine.field-0-is at c.in-Err-CommandLine.ensures)
+    c.requires
 
 pub returns-in-Err-NoMemory-clause-fileless : goal.returns-in-Err-NoMemory-clause-fileless
-returns-in-Err-NoMemory-clause-fileless g c = λ so. fileless_lacking (command_line (map string_bytes c.args.words.now)) (Rose (g.H.Host.faults c.args.host.now) (g.H.Host.faults c.args.host.now)) _ c.requires
+returns-in-Err-NoMemory-clause-fileless g c = λ so.
+    fileless_lacking (command_line (map string_bytes c.args.words.now))
+    (Rose (g.H.Host.faults c.args.host.now) (g.H.Host.faults c.args.host.now)) _
+    c.requires
 
 pub returns-in_ok-list_records-in-Ok-ReadUnified2-clause-fileless : goal.returns-in_ok-list_records-in-Ok-ReadUnified2-clause-fileless
 returns-in_ok-list_records-in-Ok-ReadUnified2-clause-fileless g c = λ so.

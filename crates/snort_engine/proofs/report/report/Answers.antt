@@ -9,7 +9,12 @@ use Rattle.snort_engine.proofs.report.report.Goals as goal
 
 pub returns-in-Ok-clause-reports : goal.returns-in-Ok-clause-reports
 returns-in-Ok-clause-reports g c =
-    reports_told _ c.deref.result.now c.args.outcome.now c.status_of.result c.args.well c.tell-still.result _ _ _ c.status_of.ensures (c.deref.ensures.value ∙ c.in-Ok.ensures ∙ ap (λ (x : List ℕ). x ++ with_counts (outcome_text c.args.source.now c.args.outcome.now) c.args.told) c.new-text.ensures.items) c.tell-still.ensures.tells
+    reports_told _ c.deref.result.now c.args.outcome.now c.status_of.result c.args.well c.tell-still.result _ _ _
+    c.status_of.ensures
+    (c.deref.ensures.value ∙ c.in-Ok.ensures ∙
+    ap (λ (x : List ℕ). x ++ with_counts (outcome_text c.args.source.now c.args.outcome.now) c.args.told)
+    c.new-text.ensures.items)
+    c.tell-still.ensures.tells
 
 pub returns-clause-reports : goal.returns-clause-reports
 unfolding no_memory_text

@@ -23,14 +23,17 @@ pub returns-in_err-show_next_batch-clause-comes : goal.returns-in_err-show_next_
 returns-in_err-show_next_batch-clause-comes g c = λ matches test holds seen may.
     let p = err_from_is_err_and c.from_residual.result c.from_residual.ensures.1 in
     rw (p.1, p.2) (comes_since (plan_of matches c.args.context.now.plan.now) _ _ _ _ _ _ (Err c.in_err-show_next_batch.field-0.0)
-    (λ (rose : Rose (g.H.Host.faults c.batches.host) (g.H.Host.faults c.show_next_batch.new.host)). read_rose g.H.Host c.args.host.now c.batches.host c.show_next_batch.new.host c.batches.invariant.host rose)
-    (c.in_err-show_next_batch.ensures.goes_on matches test seen may _ _ (c.batches.invariant.going matches test holds seen (c.in_err-show_next_batch.ensures.host.earlier seen may))))
+    (λ (rose : Rose (g.H.Host.faults c.batches.host) (g.H.Host.faults c.show_next_batch.new.host)). read_rose
+    g.H.Host c.args.host.now c.batches.host c.show_next_batch.new.host c.batches.invariant.host rose)
+    (c.in_err-show_next_batch.ensures.goes_on matches test seen may _ _
+    (c.batches.invariant.going matches test holds seen (c.in_err-show_next_batch.ensures.host.earlier seen may))))
 
 pub returns-clause-comes : goal.returns-clause-comes
 returns-clause-comes g c = λ matches test holds seen may.
     let over = rw c.if-branch.false at (c.in_ok-show_next_batch.ensures.goes_on matches test seen may) in
     comes_since (plan_of matches c.args.context.now.plan.now) _ _ _ _ _ _ (Ok tt)
-    (λ (rose : Rose (g.H.Host.faults c.batches.host) (g.H.Host.faults c.show_next_batch.new.host)). read_rose g.H.Host c.args.host.now c.batches.host c.show_next_batch.new.host c.batches.invariant.host rose)
+    (λ (rose : Rose (g.H.Host.faults c.batches.host) (g.H.Host.faults c.show_next_batch.new.host)). read_rose
+    g.H.Host c.args.host.now c.batches.host c.show_next_batch.new.host c.batches.invariant.host rose)
     (over _ _ (c.batches.invariant.going matches test holds seen (c.in_ok-show_next_batch.ensures.host.earlier seen may)))
 
 pub batches-preserved : goal.batches-preserved
@@ -57,7 +60,8 @@ pub returns-in_err-show_next_batch-clause-causes : goal.returns-in_err-show_next
 returns-in_err-show_next_batch-clause-causes g c =
     let p = err_from_is_err_and c.from_residual.result c.from_residual.ensures.1 in
     rw (p.1, p.2) (caused_since _ _ _ _ _ _ c.in_err-show_next_batch.ensures.causes
-    (λ (rose : Rose (g.H.Host.faults c.batches.host) (g.H.Host.faults c.show_next_batch.new.host)). read_rose g.H.Host c.args.host.now c.batches.host c.show_next_batch.new.host c.batches.invariant.host rose)
+    (λ (rose : Rose (g.H.Host.faults c.batches.host) (g.H.Host.faults c.show_next_batch.new.host)). read_rose
+    g.H.Host c.args.host.now c.batches.host c.show_next_batch.new.host c.batches.invariant.host rose)
     c.batches.invariant.quiet c.batches.invariant.quiet_alerts)
 
 pub returns-clause-causes : goal.returns-clause-causes

@@ -25,8 +25,13 @@ returns-in_err-reader-clause-ends g c = λ matches test files course agree goes.
     let host = c.open.new.host in
     let law = g.met.H.Host.as_told host in
     let rose = Rose (g.H.Host.faults c.args.host.now) (g.H.Host.faults host) in
-    rw named (open_stops (plan_of matches c.args.context.now.plan.now) files course c.in_err-reader.field-0.0 _ _ _ c.from_residual.result p.0 c.requires.none p.1 p.2
-    goes refl opens (λ is. rw named at (cause_by g.H.Host c.args.host.now host c.args.name.now rose (Some files) law c.in_err-reader.ensures.host.files agree (c.in_err-reader.ensures.failed (ap Err is)))))
+    rw named
+    (open_stops (plan_of matches c.args.context.now.plan.now) files course
+    c.in_err-reader.field-0.0 _ _ _ c.from_residual.result p.0 c.requires.none p.1 p.2
+    goes refl opens
+    (λ is. rw named at
+    (cause_by g.H.Host c.args.host.now host c.args.name.now rose (Some files) law c.in_err-reader.ensures.host.files agree
+    (c.in_err-reader.ensures.failed (ap Err is)))))
 
 pub returns-clause-ends : goal.returns-clause-ends
 returns-clause-ends g c = λ matches test files course agree goes.

@@ -26,7 +26,9 @@ show_some-requires-clause-known g c κs within = c.requires.ready.known
 pub show_some-requires-clause-few : goal.show_some-requires-clause-few
 show_some-requires-clause-few g c κs within =
     let ready = c.requires.ready in
-    let few = within_batch c.args.detector.now.front.counts.records (number_of c.args.reader.now) (vec_len c.read_batch-reached.new.records) most_records ready.after ready.readable.within c.read_batch-reached.ensures.within in
+    let few =
+    within_batch c.args.detector.now.front.counts.records (number_of c.args.reader.now) (vec_len c.read_batch-reached.new.records)
+    most_records ready.after ready.readable.within c.read_batch-reached.ensures.within in
     omega (arith, few, c.read_batch-reached.new.records.ok.0)
 
 pub show_records-requires-clause-known : goal.show_records-requires-clause-known
@@ -35,7 +37,9 @@ show_records-requires-clause-known g c κs within = c.requires.ready.known
 pub show_records-requires-clause-few : goal.show_records-requires-clause-few
 show_records-requires-clause-few g c κs within =
     let ready = c.requires.ready in
-    let few = within_batch c.args.detector.now.front.counts.records (number_of c.args.reader.now) (vec_len c.read_batch-reached.new.records) most_records ready.after ready.readable.within c.read_batch-reached.ensures.within in
+    let few =
+    within_batch c.args.detector.now.front.counts.records (number_of c.args.reader.now) (vec_len c.read_batch-reached.new.records)
+    most_records ready.after ready.readable.within c.read_batch-reached.ensures.within in
     omega (arith, few, c.read_batch-reached.new.records.ok.0)
 
 pub returns-then-most-eq0-clause-goes_on : goal.returns-then-most-eq0-clause-goes_on
@@ -45,37 +49,97 @@ returns-then-most-eq0-clause-goes_on g c = λ matches test seen may.
 
 pub returns-then-lacks_memory-clause-goes_on : goal.returns-then-lacks_memory-clause-goes_on
 returns-then-lacks_memory-clause-goes_on g c = λ matches test seen may.
-    let few : length c.read_batch-reached.new.records.items ≤ most_at c.args.room.now = omega (arith, c.read_batch-reached.ensures.filled.few, c.most_at-most.ensures, c.read_batch-reached.new.records.ok.0) in
-    let old : Point = record { reader = c.args.reader.now; room = c.args.room.now; detector = c.args.detector.now; streams = record { left = left_by (g.H.Host.left_of c.args.host.now) seen; written = g.A.Sink.written c.args.alerts.now } } in
-    let new : Point = record { reader = c.read_batch-reached.new.reader; room = c.room_after.result; detector = c.show_some.new.detector; streams = record { left = left_by (g.H.Host.left_of c.read_batch-reached.new.host) seen; written = g.A.Sink.written c.show_some.new.alerts } } in
-    batch_lacks (plan_of matches c.args.context.now.plan.now) c.read_batch-reached.new.records.items old new _ c.read_batch-reached.result few (c.read_batch-reached.ensures.reads seen may) (c.show_some.ensures.part matches test)
+    let few : length c.read_batch-reached.new.records.items ≤ most_at c.args.room.now =
+    omega (arith, c.read_batch-reached.ensures.filled.few, c.most_at-most.ensures, c.read_batch-reached.new.records.ok.0) in
+    let old : Point = record {
+      reader = c.args.reader.now;
+      room = c.args.room.now;
+      detector = c.args.detector.now;
+      streams = record { left = left_by (g.H.Host.left_of c.args.host.now) seen; written = g.A.Sink.written c.args.alerts.now };
+    } in
+    let new : Point = record {
+      reader = c.read_batch-reached.new.reader;
+      room = c.room_after.result;
+      detector = c.show_some.new.detector;
+      streams = record {
+        left = left_by (g.H.Host.left_of c.read_batch-reached.new.host) seen;
+        written = g.A.Sink.written c.show_some.new.alerts;
+      };
+    } in
+    batch_lacks (plan_of matches c.args.context.now.plan.now)
+    c.read_batch-reached.new.records.items old new _ c.read_batch-reached.result few
+    (c.read_batch-reached.ensures.reads seen may)
+    (c.show_some.ensures.part matches test)
 
 pub returns-in_err-show_records-clause-goes_on : goal.returns-in_err-show_records-clause-goes_on
 returns-in_err-show_records-clause-goes_on g c = λ matches test seen may.
     let p = err_from_is_err_and c.from_residual.result c.from_residual.ensures.1 in
-    let few : length c.read_batch-reached.new.records.items ≤ most_at c.args.room.now = omega (arith, c.read_batch-reached.ensures.filled.few, c.most_at-most.ensures, c.read_batch-reached.new.records.ok.0) in
-    let stopped = part_shown (plan_of matches c.args.context.now.plan.now) c.read_batch-reached.new.records.items _ _ _ _ _ _ (Err c.in_err-show_records.field-0.0) (c.in_err-show_records.ensures.shown matches test) in
-    let old : Point = record { reader = c.args.reader.now; room = c.args.room.now; detector = c.args.detector.now; streams = record { left = left_by (g.H.Host.left_of c.args.host.now) seen; written = g.A.Sink.written c.args.alerts.now } } in
-    let new : Point = record { reader = c.read_batch-reached.new.reader; room = c.room_after.result; detector = c.show_records.new.detector; streams = record { left = left_by (g.H.Host.left_of c.read_batch-reached.new.host) seen; written = g.A.Sink.written c.show_records.new.alerts } } in
-    rw (p.1, p.2) (batch_stops (plan_of matches c.args.context.now.plan.now) c.read_batch-reached.new.records.items old new (Rose (g.H.Host.faults c.args.host.now) (g.H.Host.faults c.read_batch-reached.new.host)) c.read_batch-reached.result c.in_err-show_records.field-0.0
+    let few : length c.read_batch-reached.new.records.items ≤ most_at c.args.room.now =
+    omega (arith, c.read_batch-reached.ensures.filled.few, c.most_at-most.ensures, c.read_batch-reached.new.records.ok.0) in
+    let stopped =
+    part_shown (plan_of matches c.args.context.now.plan.now)
+    c.read_batch-reached.new.records.items _ _ _ _ _ _ (Err c.in_err-show_records.field-0.0)
+    (c.in_err-show_records.ensures.shown matches test) in
+    let old : Point = record {
+      reader = c.args.reader.now;
+      room = c.args.room.now;
+      detector = c.args.detector.now;
+      streams = record { left = left_by (g.H.Host.left_of c.args.host.now) seen; written = g.A.Sink.written c.args.alerts.now };
+    } in
+    let new : Point = record {
+      reader = c.read_batch-reached.new.reader;
+      room = c.room_after.result;
+      detector = c.show_records.new.detector;
+      streams = record {
+        left = left_by (g.H.Host.left_of c.read_batch-reached.new.host) seen;
+        written = g.A.Sink.written c.show_records.new.alerts;
+      };
+    } in
+    rw (p.1, p.2)
+    (batch_stops (plan_of matches c.args.context.now.plan.now)
+    c.read_batch-reached.new.records.items old new
+    (Rose (g.H.Host.faults c.args.host.now) (g.H.Host.faults c.read_batch-reached.new.host))
+    c.read_batch-reached.result c.in_err-show_records.field-0.0
     few
-    (λ more. omega (arith, c.read_batch-reached.ensures.filled.full more, c.most_at-most.ensures, c.read_batch-reached.new.records.ok.0))
-    (λ other. omega (arith, c.read_batch-reached.ensures.filled.fewer other, c.most_at-most.ensures, c.read_batch-reached.new.records.ok.0))
+    (λ more. omega
+    (arith, c.read_batch-reached.ensures.filled.full more, c.most_at-most.ensures, c.read_batch-reached.new.records.ok.0))
+    (λ other. omega
+    (arith, c.read_batch-reached.ensures.filled.fewer other, c.most_at-most.ensures, c.read_batch-reached.new.records.ok.0))
     c.read_batch-reached.ensures.reason.failed (sym c.lacks_memory.ensures ∙ c.if-lacks_memory.false)
     (c.read_batch-reached.ensures.reads seen may) stopped)
 
 pub returns-clause-goes_on : goal.returns-clause-goes_on
 returns-clause-goes_on g c = λ matches test seen may.
-    let few : length c.read_batch-reached.new.records.items ≤ most_at c.args.room.now = omega (arith, c.read_batch-reached.ensures.filled.few, c.most_at-most.ensures, c.read_batch-reached.new.records.ok.0) in
+    let few : length c.read_batch-reached.new.records.items ≤ most_at c.args.room.now =
+    omega (arith, c.read_batch-reached.ensures.filled.few, c.most_at-most.ensures, c.read_batch-reached.new.records.ok.0) in
     let shown = c.in_ok-show_records.ensures.shown matches test in
-    let old : Point = record { reader = c.args.reader.now; room = c.args.room.now; detector = c.args.detector.now; streams = record { left = left_by (g.H.Host.left_of c.args.host.now) seen; written = g.A.Sink.written c.args.alerts.now } } in
-    let new : Point = record { reader = c.read_batch-reached.new.reader; room = c.room_after.result; detector = c.show_records.new.detector; streams = record { left = left_by (g.H.Host.left_of c.read_batch-reached.new.host) seen; written = g.A.Sink.written c.show_records.new.alerts } } in
-    let count : c.len.result ≡ length c.read_batch-reached.new.records.items = omega (arith, c.len.ensures, c.read_batch-reached.new.records.ok.0) in
-    let room_is : c.room_after.result ≡ room_after c.args.room.now (length c.read_batch-reached.new.records.items) = c.room_after.ensures ∙ ap (λ (n : ℕ). room_after c.args.room.now n) count in
-    rw (c.more.ensures, c.give_back.ensures.same) (batch_shown (plan_of matches c.args.context.now.plan.now) c.read_batch-reached.new.records.items old new _ c.read_batch-reached.result _ _ _
+    let old : Point = record {
+      reader = c.args.reader.now;
+      room = c.args.room.now;
+      detector = c.args.detector.now;
+      streams = record { left = left_by (g.H.Host.left_of c.args.host.now) seen; written = g.A.Sink.written c.args.alerts.now };
+    } in
+    let new : Point = record {
+      reader = c.read_batch-reached.new.reader;
+      room = c.room_after.result;
+      detector = c.show_records.new.detector;
+      streams = record {
+        left = left_by (g.H.Host.left_of c.read_batch-reached.new.host) seen;
+        written = g.A.Sink.written c.show_records.new.alerts;
+      };
+    } in
+    let count : c.len.result ≡ length c.read_batch-reached.new.records.items =
+    omega (arith, c.len.ensures, c.read_batch-reached.new.records.ok.0) in
+    let room_is : c.room_after.result ≡ room_after c.args.room.now (length c.read_batch-reached.new.records.items) =
+    c.room_after.ensures ∙ ap (λ (n : ℕ). room_after c.args.room.now n) count in
+    rw (c.more.ensures, c.give_back.ensures.same)
+    (batch_shown (plan_of matches c.args.context.now.plan.now)
+    c.read_batch-reached.new.records.items old new _ c.read_batch-reached.result _ _ _
     few room_is
-    (λ more. omega (arith, c.read_batch-reached.ensures.filled.full more, c.most_at-most.ensures, c.read_batch-reached.new.records.ok.0))
-    (λ other. omega (arith, c.read_batch-reached.ensures.filled.fewer other, c.most_at-most.ensures, c.read_batch-reached.new.records.ok.0))
+    (λ more. omega
+    (arith, c.read_batch-reached.ensures.filled.full more, c.most_at-most.ensures, c.read_batch-reached.new.records.ok.0))
+    (λ other. omega
+    (arith, c.read_batch-reached.ensures.filled.fewer other, c.most_at-most.ensures, c.read_batch-reached.new.records.ok.0))
     (c.read_batch-reached.ensures.reads seen may) shown)
 
 -- nothing was read: the detector may be closed
@@ -127,7 +191,9 @@ returns-clause-further g c = λ on.
 pub returns-clause-closable : goal.returns-clause-closable
 returns-clause-closable g c = λ whole.
     let ready = c.requires.ready in
-    let few = within_batch c.args.detector.now.front.counts.records (number_of c.args.reader.now) (vec_len c.read_batch-reached.new.records) most_records ready.after ready.readable.within c.read_batch-reached.ensures.within in
+    let few =
+    within_batch c.args.detector.now.front.counts.records (number_of c.args.reader.now) (vec_len c.read_batch-reached.new.records)
+    most_records ready.after ready.readable.within c.read_batch-reached.ensures.within in
     record {
       known = c.in_ok-show_records.ensures.known;
       few = omega (arith, few, c.in_ok-show_records.ensures.records, c.read_batch-reached.new.records.ok.0);

@@ -9,5 +9,8 @@ pub returns-in-Ok : goal.returns-in-Ok
 returns-in-Ok c = whole-record c.args.bytes.now c.args.size _ _ c.requires.0 c.requires.1 c.requires.2 c.in-Ok.ensures.read
 
 pub returns-in-Err-Bad : goal.returns-in-Err-Bad
-returns-in-Err-Bad c =
-    (whole-foreign c.args.bytes.now c.args.size _ c.requires.0 c.requires.1 c.requires.2 (subst (IsCauseOf (take c.args.size c.args.bytes.now)) c.in-Err-Bad.field-0-is c.in-Err-Bad.ensures.refused), c.in-Err-Bad.ensures.unchanged)
+returns-in-Err-Bad c = (
+  whole-foreign c.args.bytes.now c.args.size _ c.requires.0 c.requires.1 c.requires.2
+      (subst (IsCauseOf (take c.args.size c.args.bytes.now)) c.in-Err-Bad.field-0-is c.in-Err-Bad.ensures.refused),
+  c.in-Err-Bad.ensures.unchanged,
+)

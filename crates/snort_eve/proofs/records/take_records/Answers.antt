@@ -14,17 +14,22 @@ places-init c = walk-start c.args.bytes.now c.args.entries.now.items
 pub places-preserved : goal.places-preserved
 places-preserved c =
     walk-step c.args.bytes.now _ _ _ c.places.place c.in-Record.size c.places.invariant
-    (subst (λ (f : Front). IsFront (take (length c.args.bytes.now - c.places.place) (drop c.places.place c.args.bytes.now)) c.places.entries.items c.push_front.new.entries.items f) c.in-Record.is c.in_ok-size.ensures)
+    (subst (λ (f : Front). IsFront (take (length c.args.bytes.now - c.places.place) (drop c.places.place c.args.bytes.now))
+    c.places.entries.items c.push_front.new.entries.items f) c.in-Record.is c.in_ok-size.ensures)
 
 pub places-smaller : goal.places-smaller
 places-smaller c =
-    let adds = subst (λ (f : Front). IsFront (take (length c.args.bytes.now - c.places.place) (drop c.places.place c.args.bytes.now)) c.places.entries.items c.push_front.new.entries.items f) c.in-Record.is c.in_ok-size.ensures in
+    let adds =
+    subst (λ (f : Front). IsFront (take (length c.args.bytes.now - c.places.place) (drop c.places.place c.args.bytes.now))
+    c.places.entries.items c.push_front.new.entries.items f) c.in-Record.is c.in_ok-size.ensures in
     let walk = walk-step c.args.bytes.now _ _ _ c.places.place c.in-Record.size c.places.invariant adds in
     omega (arith, walk.reached.within, front-size _ _ _ _ adds)
 
 pub returns-in-Waits-clause-taken : goal.returns-in-Waits-clause-taken
 returns-in-Waits-clause-taken c =
-    let here = subst (λ (f : Front). IsFront (take (length c.args.bytes.now - c.places.place) (drop c.places.place c.args.bytes.now)) c.places.entries.items c.push_front.new.entries.items f) c.in-Waits.is c.in_ok-size.ensures in
+    let here =
+    subst (λ (f : Front). IsFront (take (length c.args.bytes.now - c.places.place) (drop c.places.place c.args.bytes.now))
+    c.places.entries.items c.push_front.new.entries.items f) c.in-Waits.is c.in_ok-size.ensures in
     record {
       reached = c.places.invariant.reached;
       added = here.1 ∙ c.places.invariant.added;
@@ -33,7 +38,9 @@ returns-in-Waits-clause-taken c =
 
 pub returns-in-Foreign-clause-taken : goal.returns-in-Foreign-clause-taken
 returns-in-Foreign-clause-taken c =
-    let here = subst (λ (f : Front). IsFront (take (length c.args.bytes.now - c.places.place) (drop c.places.place c.args.bytes.now)) c.places.entries.items c.push_front.new.entries.items f) c.in-Foreign.is c.in_ok-size.ensures in
+    let here =
+    subst (λ (f : Front). IsFront (take (length c.args.bytes.now - c.places.place) (drop c.places.place c.args.bytes.now))
+    c.places.entries.items c.push_front.new.entries.items f) c.in-Foreign.is c.in_ok-size.ensures in
     let rest = drop c.places.place c.args.bytes.now in
     record {
       reached = c.places.invariant.reached;
@@ -43,5 +50,7 @@ returns-in-Foreign-clause-taken c =
 
 pub returns-in-Foreign-clause-foreign : goal.returns-in-Foreign-clause-foreign
 returns-in-Foreign-clause-foreign c told =
-    let here = subst (λ (f : Front). IsFront (take (length c.args.bytes.now - c.places.place) (drop c.places.place c.args.bytes.now)) c.places.entries.items c.push_front.new.entries.items f) c.in-Foreign.is c.in_ok-size.ensures in
+    let here =
+    subst (λ (f : Front). IsFront (take (length c.args.bytes.now - c.places.place) (drop c.places.place c.args.bytes.now))
+    c.places.entries.items c.push_front.new.entries.items f) c.in-Foreign.is c.in_ok-size.ensures in
     subst IsForeign (take_rest c.args.bytes.now c.places.place) here.0

@@ -21,9 +21,11 @@ returns-in-Ok-clause-quiet g c =
 
 pub returns-in-Err-clause-runs : goal.returns-in-Err-clause-runs
 returns-in-Err-clause-runs g c =
-    subst (λ (o : Outcome). LinesRun (Some (conf_facts c.args.conf.now)) (wanted_facts c.args.wanted.now) (g.H.Host.agrees c.read_texts.new.host) (g.A.Sink.written c.args.alerts.now) (g.A.Sink.written c.args.alerts.now) o)
+    subst (λ (o : Outcome). LinesRun (Some (conf_facts c.args.conf.now)) (wanted_facts c.args.wanted.now)
+    (g.H.Host.agrees c.read_texts.new.host) (g.A.Sink.written c.args.alerts.now) (g.A.Sink.written c.args.alerts.now) o)
     (sym c.halted.ensures)
-    (run-halted c.in-Err.stop (conf_facts c.args.conf.now) (wanted_facts c.args.wanted.now) (g.H.Host.agrees c.read_texts.new.host) (g.A.Sink.written c.args.alerts.now) c.in-Err.ensures.given)
+    (run-halted c.in-Err.stop (conf_facts c.args.conf.now) (wanted_facts c.args.wanted.now)
+    (g.H.Host.agrees c.read_texts.new.host) (g.A.Sink.written c.args.alerts.now) c.in-Err.ensures.given)
 
 pub returns-in-Err-clause-unread : goal.returns-in-Err-clause-unread
 returns-in-Err-clause-unread g c =

@@ -16,14 +16,20 @@ returns-in_ok-accepted-in-Ok-clause-read g c =
 
 pub returns-in_ok-accepted-in-Ok-clause-sound : goal.returns-in_ok-accepted-in-Ok-clause-sound
 returns-in_ok-accepted-in-Ok-clause-sound g c = λ all.
-    sound-judged c.args.lines.now.classes.now c.args.progress.accepted.rules c.in_ok-accepted-in-Ok.accepted.rules (refused_one (g.M.PatternMaker.refusals c.args.maker.now) (g.M.PatternMaker.refusals c.judge.new.maker))
+    sound-judged c.args.lines.now.classes.now c.args.progress.accepted.rules c.in_ok-accepted-in-Ok.accepted.rules
+    (refused_one (g.M.PatternMaker.refusals c.args.maker.now) (g.M.PatternMaker.refusals c.judge.new.maker))
     c.in-Ok.rule c.in_ok-accepted-in-Ok.fault c.in-Ok.ensures.sound all c.in_ok-accepted-in-Ok.ensures.judged
 
 pub returns-in_ok-fault-in-Err-clause-read : goal.returns-in_ok-fault-in-Err-clause-read
 returns-in_ok-fault-in-Err-clause-read g c =
     let fault = c.in-Err.fault in
-    let Read : RuleFault → Type 0 = λ f. IsRead (lines_frame c.args.lines.now) (state_of c.args.progress) c.args.text.now (refused_one (g.M.PatternMaker.refusals c.args.maker.now) (g.M.PatternMaker.refusals c.args.maker.now))
-    (record { names = c.read_rule.new.bits; rules = c.args.progress.accepted.rules; warnings = c.args.progress.warnings }) (Some f) in
+    let Read : RuleFault → Type 0 = λ f.
+    IsRead (lines_frame c.args.lines.now) (state_of c.args.progress) c.args.text.now
+    (refused_one (g.M.PatternMaker.refusals c.args.maker.now) (g.M.PatternMaker.refusals c.args.maker.now))
+    (record { names = c.read_rule.new.bits; rules = c.args.progress.accepted.rules; warnings = c.args.progress.warnings })
+    (Some f) in
     subst Read (sym c.in_ok-fault-in-Err.ensures.same)
-    (read-faulty (lines_frame c.args.lines.now) (state_of c.args.progress) c.args.text.now (refused_one (g.M.PatternMaker.refusals c.args.maker.now) (g.M.PatternMaker.refusals c.args.maker.now))
-    c.read_rule.new.bits fault (c.in-Err.ensures.meant, not-memory fault c.in_ok-fault-in-Err.ensures.read) c.in-Err.ensures.refused)
+    (read-faulty (lines_frame c.args.lines.now) (state_of c.args.progress) c.args.text.now
+    (refused_one (g.M.PatternMaker.refusals c.args.maker.now) (g.M.PatternMaker.refusals c.args.maker.now))
+    c.read_rule.new.bits fault (c.in-Err.ensures.meant, not-memory fault c.in_ok-fault-in-Err.ensures.read)
+    c.in-Err.ensures.refused)

@@ -17,10 +17,19 @@ lines-init g c =
     let first = c.first_progress-progress.ensures in
     let asked = g.M.PatternMaker.refusals c.args.maker.now in
     record {
-      so = sofar-none (lines_frame c.args.lines.now) c.args.rules.now c.args.warnings (state_of c.first_progress-progress.result) (grown_by asked asked) (ap (λ (p : Progress g.row.M-Made.Denot). state_of p) first);
+      so =
+          sofar-none (lines_frame c.args.lines.now) c.args.rules.now c.args.warnings (state_of c.first_progress-progress.result)
+          (grown_by asked asked)
+          (ap (λ (p : Progress g.row.M-Made.Denot). state_of p) first);
       grows = grows-none asked asked refl;
-      sound = All-same (IsSound c.args.lines.now.classes.now) c.first_progress-progress.result.accepted.rules [] (ap (λ (p : Progress g.row.M-Made.Denot). p.accepted.rules) first) (All-nil (IsSound c.args.lines.now.classes.now));
-      meant = subst (λ (p : Progress g.row.M-Made.Denot). FindWhatIsMeant g.M.Made.Pattern.finds (g.M.PatternMaker.means c.args.maker.now) p.accepted) (sym first) tt;
+      sound =
+          All-same (IsSound c.args.lines.now.classes.now) c.first_progress-progress.result.accepted.rules []
+          (ap (λ (p : Progress g.row.M-Made.Denot). p.accepted.rules) first)
+          (All-nil (IsSound c.args.lines.now.classes.now));
+      meant =
+          subst (λ (p : Progress g.row.M-Made.Denot). FindWhatIsMeant g.M.Made.Pattern.finds
+          (g.M.PatternMaker.means c.args.maker.now)
+          p.accepted) (sym first) tt;
       same_meaning = λ text flags bytes. refl;
     }
 
@@ -81,5 +90,6 @@ returns-then-is_some-clause-meant g c =
 
 pub returns-clause-answer : goal.returns-clause-answer
 returns-clause-answer g c =
-    finished-at (lines_frame c.args.lines.now) c.args.rules.now c.args.warnings (state_of c.lines.progress) c.lines.rest.now (grown_by (g.M.PatternMaker.refusals c.args.maker.now) (g.M.PatternMaker.refusals c.lines.maker))
+    finished-at (lines_frame c.args.lines.now) c.args.rules.now c.args.warnings (state_of c.lines.progress) c.lines.rest.now
+    (grown_by (g.M.PatternMaker.refusals c.args.maker.now) (g.M.PatternMaker.refusals c.lines.maker))
     c.in_default.ensures.cases c.lines.invariant.so

@@ -18,8 +18,12 @@ use Rattle.snort_setup.proofs.setup.read_setup.Goals as goal
 pub returns-in_err-configured-clause-agreed : goal.returns-in_err-configured-clause-agreed
 returns-in_err-configured-clause-agreed g c = λ files agree.
     let p = err_from_is_err_and c.from_residual.result c.from_residual.ensures.1 in
-    rw (p.1, p.2) (conf-stopped ready_of (words_of c.args.words.now) files (Rose (g.H.Host.faults c.args.host.now) (g.H.Host.faults c.read_conf.new.host))
-    (grown_by (g.M.PatternMaker.refusals c.args.maker.now) (g.M.PatternMaker.refusals c.args.maker.now)) c.read_conf.new.warnings c.in_err-configured.field-0.0 (c.in_err-configured.ensures.ends files agree))
+    rw (p.1, p.2)
+    (conf-stopped ready_of (words_of c.args.words.now) files
+    (Rose (g.H.Host.faults c.args.host.now) (g.H.Host.faults c.read_conf.new.host))
+    (grown_by (g.M.PatternMaker.refusals c.args.maker.now) (g.M.PatternMaker.refusals c.args.maker.now))
+    c.read_conf.new.warnings c.in_err-configured.field-0.0
+    (c.in_err-configured.ensures.ends files agree))
 
 pub returns-in_err-configured-clause-one : goal.returns-in_err-configured-clause-one
 returns-in_err-configured-clause-one g c = setup-one
@@ -57,9 +61,14 @@ returns-in_err-hosts-clause-agreed g c = λ files agree.
     let mid = g.H.Host.faults c.read_conf.new.host in
     let new = g.H.Host.faults c.read_table.new.host in
     rw (p.1, p.2) (table-stopped ready_of words files (Rose old new)
-    (grown_by (g.M.PatternMaker.refusals c.args.maker.now) (g.M.PatternMaker.refusals c.read_ruled.new.maker)) c.read_ruled.new.warnings (ruled_of {P = g.row.M-Made.Denot}) c.in_ok-ruled.ruled c.in_err-hosts.field-0.0
-    (c.in_ok-ruled.ensures.gives words refl (conf_read words (told files)) (c.in_ok-configured.ensures.ends files (c.read_table.ensures.only_loaded.earlier (Some files) agree)))
-    (table-since words.host_table files (Rose mid new) (Rose old new) (rose-since old mid new c.read_conf.ensures.only_loaded.later) (Err c.in_err-hosts.field-0.0) (c.in_err-hosts.ensures.gives files agree)))
+    (grown_by (g.M.PatternMaker.refusals c.args.maker.now) (g.M.PatternMaker.refusals c.read_ruled.new.maker))
+    c.read_ruled.new.warnings (ruled_of {P = g.row.M-Made.Denot}) c.in_ok-ruled.ruled c.in_err-hosts.field-0.0
+    (c.in_ok-ruled.ensures.gives words refl (conf_read words (told files))
+    (c.in_ok-configured.ensures.ends files (c.read_table.ensures.only_loaded.earlier (Some files) agree)))
+    (table-since words.host_table files (Rose mid new) (Rose old new)
+    (rose-since old mid new c.read_conf.ensures.only_loaded.later)
+    (Err c.in_err-hosts.field-0.0)
+    (c.in_err-hosts.ensures.gives files agree)))
 
 pub returns-in_err-hosts-clause-cause : goal.returns-in_err-hosts-clause-cause
 returns-in_err-hosts-clause-cause g c =
@@ -77,9 +86,14 @@ returns-clause-agreed g c = λ files agree.
     let mid = g.H.Host.faults c.read_conf.new.host in
     let new = g.H.Host.faults c.read_table.new.host in
     all-ready ready_of words files (Rose old new)
-    (grown_by (g.M.PatternMaker.refusals c.args.maker.now) (g.M.PatternMaker.refusals c.read_ruled.new.maker)) c.read_ruled.new.warnings (ruled_of {P = g.row.M-Made.Denot}) c.in_ok-ruled.ruled c.in_ok-hosts.hosts _
-    (c.in_ok-ruled.ensures.gives words refl (conf_read words (told files)) (c.in_ok-configured.ensures.ends files (c.read_table.ensures.only_loaded.earlier (Some files) agree)))
-    (table-since words.host_table files (Rose mid new) (Rose old new) (rose-since old mid new c.read_conf.ensures.only_loaded.later) (Ok c.in_ok-hosts.hosts) (c.in_ok-hosts.ensures.gives files agree))
+    (grown_by (g.M.PatternMaker.refusals c.args.maker.now) (g.M.PatternMaker.refusals c.read_ruled.new.maker))
+    c.read_ruled.new.warnings (ruled_of {P = g.row.M-Made.Denot}) c.in_ok-ruled.ruled c.in_ok-hosts.hosts _
+    (c.in_ok-ruled.ensures.gives words refl (conf_read words (told files))
+    (c.in_ok-configured.ensures.ends files (c.read_table.ensures.only_loaded.earlier (Some files) agree)))
+    (table-since words.host_table files (Rose mid new) (Rose old new)
+    (rose-since old mid new c.read_conf.ensures.only_loaded.later)
+    (Ok c.in_ok-hosts.hosts)
+    (c.in_ok-hosts.ensures.gives files agree))
     refl
 
 pub returns-in_err-configured-clause-setup : goal.returns-in_err-configured-clause-setup

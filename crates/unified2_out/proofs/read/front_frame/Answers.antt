@@ -19,4 +19,8 @@ returns-then-len-gt-MAX_BODY c kind body front =
 
 pub returns : goal.returns
 returns c =
-    frame-read c.args.bytes.now _ c.read_u32-len.result _ (λ k. omega (arith, c.type_inv.bytes k)) (omega (arith, ap length (take_rest c.args.bytes.now 8), length-drop 8 c.args.bytes.now)) (omega arith) c.read_u32-kind.ensures (c.read_u32-len.ensures ∙ ap (big_number 4) (take_rest c.args.bytes.now 4)) (ap (take c.read_u32-len.result) (take_rest c.args.bytes.now 8))
+    frame-read c.args.bytes.now _ c.read_u32-len.result _ (λ k. omega (arith, c.type_inv.bytes k))
+    (omega (arith, ap length (take_rest c.args.bytes.now 8), length-drop 8 c.args.bytes.now))
+    (omega arith) c.read_u32-kind.ensures
+    (c.read_u32-len.ensures ∙ ap (big_number 4) (take_rest c.args.bytes.now 4))
+    (ap (take c.read_u32-len.result) (take_rest c.args.bytes.now 8))

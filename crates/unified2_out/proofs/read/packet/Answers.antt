@@ -16,4 +16,6 @@ returns-then-count-bytes c entry of =
 
 pub returns : goal.returns
 returns c =
-    packet-of _ c.args.body.now _ _ c.read_u32_into.new.dst (λ k. omega (arith, c.type_inv.body k)) c.requires (omega arith) c.split_at.ensures.front c.split_at.ensures.back (omega arith) c.read_u32_into.ensures refl c.if-count-bytes.false c.in_ok-copy.ensures
+    packet-of _ c.args.body.now _ _ c.read_u32_into.new.dst (λ k. omega (arith, c.type_inv.body k)) c.requires (omega arith)
+    c.split_at.ensures.front c.split_at.ensures.back (omega arith) c.read_u32_into.ensures refl c.if-count-bytes.false
+    c.in_ok-copy.ensures

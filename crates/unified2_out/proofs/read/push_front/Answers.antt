@@ -11,4 +11,6 @@ returns-in_default-2-clause-found c =
 
 pub returns-clause-found : goal.returns-clause-found
 returns-clause-found c =
-    front-record c.args.bytes.now c.in-Some.frame.kind c.in-Some.frame.body.now c.in-Some-2.entry c.args.out.now.items c.push.new.self.items c.in-Some.ensures (rw c.in-Some-2.is at c.in_ok-entry.ensures) c.in_ok-push.ensures.items
+    front-record c.args.bytes.now c.in-Some.frame.kind c.in-Some.frame.body.now c.in-Some-2.entry c.args.out.now.items
+    c.push.new.self.items c.in-Some.ensures (rw c.in-Some-2.is at c.in_ok-entry.ensures)
+    c.in_ok-push.ensures.items

@@ -15,7 +15,8 @@ loop-place-smaller c =
 
 pub loop-place-preserved : goal.loop-place-preserved
 loop-place-preserved c =
-    walk-step c.args.bytes.now c.args.out.now.items c.loop-place.out.items c.push_front.new.out.items c.loop-place.place c.in-Some.size c.loop-place.invariant (rw c.in-Some.is at c.in_ok-size.ensures.found)
+    walk-step c.args.bytes.now c.args.out.now.items c.loop-place.out.items c.push_front.new.out.items c.loop-place.place
+    c.in-Some.size c.loop-place.invariant (rw c.in-Some.is at c.in_ok-size.ensures.found)
 
 pub returns-in-None-clause-refused : goal.returns-in-None-clause-refused
 returns-in-None-clause-refused c =

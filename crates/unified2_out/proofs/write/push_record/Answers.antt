@@ -7,4 +7,7 @@ use Rattle.unified2_out.proofs.write.push_record.Goals as goal
 pub returns-in-Other-clause-appended : goal.returns-in-Other-clause-appended
 unfolding unified2_text
 returns-in-Other-clause-appended c =
-    on_ok_weaker c.push_other.result (λ e. e ∙ ap (λ (b : List ℕ). c.args.out.now.items ++ frame_text c.in-Other.kind b) c.bytes.ensures ∙ sym (ap (λ r. c.args.out.now.items ++ unified2_text r) c.in-Other.is)) c.push_other.ensures.appended
+    on_ok_weaker c.push_other.result
+    (λ e. e ∙ ap (λ (b : List ℕ). c.args.out.now.items ++ frame_text c.in-Other.kind b) c.bytes.ensures ∙
+    sym (ap (λ r. c.args.out.now.items ++ unified2_text r) c.in-Other.is))
+    c.push_other.ensures.appended

@@ -14,12 +14,17 @@ pub returns-in_err-show_items : goal.returns-in_err-show_items
 returns-in_err-show_items g c =
     let p = err_from_is_err_and c.from_residual.result c.from_residual.ensures.1 in
     let stopped = rw (c.as_slice-items.ensures, c.of-origin.ensures, c.loop-job.invariant.at) at c.in_err-show_items.ensures in
-    rw (p.1, p.2) (jobs_part c.args.by.now.form c.args.by.now.config.now c.args.by.now.rules.now (source_by c.args.sources) c.args.jobs.now c.loop-job.job-index c.job-item.result _ _ _ _ _ c.loop-job-test.true c.job-item.is c.loop-job.invariant.shown stopped)
+    rw (p.1, p.2)
+    (jobs_part c.args.by.now.form c.args.by.now.config.now c.args.by.now.rules.now (source_by c.args.sources) c.args.jobs.now
+    c.loop-job.job-index c.job-item.result _ _ _ _ _ c.loop-job-test.true c.job-item.is c.loop-job.invariant.shown stopped)
 
 pub loop-job-preserved : goal.loop-job-preserved
 loop-job-preserved g c =
-    let shown = rw (c.as_slice-items.ensures, c.of-origin.ensures, c.loop-job.invariant.at) at c.in_ok-show_items.ensures in record {
-      shown = jobs_step c.args.by.now.form c.args.by.now.config.now c.args.by.now.rules.now (source_by c.args.sources) c.args.jobs.now c.loop-job.job-index c.job-item.result _ _ _ _ _ c.loop-job-test.true c.job-item.is c.loop-job.invariant.shown shown;
+    let shown = rw (c.as_slice-items.ensures, c.of-origin.ensures, c.loop-job.invariant.at) at c.in_ok-show_items.ensures in
+    record {
+      shown =
+          jobs_step c.args.by.now.form c.args.by.now.config.now c.args.by.now.rules.now (source_by c.args.sources) c.args.jobs.now
+          c.loop-job.job-index c.job-item.result _ _ _ _ _ c.loop-job-test.true c.job-item.is c.loop-job.invariant.shown shown;
       at = omega (arith, c.loop-job.invariant.at);
     }
 

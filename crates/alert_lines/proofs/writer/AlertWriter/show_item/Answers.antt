@@ -29,4 +29,6 @@ pub returns : goal.returns
 returns g c =
     let passes = rw (c.clear.ensures.items, c.as_slice-matching.ensures) at c.in_ok-pass.ensures.passes in
     let shown = rw c.deref.ensures.value at c.in_ok-count.ensures in
-    shows_one c.args.by.now.form c.args.by.now.config.now c.args.by.now.rules.now c.args.origin.now c.args.hits.now _ _ c.pass.new.out.items c.in_ok-count.count (length c.as_slice-matching.result.now) passes shown c.in_ok-self.ensures (ap (λ (x : List ℕ). length x) c.as_slice-matching.ensures)
+    shows_one c.args.by.now.form c.args.by.now.config.now c.args.by.now.rules.now c.args.origin.now c.args.hits.now _ _
+    c.pass.new.out.items c.in_ok-count.count (length c.as_slice-matching.result.now) passes shown c.in_ok-self.ensures
+    (ap (λ (x : List ℕ). length x) c.as_slice-matching.ensures)

@@ -12,11 +12,16 @@ loop-hits-init g c = shows_none c.args.by.now.form c.args.by.now.config.now c.ar
 pub returns-in_err-show_item : goal.returns-in_err-show_item
 returns-in_err-show_item g c =
     let p = err_from_is_err_and c.from_residual.result c.from_residual.ensures.1 in
-    rw (p.1, p.2) (items_part c.args.by.now.form c.args.by.now.config.now c.args.by.now.rules.now c.args.origin.now c.args.items.now c.loop-hits.hits-index c.hits-item.result _ _ _ _ _ c.loop-hits-test.true c.hits-item.is c.loop-hits.invariant c.in_err-show_item.ensures)
+    rw (p.1, p.2)
+    (items_part c.args.by.now.form c.args.by.now.config.now c.args.by.now.rules.now c.args.origin.now c.args.items.now
+    c.loop-hits.hits-index c.hits-item.result _ _ _ _ _ c.loop-hits-test.true c.hits-item.is c.loop-hits.invariant
+    c.in_err-show_item.ensures)
 
 pub loop-hits-preserved : goal.loop-hits-preserved
 loop-hits-preserved g c =
-    items_step c.args.by.now.form c.args.by.now.config.now c.args.by.now.rules.now c.args.origin.now c.args.items.now c.loop-hits.hits-index c.hits-item.result _ _ _ _ _ c.loop-hits-test.true c.hits-item.is c.loop-hits.invariant c.in_ok-show_item.ensures
+    items_step c.args.by.now.form c.args.by.now.config.now c.args.by.now.rules.now c.args.origin.now c.args.items.now
+    c.loop-hits.hits-index c.hits-item.result _ _ _ _ _ c.loop-hits-test.true c.hits-item.is c.loop-hits.invariant
+    c.in_ok-show_item.ensures
 
 pub returns : goal.returns
 returns g c =

@@ -7,4 +7,6 @@ pub returns : goal.returns
 returns c =
     let own = rw c.as_slice-filters.ensures at c.in_ok-own_places.ensures in
     let global = rw c.as_slice-filters.ensures at c.in_ok-global_places.ensures in
-    λ config_sound rules_sound. given-none c.args.config.now c.args.rules.now _ config_sound rules_sound c.in_ok-sizes_of.ensures own global c.with_hasher.ensures.empty c.with_hasher-2.ensures.empty c.with_hasher-3.ensures.empty
+    λ config_sound rules_sound.
+    given-none c.args.config.now c.args.rules.now _ config_sound rules_sound c.in_ok-sizes_of.ensures own global
+    c.with_hasher.ensures.empty c.with_hasher-2.ensures.empty c.with_hasher-3.ensures.empty

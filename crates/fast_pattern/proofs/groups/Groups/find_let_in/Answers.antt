@@ -17,7 +17,14 @@ returns-clause-appended c = record {
       let sorted = c.sort_unstable.new.self.items in
       let places = c.dedup.new.self.items in
       let once : places ≡ dedup eqb sorted = dedup_is eqb sorted places c.dedup.ensures.filtered in
-      let found = c.in_ok-found.ensures ∙ ap (λ rs. filter (fits_at rs carried) c.deref-2.result.now) c.deref.ensures.value ∙ ap (filter (fits_at groups.rules.items carried)) c.deref-2.ensures.value in
-      let are = candidates-are groups rules carried payload hold hits c.push_due.new.places.items sorted places c.in_ok-places.ensures (c.in_ok-push_due.ensures.added rules hold) c.sort_unstable.ensures.permutation c.sort_unstable.ensures.sorted once in
-      c.in_ok-extend_from_slice.ensures.items ∙ ap (λ (xs : List ℕ). c.args.out.now.items ++ xs) (c.deref-3.ensures.value ∙ found ∙ are);
+      let found =
+      c.in_ok-found.ensures
+      ∙ ap (λ rs. filter (fits_at rs carried) c.deref-2.result.now) c.deref.ensures.value
+      ∙ ap (filter (fits_at groups.rules.items carried)) c.deref-2.ensures.value in
+      let are =
+      candidates-are groups rules carried payload hold hits c.push_due.new.places.items sorted places c.in_ok-places.ensures
+      (c.in_ok-push_due.ensures.added rules hold)
+      c.sort_unstable.ensures.permutation c.sort_unstable.ensures.sorted once in
+      c.in_ok-extend_from_slice.ensures.items
+      ∙ ap (λ (xs : List ℕ). c.args.out.now.items ++ xs) (c.deref-3.ensures.value ∙ found ∙ are);
 }

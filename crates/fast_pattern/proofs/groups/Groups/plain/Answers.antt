@@ -13,6 +13,10 @@ pub loop-place-preserved : goal.loop-place-preserved
 loop-place-preserved c =
     let test = is_plain c.args.rules.now c.args.patterns.now c.args.kind in
     elim c.if-is_plain.branch [
-      | then-is_plain+in_ok-push w ↦ numbers-more test c.loop-place.place c.loop-place.plain.items c.if-is_plain.plain.items c.loop-place.invariant (sym w.if-is_plain.ensures) (ap (λ v. v.items) w.plain-is ∙ w.in_ok-push.ensures.items)
-      | else-is_plain w ↦ ap (λ v. v.items) w.plain-is ∙ numbers-skip test c.loop-place.place c.loop-place.plain.items c.loop-place.invariant (sym w.if-is_plain.ensures)
+      | then-is_plain+in_ok-push w ↦
+          numbers-more test c.loop-place.place c.loop-place.plain.items c.if-is_plain.plain.items c.loop-place.invariant
+          (sym w.if-is_plain.ensures) (ap (λ v. v.items) w.plain-is ∙ w.in_ok-push.ensures.items)
+      | else-is_plain w ↦
+          ap (λ v. v.items) w.plain-is
+          ∙ numbers-skip test c.loop-place.place c.loop-place.plain.items c.loop-place.invariant (sym w.if-is_plain.ensures)
     ]

@@ -21,7 +21,9 @@ returns-in_ok-push_places-in-Tcp c = record {
       let old = c.args.places.now.items in
       let new = c.push_places.new.places.items in
       let head = c.in-Tcp.head in
-      subst (Added groups rules old new place) (sym c.in-Tcp.is) (sides-due groups.rules.items (texts_of rules) (body.Tcp head) head.sport head.dport old new groups.tcp hold.tcp c.in_ok-push_places-in-Tcp.ensures (λ one. refl) place);
+      subst (Added groups rules old new place) (sym c.in-Tcp.is)
+      (sides-due groups.rules.items (texts_of rules) (body.Tcp head) head.sport head.dport old new groups.tcp hold.tcp
+      c.in_ok-push_places-in-Tcp.ensures (λ one. refl) place);
 }
 
 pub returns-in_ok-push_places-in-Stream : goal.returns-in_ok-push_places-in-Stream
@@ -32,7 +34,9 @@ returns-in_ok-push_places-in-Stream c = record {
       let new = c.push_places-in-Stream.new.places.items in
       let sport = c.in-Stream.sport in
       let dport = c.in-Stream.dport in
-      subst (Added groups rules old new place) (sym c.in-Stream.is) (sides-due groups.rules.items (texts_of rules) (body.Stream sport dport) sport dport old new groups.tcp hold.tcp c.in_ok-push_places-in-Stream.ensures (λ one. refl) place);
+      subst (Added groups rules old new place) (sym c.in-Stream.is)
+      (sides-due groups.rules.items (texts_of rules) (body.Stream sport dport) sport dport old new groups.tcp hold.tcp
+      c.in_ok-push_places-in-Stream.ensures (λ one. refl) place);
 }
 
 pub returns-in_ok-push_places-in-Udp : goal.returns-in_ok-push_places-in-Udp
@@ -43,7 +47,9 @@ returns-in_ok-push_places-in-Udp c = record {
       let new = c.push_places-in-Udp.new.places.items in
       let sport = c.in-Udp.sport in
       let dport = c.in-Udp.dport in
-      subst (Added groups rules old new place) (sym c.in-Udp.is) (sides-due groups.rules.items (texts_of rules) (body.Udp sport dport) sport dport old new groups.udp hold.udp c.in_ok-push_places-in-Udp.ensures (λ one. refl) place);
+      subst (Added groups rules old new place) (sym c.in-Udp.is)
+      (sides-due groups.rules.items (texts_of rules) (body.Udp sport dport) sport dport old new groups.udp hold.udp
+      c.in_ok-push_places-in-Udp.ensures (λ one. refl) place);
 }
 
 pub returns-in_ok-extend_from_slice-in-Icmp : goal.returns-in_ok-extend_from_slice-in-Icmp
@@ -54,7 +60,9 @@ returns-in_ok-extend_from_slice-in-Icmp c = record {
       let new = c.extend_from_slice.new.self.items in
       let at = c.in-Icmp in
       let pushed = c.in_ok-extend_from_slice-in-Icmp.ensures.items ∙ ap (λ (xs : List ℕ). old ++ xs) c.deref.ensures.value in
-      subst (Added groups rules old new place) (sym c.in-Icmp.is) (list-due groups rules (body.Icmp at.kind at.code at.id at.seq) groups.icmp.items old new hold hold.icmp (λ asked. refl) pushed place);
+      subst (Added groups rules old new place) (sym c.in-Icmp.is)
+      (list-due groups rules (body.Icmp at.kind at.code at.id at.seq) groups.icmp.items old new hold hold.icmp (λ asked. refl)
+      pushed place);
 }
 
 pub returns-in_ok-extend_from_slice-in-Other : goal.returns-in_ok-extend_from_slice-in-Other

@@ -26,11 +26,16 @@ pub push_within-requires : goal.push_within-requires
 push_within-requires t c =
     let a = c.args in
     let whole = halved a.bits (omega arith) in
-    let short : c.half_with-half.result + 2 ^ (a.bits - 1) ≤ 65536 = ⊎_elim (λ h. omega (arith, c.half_with-half.ensures, half-low (a.bits - 1) a.low a.port h, whole, c.requires.within)) (λ h. omega (arith, c.half_with-half.ensures, half-high (a.bits - 1) a.low a.port h, whole, c.requires.within)) (cases_lt a.port (a.low + 2 ^ (a.bits - 1))) in
+    let short : c.half_with-half.result + 2 ^ (a.bits - 1) ≤ 65536 =
+    ⊎_elim (λ h. omega (arith, c.half_with-half.ensures, half-low (a.bits - 1) a.low a.port h, whole, c.requires.within))
+    (λ h. omega (arith, c.half_with-half.ensures, half-high (a.bits - 1) a.low a.port h, whole, c.requires.within))
+    (cases_lt a.port (a.low + 2 ^ (a.bits - 1))) in
     (omega arith, (omega arith, short))
 
 pub returns : goal.returns
 returns t c =
     let a = c.args in
     let P : ℕ → Type 0 = λ n. AddFiled a.self.now (λ other. other == n) a.places.now.items c.push_block.new.places.items in
-    within-part a.self.now a.bits a.low a.port c.half_with-half.result a.places.now.items c.push_block.new.places.items c.push_within.new.places.items (omega arith) c.half_with-half.ensures (subst P c.number.ensures c.in_ok-push_block.ensures) c.in_ok-push_within.ensures
+    within-part a.self.now a.bits a.low a.port c.half_with-half.result a.places.now.items c.push_block.new.places.items
+    c.push_within.new.places.items (omega arith) c.half_with-half.ensures (subst P c.number.ensures c.in_ok-push_block.ensures)
+    c.in_ok-push_within.ensures

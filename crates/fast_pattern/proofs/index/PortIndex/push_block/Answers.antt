@@ -15,8 +15,14 @@ pub loop-at-preserved : goal.loop-at-preserved
 loop-at-preserved c =
     let at = c.loop-at.at in
     let place = c.place_at.ensures ∙ ap (λ (es : List Entry). (entry_at es (at - 1)).place) c.deref-in-loop-at.ensures.value in
-    let next : c.min-at.result ≡ min (slice_index c.args.self.now.nexts.items (at - 1)) (at - 1) = omega (arith, c.min-at.ensures, c.read.ensures, ap (λ (xs : List ℕ). slice_index xs (at - 1)) c.deref-in-loop-at-2.ensures.value) in
-    followed-more c.args.self.now c.args.block c.requires.some c.requires.short c.args.places.now.items at c.min-at.result c.loop-at.places.items c.push.new.self.items (omega arith) c.loop-at.invariant
+    let next : c.min-at.result ≡ min (slice_index c.args.self.now.nexts.items (at - 1)) (at - 1) = omega (
+      arith,
+      c.min-at.ensures,
+      c.read.ensures,
+      ap (λ (xs : List ℕ). slice_index xs (at - 1)) c.deref-in-loop-at-2.ensures.value,
+    ) in
+    followed-more c.args.self.now c.args.block c.requires.some c.requires.short c.args.places.now.items at c.min-at.result
+    c.loop-at.places.items c.push.new.self.items (omega arith) c.loop-at.invariant
     (c.in_ok-push.ensures.items ∙ ap (λ (n : ℕ). c.loop-at.places.items ++ n ∷ []) place) next
 
 pub returns : goal.returns

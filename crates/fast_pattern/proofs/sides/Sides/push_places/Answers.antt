@@ -6,4 +6,5 @@ use Rattle.fast_pattern.proofs.sides.Sides.push_places.Goals as goal
 pub returns : goal.returns
 returns c =
     let a = c.args in
-    sought-both a.self.now a.sport a.dport a.places.now.items c.push_places.new.places.items c.push_places-2.new.places.items (omega arith) (omega arith) c.in_ok-push_places.ensures c.in_ok-push_places-2.ensures
+    sought-both a.self.now a.sport a.dport a.places.now.items c.push_places.new.places.items c.push_places-2.new.places.items
+    (omega arith) (omega arith) c.in_ok-push_places.ensures c.in_ok-push_places-2.ensures

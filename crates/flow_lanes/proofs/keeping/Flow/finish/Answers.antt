@@ -19,6 +19,8 @@ invariant_of-self-2 g c = kept-still c.self.inside.facts (session_at_hand c.self
 pub returns : goal.returns
 returns g c =
     let by = inspection_of g.P.Pattern.finds c.args.inspector.now in
-    subst (λ (k : KeptFlow). Tallied by (of_job (finish_items c.args.moment (session_at_hand k.found)) k.found) (so_far c.end_session.new.tally)) c.self.view_is
-    (finished by (so_far c.new-tally.result) c.new-tally.ensures.hits c.new-tally.ensures.items c.new-tally.ensures.tries c.new-tally.ensures.visits c.args.moment c.self.inside.found (so_far c.end_session.new.tally)
+    subst (λ (k : KeptFlow). Tallied by (of_job (finish_items c.args.moment (session_at_hand k.found)) k.found)
+    (so_far c.end_session.new.tally)) c.self.view_is
+    (finished by (so_far c.new-tally.result) c.new-tally.ensures.hits c.new-tally.ensures.items c.new-tally.ensures.tries
+    c.new-tally.ensures.visits c.args.moment c.self.inside.found (so_far c.end_session.new.tally)
     c.in_ok-end_session.ensures.tallies)

@@ -8,10 +8,14 @@ use Rattle.flow_lanes.proofs.Sessions.Reaches.{grow-both}
 use Rattle.flow_lanes.proofs.session.Session.accept_packet.Goals as goal
 
 pub returns-in_err-accept_ack-clause-grows : goal.returns-in_err-accept_ack-clause-grows
-returns-in_err-accept_ack-clause-grows c = grow-both (is_from_client c.args.step.now) c.args.self.now c.accept_data.new.self c.accept_ack.new.self c.accept_data.ensures.grows c.accept_ack.ensures.grows
+returns-in_err-accept_ack-clause-grows c =
+    grow-both (is_from_client c.args.step.now) c.args.self.now c.accept_data.new.self c.accept_ack.new.self
+    c.accept_data.ensures.grows c.accept_ack.ensures.grows
 
 pub end_if-requires : goal.end_if-requires
-end_if-requires c = grow-both (is_from_client c.args.step.now) c.args.self.now c.accept_data.new.self c.accept_ack.new.self c.accept_data.ensures.grows c.accept_ack.ensures.grows (2 ^ 63 - 2 ^ 31) c.requires.within
+end_if-requires c =
+    grow-both (is_from_client c.args.step.now) c.args.self.now c.accept_data.new.self c.accept_ack.new.self
+    c.accept_data.ensures.grows c.accept_ack.ensures.grows (2 ^ 63 - 2 ^ 31) c.requires.within
 
 pub returns-in_err-end_if-clause-grows : goal.returns-in_err-end_if-clause-grows
 returns-in_err-end_if-clause-grows c = λ places h.
@@ -31,9 +35,14 @@ returns-clause-items c =
 
 pub returns-clause-state : goal.returns-clause-state
 returns-clause-state c = λ on.
-    c.in_ok-end_if.ensures.state on ∙ c.in_ok-accept_ack.ensures.state ∙ ap (after_ack (packet_of c.args.p.now) c.args.step.now) c.in_ok-queued.ensures.state ∙ data_first (packet_of c.args.p.now) c.args.step.now c.args.self.now
+    c.in_ok-end_if.ensures.state on
+    ∙ c.in_ok-accept_ack.ensures.state
+    ∙ ap (after_ack (packet_of c.args.p.now) c.args.step.now) c.in_ok-queued.ensures.state
+    ∙ data_first (packet_of c.args.p.now) c.args.step.now c.args.self.now
 
 pub returns-clause-sizes : goal.returns-clause-sizes
 returns-clause-sizes c =
     c.in_ok-end_if.ensures.sizes
-    ∙ ap sizes_of (c.in_ok-accept_ack.ensures.state ∙ ap (after_ack (packet_of c.args.p.now) c.args.step.now) c.in_ok-queued.ensures.state ∙ data_first (packet_of c.args.p.now) c.args.step.now c.args.self.now)
+    ∙ ap sizes_of
+    (c.in_ok-accept_ack.ensures.state ∙ ap (after_ack (packet_of c.args.p.now) c.args.step.now) c.in_ok-queued.ensures.state ∙
+    data_first (packet_of c.args.p.now) c.args.step.now c.args.self.now)

@@ -54,10 +54,13 @@ pub returns-clause-ok : goal.returns-clause-ok
 returns-clause-ok c t is =
     let key = c.args.key.now in
     let ts = c.self.inside.cache.entries in
-    let found : lookup (same_key key) ts ≡ Some c.in-Some.tracker.now = ap (λ test. lookup test ts) (sym (key_test key)) ∙ sym c.in-Some.ensures.value in
+    let found : lookup (same_key key) ts ≡ Some c.in-Some.tracker.now =
+    ap (λ test. lookup test ts) (sym (key_test key)) ∙ sym c.in-Some.ensures.value in
     let at : Some c.in-Some.tracker.now ≡ Some t = sym found ∙ ap (lookup (same_key key)) c.self.view_is ∙ is in
     let same : c.in-Some.tracker.now ≡ t = cc in
     let new = c.in_ok-bytes.ensures.tracker ∙ ap (joined c.args.ip.now c.args.part.now) same in (
-      ap (λ test. set_value test ts c.add.new.self) (key_test key) ∙ ap (set_value (same_key key) ts) new ∙ ap (λ l. set_value (same_key key) l (joined c.args.ip.now c.args.part.now t)) c.self.view_is,
+      ap (λ test. set_value test ts c.add.new.self) (key_test key)
+          ∙ ap (set_value (same_key key) ts) new
+          ∙ ap (λ l. set_value (same_key key) l (joined c.args.ip.now c.args.part.now t)) c.self.view_is,
       c.in_ok-bytes.ensures.bytes ∙ ap datagram_of new,
     )

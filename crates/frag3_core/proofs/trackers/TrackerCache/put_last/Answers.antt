@@ -34,6 +34,16 @@ returns-clause-ok c =
     let key = c.args.key in
     let t = c.args.tracker in
     let ts = c.self.inside.cache.entries in
-    let room : length ts < c.self.inside.cache.cap = omega (arith, length-le ts c.self.invariant.trackers, c.self.invariant.held, c.self.invariant.room, c.requires.fits, ap held_count c.self.view_is) in
-    let last = put_last_is c.self.inside.cache c.put.new.self c.demote.new.self key t c.in_ok-old.ensures.entries c.demote.ensures.entries room in
-    ap (λ (x : LruCache DatagramKey TrackerState). x.entries) last ∙ ap (λ l. remove_entry (same_key key) l ++ (key, t) ∷ []) c.self.view_is
+    let room : length ts < c.self.inside.cache.cap = omega (
+      arith,
+      length-le ts c.self.invariant.trackers,
+      c.self.invariant.held,
+      c.self.invariant.room,
+      c.requires.fits,
+      ap held_count c.self.view_is,
+    ) in
+    let last =
+    put_last_is c.self.inside.cache c.put.new.self c.demote.new.self key t c.in_ok-old.ensures.entries c.demote.ensures.entries
+    room in
+    ap (λ (x : LruCache DatagramKey TrackerState). x.entries) last
+    ∙ ap (λ l. remove_entry (same_key key) l ++ (key, t) ∷ []) c.self.view_is

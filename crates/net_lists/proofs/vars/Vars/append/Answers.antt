@@ -35,6 +35,10 @@ loop-place-preserved c =
       within = piece.1;
       kept = kept_after old now after c.in-Ok.bytes.now n e c.loop-place.invariant.kept more;
       so_far =
-          fits_after c.args.self.now c.args.text.now _ _ c.loop-place.place c.loop-place.room c.loop-place.invariant.so_far c.in-Ok.bytes.now c.in-Ok.next piece.2 c.if-bytes-room.false
-          ∙ ap (λ front. with_front front (put_together (c.loop-place.room - length c.in-Ok.bytes.now) (pieces c.args.self.now c.args.text.now c.in-Ok.next 0 (drop c.in-Ok.next c.args.text.now)))) (sym (front_after old now after c.in-Ok.bytes.now n e c.loop-place.invariant.kept more));
+          fits_after c.args.self.now c.args.text.now _ _ c.loop-place.place c.loop-place.room c.loop-place.invariant.so_far
+          c.in-Ok.bytes.now c.in-Ok.next piece.2 c.if-bytes-room.false
+          ∙ ap (λ front. with_front front
+          (put_together (c.loop-place.room - length c.in-Ok.bytes.now)
+          (pieces c.args.self.now c.args.text.now c.in-Ok.next 0 (drop c.in-Ok.next c.args.text.now))))
+          (sym (front_after old now after c.in-Ok.bytes.now n e c.loop-place.invariant.kept more));
     }

@@ -11,7 +11,8 @@ returns-in-Some-default c = record {
   piece = (
     omega (arith, c.in-Some.ensures.after),
     c.in-Some.ensures.within,
-    pieces-value c.args.self.now c.args.text.now c.args.place (form_of c.in-Some.form) c.requires c.if-text-place-eq36.true c.in-Some.ensures.form c.in-Some.ensures.after c.in-Some-default.value.now c.in-Some-default.ensures,
+    pieces-value c.args.self.now c.args.text.now c.args.place (form_of c.in-Some.form) c.requires c.if-text-place-eq36.true
+        c.in-Some.ensures.form c.in-Some.ensures.after c.in-Some-default.value.now c.in-Some-default.ensures,
   );
 }
 
@@ -20,7 +21,8 @@ returns-in-None-Default c = record {
   piece = (
     omega (arith, c.in-Some.ensures.after),
     c.in-Some.ensures.within,
-    pieces-otherwise c.args.self.now c.args.text.now c.args.place (form_of c.in-Some.form) c.requires c.if-text-place-eq36.true c.in-Some.ensures.form c.in-Some.ensures.after c.in-None-Default.ensures _ (ap otherwise_of_kept c.in-None-Default.is-1),
+    pieces-otherwise c.args.self.now c.args.text.now c.args.place (form_of c.in-Some.form) c.requires c.if-text-place-eq36.true
+        c.in-Some.ensures.form c.in-Some.ensures.after c.in-None-Default.ensures _ (ap otherwise_of_kept c.in-None-Default.is-1),
   );
 }
 
@@ -28,7 +30,8 @@ pub returns-in-None-Refused : goal.returns-in-None-Refused
 returns-in-None-Refused c = record {
   piece = (
     _,
-    pieces-otherwise c.args.self.now c.args.text.now c.args.place (form_of c.in-Some.form) c.requires c.if-text-place-eq36.true c.in-Some.ensures.form c.in-Some.ensures.after c.in-None-Refused.ensures _ (ap otherwise_of_kept c.in-None-Refused.is-1),
+    pieces-otherwise c.args.self.now c.args.text.now c.args.place (form_of c.in-Some.form) c.requires c.if-text-place-eq36.true
+        c.in-Some.ensures.form c.in-Some.ensures.after c.in-None-Refused.ensures _ (ap otherwise_of_kept c.in-None-Refused.is-1),
   );
 }
 

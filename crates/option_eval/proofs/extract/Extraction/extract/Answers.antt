@@ -17,4 +17,9 @@ returns-clause-right g c = λ means later reads.
 
 pub returns-clause-bounded : goal.returns-clause-bounded
 returns-clause-bounded g c =
-    omega (arith, c.extract_each.ensures.bounded, length-asked c.args.self.now.fetch.relative c.args.places.now c.asked_of.result.now c.asked_of.ensures, rising_length c.args.places.now 0 (length c.args.payload.now + 1) c.requires.rising)
+    omega (
+      arith,
+      c.extract_each.ensures.bounded,
+      length-asked c.args.self.now.fetch.relative c.args.places.now c.asked_of.result.now c.asked_of.ensures,
+      rising_length c.args.places.now 0 (length c.args.payload.now + 1) c.requires.rising,
+    )

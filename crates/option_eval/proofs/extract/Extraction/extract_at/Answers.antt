@@ -19,7 +19,8 @@ returns-in-Some-clause-right c = λ means later reads.
     let number = rw (c.from.ensures, c.from-in-Some.ensures) at c.rounded_up-number.ensures.value in
     let full = c.with_value.ensures ∙ ap (slice_set c.args.values.now it.name) number in
     IfOk-weaker c.add.result _ _
-    (λ done added. leaves_some means c.args.payload.now it.fetch it.name it.times it.align later c.args.values.now c.args.place _ c.kept_values-after.result c.in-Some.ensures.value (omega (arith, c.fits-values))
+    (λ done added. leaves_some means c.args.payload.now it.fetch it.name it.times it.align later c.args.values.now c.args.place _
+    c.kept_values-after.result c.in-Some.ensures.value (omega (arith, c.fits-values))
     (c.kept_values-after.ensures later reads ∙ ap (kept_values later) full) c.args.states.now c.add.new.self added)
     c.add.ensures
 

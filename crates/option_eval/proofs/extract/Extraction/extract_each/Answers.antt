@@ -16,11 +16,15 @@ loop-rest-preserved g c =
     let rest = c.loop-rest.rest.now in
     let some = c.in-len1-up.len_at_least in
     record {
-      asked = λ means later reads. asked_next means c.args.payload.now (extract_option c.args.self.now ∷ later) c.args.values.now c.args.places.now rest c.args.states.now c.loop-rest.states c.extract_at.new.states some
+      asked = λ means later reads.
+          asked_next means c.args.payload.now (extract_option c.args.self.now ∷ later) c.args.values.now c.args.places.now rest
+          c.args.states.now c.loop-rest.states c.extract_at.new.states some
           (old.asked means later reads) (c.in_ok-extract_at.ensures.right means later reads);
       within = λ h. c.in_ok-extract_at.ensures.inside (old.within h);
     }
 
 pub returns-clause-right : goal.returns-clause-right
 returns-clause-right g c = λ means later reads.
-    asked_all means c.args.payload.now (extract_option c.args.self.now ∷ later) c.args.values.now c.args.places.now c.loop-rest.rest.now c.args.states.now c.loop-rest.states c.in_default.len_below (c.loop-rest.invariant.asked means later reads)
+    asked_all means c.args.payload.now (extract_option c.args.self.now ∷ later) c.args.values.now c.args.places.now
+    c.loop-rest.rest.now c.args.states.now c.loop-rest.states c.in_default.len_below
+    (c.loop-rest.invariant.asked means later reads)

@@ -17,4 +17,8 @@ pub returns-clause-some : goal.returns-clause-some
 returns-clause-some c =
     let q = c.self.inside in
     rw (← c.self.view_is)
-    (byte-is_some q.preference q.arrivals.segments q.floor c.args.place c.byte_of.result (c.byte_of.ensures ∙ byte_in-chosen q.preference q.arrivals.segments q.floor q.pieces.list c.self.invariant.holds c.args.place c.if-place-self.false) c.if-place-self.false)
+    (byte-is_some q.preference q.arrivals.segments q.floor c.args.place c.byte_of.result
+    (c.byte_of.ensures ∙
+    byte_in-chosen q.preference q.arrivals.segments q.floor q.pieces.list c.self.invariant.holds c.args.place
+    c.if-place-self.false)
+    c.if-place-self.false)

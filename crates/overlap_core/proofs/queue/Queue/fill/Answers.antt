@@ -9,10 +9,16 @@ pub returns-clause-whole : goal.returns-clause-whole
 returns-clause-whole c =
     let q = c.self.inside in
     rw (← c.self.view_is)
-    (whole-along (byte_in q.pieces.list) (chosen_byte q.preference q.arrivals.segments) q.floor (length c.args.out.now) c.filled.result (byte_in-chosen q.preference q.arrivals.segments q.floor q.pieces.list c.self.invariant.holds) (c.filled.ensures.whole q.top c.self.invariant.row))
+    (whole-along (byte_in q.pieces.list) (chosen_byte q.preference q.arrivals.segments)
+    q.floor (length c.args.out.now) c.filled.result
+    (byte_in-chosen q.preference q.arrivals.segments q.floor q.pieces.list c.self.invariant.holds)
+    (c.filled.ensures.whole q.top c.self.invariant.row))
 
 pub returns-clause-bytes : goal.returns-clause-bytes
 returns-clause-bytes c =
     let q = c.self.inside in
     rw (← c.self.view_is)
-    (bytes-along (byte_in q.pieces.list) (chosen_byte q.preference q.arrivals.segments) q.floor c.filled.new.out c.filled.result (byte_in-chosen q.preference q.arrivals.segments q.floor q.pieces.list c.self.invariant.holds) (c.filled.ensures.bytes q.top c.self.invariant.row))
+    (bytes-along (byte_in q.pieces.list) (chosen_byte q.preference q.arrivals.segments)
+    q.floor c.filled.new.out c.filled.result
+    (byte_in-chosen q.preference q.arrivals.segments q.floor q.pieces.list c.self.invariant.holds)
+    (c.filled.ensures.bytes q.top c.self.invariant.row))

@@ -26,11 +26,20 @@ invariant_of-self c =
     let value = c.take.ensures.value in
     let is = c.in-Some.is in
     let room_is : q.room ≡ Some c.in-Some.room = cc in
-    let bounds = asked q c.args.self.now c.in-Some.room new c.self.view_is room_is (c.requires ∙ ap (λ (s : Segment). Some (bounds_of s)) (sym c.new-new.ensures)) in
-    let top : c.max-self-inside.result ≡ max q.top (end_of new) = c.max-self-inside.ensures ∙ ap (λ (b : Bounds). max q.top b.end) bounds in
+    let bounds =
+    asked q c.args.self.now c.in-Some.room new c.self.view_is room_is
+    (c.requires ∙ ap (λ (s : Segment). Some (bounds_of s)) (sym c.new-new.ensures)) in
+    let top : c.max-self-inside.result ≡ max q.top (end_of new) =
+    c.max-self-inside.ensures ∙ ap (λ (b : Bounds). max q.top b.end) bounds in
     record {
       row = subst (IsRow q.floor c.lay_over.new.pieces.list) (sym top) (c.lay_over.ensures.row q.top c.self.invariant.row);
-      holds = subst (λ segments. HoldChosen q.preference segments q.floor c.lay_over.new.pieces.list) (sym c.with-self-inside.ensures) (c.lay_over.ensures.holds q.top q.arrivals.segments c.self.invariant.row c.self.invariant.holds);
-      top = top ∙ ap (λ n. max n (end_of new)) c.self.invariant.top ∙ sym (ap (covered_end q.floor) c.with-self-inside.ensures ∙ covered_end-snoc q.floor q.arrivals.segments new);
+      holds =
+          subst (λ segments. HoldChosen q.preference segments q.floor c.lay_over.new.pieces.list)
+          (sym c.with-self-inside.ensures)
+          (c.lay_over.ensures.holds q.top q.arrivals.segments c.self.invariant.row c.self.invariant.holds);
+      top =
+          top
+          ∙ ap (λ n. max n (end_of new)) c.self.invariant.top
+          ∙ sym (ap (covered_end q.floor) c.with-self-inside.ensures ∙ covered_end-snoc q.floor q.arrivals.segments new);
       room = rw c.take.ensures.after (search rules);
     }

@@ -12,7 +12,11 @@ invariant_of-result c =
     let list = ap (λ p. p.list) c.new.ensures in
     record {
       row = rw list (omega arith);
-      holds = λ place from. ap (λ ps. kept_in ps place) list ∙ ap (option_map (kept_at place)) (sym (ap (λ segments. chosen_segment c.args.preference segments place) c.new-2.ensures ∙ chosen_segment-none c.args.preference place));
+      holds = λ place from.
+          ap (λ ps. kept_in ps place) list
+          ∙ ap (option_map (kept_at place))
+          (sym (ap (λ segments. chosen_segment c.args.preference segments place) c.new-2.ensures ∙
+          chosen_segment-none c.args.preference place));
       top = sym (ap (covered_end c.args.floor) c.new-2.ensures ∙ covered_end-none c.args.floor);
       room = search rules;
     }

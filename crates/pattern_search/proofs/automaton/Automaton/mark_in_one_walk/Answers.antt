@@ -14,7 +14,9 @@ loop-byte-preserved c =
     let bytes = c.args.bytes.now in
     let l = c.loop-byte in
     let letter = slice_index automaton.letters (slice_index bytes l.byte-index) in
-    walks-more automaton bytes l.byte-index l.at letter c.step-entry.result c.args.seen.now l.seen c.note.new.seen c.args.hits.now.items l.hits.items c.note.new.hits.items l.invariant c.loop-byte-test.true refl c.step-entry.ensures c.in_ok-note.ensures
+    walks-more automaton bytes l.byte-index l.at letter c.step-entry.result c.args.seen.now l.seen c.note.new.seen
+    c.args.hits.now.items l.hits.items c.note.new.hits.items l.invariant c.loop-byte-test.true refl c.step-entry.ensures
+    c.in_ok-note.ensures
 
 pub returns : goal.returns
 returns c =

@@ -18,7 +18,18 @@ returns c =
     let fails = c.in_ok-links.links.fails.items in
     let heads = c.in_ok-links.links.heads.items in
     let nexts = c.in_ok-nexts.nexts.items in
-    let automaton : Automaton = record { letters = c.letters_of-letters.result.of; trie = trie; dense = laid.dense; table = laid.table; entries = laid.entries; fails = c.in_ok-links.links.fails; heads = c.in_ok-links.links.heads; nexts = c.in_ok-nexts.nexts; shallow = c.shallow_bound-shallow.result; sieve = c.in_ok-sieve.sieve } in
+    let automaton : Automaton = record {
+      letters = c.letters_of-letters.result.of;
+      trie = trie;
+      dense = laid.dense;
+      table = laid.table;
+      entries = laid.entries;
+      fails = c.in_ok-links.links.fails;
+      heads = c.in_ok-links.links.heads;
+      nexts = c.in_ok-nexts.nexts;
+      shallow = c.shallow_bound-shallow.result;
+      sieve = c.in_ok-sieve.sieve;
+    } in
     let states : c.len.result + 1 ≡ length trie.steps.items + 1 = omega (arith, c.len.ensures, trie.steps.ok.0) in
     let A : List ℕ → Type 0 = λ es. AreOwned es (length trie.steps.items + 1) firsts sames (length es) in
     let B : ℕ → Type 0 = λ n. AreOwned c.deref.result.now n firsts sames (length c.deref.result.now) in
@@ -31,4 +42,6 @@ returns c =
     let F : List ℕ → Type 0 = λ fs. IsLayout trie fs c.deref-6.result.now laid in
     let G : List ℕ → Type 0 = λ hs. IsLayout trie fails hs laid in
     let layout = subst G c.deref-6.ensures.value (subst F c.deref-5.ensures.value c.in_ok-rows.ensures) in
-    finds-made automaton c.args.patterns.now grown firsts sames c.letters_of-letters.ensures.told (λ byte. omega (arith, c.letters_of-letters.ensures.below byte, c.in_ok-grown.ensures.width)) c.in_ok-grown.ensures.grown owned links chained layout c.shallow_bound-shallow.ensures c.in_ok-sieve.ensures
+    finds-made automaton c.args.patterns.now grown firsts sames c.letters_of-letters.ensures.told
+    (λ byte. omega (arith, c.letters_of-letters.ensures.below byte, c.in_ok-grown.ensures.width))
+    c.in_ok-grown.ensures.grown owned links chained layout c.shallow_bound-shallow.ensures c.in_ok-sieve.ensures

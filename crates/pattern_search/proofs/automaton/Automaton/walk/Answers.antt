@@ -18,19 +18,35 @@ loop-done-init c =
 pub loop-done-preserved : goal.loop-done-preserved
 loop-done-preserved c =
     let a = c.args in
-    let l = c.loop-done in
-    (omega (arith, l.invariant.0), omega (arith, c.loop-done-test.true), walks-on a.self.now a.bytes.now a.from l.done l.at (slice_index a.self.now.letters (slice_index a.bytes.now l.done)) c.step-entry.result a.seen.now l.seen c.note.new.seen a.hits.now.items l.hits.items c.note.new.hits.items l.invariant.0 (omega (arith, c.loop-done-test.true)) l.invariant.2 refl c.step-entry.ensures c.in_ok-note.ensures)
+    let l = c.loop-done in (
+      omega (arith, l.invariant.0),
+      omega (arith, c.loop-done-test.true),
+      walks-on a.self.now a.bytes.now a.from l.done l.at (slice_index a.self.now.letters (slice_index a.bytes.now l.done))
+          c.step-entry.result a.seen.now l.seen c.note.new.seen a.hits.now.items l.hits.items c.note.new.hits.items l.invariant.0
+          (omega (arith, c.loop-done-test.true)) l.invariant.2 refl c.step-entry.ensures c.in_ok-note.ensures,
+    )
 
 pub returns-then-from-self-clause-covers : goal.returns-then-from-self-clause-covers
 returns-then-from-self-clause-covers c =
     let a = c.args in
     let l = c.loop-done in
-    let far : a.from + 4 ≤ l.done + 1 = omega (arith, c.if-reach-done.true, c.max-reach.ensures, c.saturating_add.ensures, c.loop-done-test.true) in
-    let walks = walks-on a.self.now a.bytes.now a.from l.done l.at (slice_index a.self.now.letters (slice_index a.bytes.now l.done)) c.step-entry.result a.seen.now l.seen c.note.new.seen a.hits.now.items l.hits.items c.note.new.hits.items l.invariant.0 (omega (arith, c.loop-done-test.true)) l.invariant.2 refl c.step-entry.ensures c.in_ok-note.ensures in
-    covers-walked a.self.now a.bytes.now a.from (l.done + 1 - a.from) (l.done + 1 - 3) (c.step-entry.result / 2) a.seen.now c.note.new.seen a.hits.now.items c.note.new.hits.items (omega (arith, c.loop-done-test.true, l.invariant.0)) (omega (arith, l.invariant.0)) (inr (omega (arith, c.if-from-self.true, c.from.ensures), omega (arith, far))) walks
+    let far : a.from + 4 ≤ l.done + 1 =
+    omega (arith, c.if-reach-done.true, c.max-reach.ensures, c.saturating_add.ensures, c.loop-done-test.true) in
+    let walks =
+    walks-on a.self.now a.bytes.now a.from l.done l.at (slice_index a.self.now.letters (slice_index a.bytes.now l.done))
+    c.step-entry.result a.seen.now l.seen c.note.new.seen a.hits.now.items l.hits.items c.note.new.hits.items l.invariant.0
+    (omega (arith, c.loop-done-test.true)) l.invariant.2 refl c.step-entry.ensures c.in_ok-note.ensures in
+    covers-walked a.self.now a.bytes.now a.from (l.done + 1 - a.from) (l.done + 1 - 3) (c.step-entry.result / 2) a.seen.now
+    c.note.new.seen a.hits.now.items c.note.new.hits.items (omega (arith, c.loop-done-test.true, l.invariant.0))
+    (omega (arith, l.invariant.0))
+    (inr (omega (arith, c.if-from-self.true, c.from.ensures), omega (arith, far))) walks
 
 pub returns-clause-covers : goal.returns-clause-covers
 returns-clause-covers c =
     let a = c.args in
     let l = c.loop-done in
-    covers-walked a.self.now a.bytes.now a.from (l.done - a.from) l.done l.at a.seen.now l.seen a.hits.now.items l.hits.items (omega (arith, l.invariant.0, l.invariant.1)) (omega (arith, l.invariant.0)) (inl (omega (arith, l.invariant.0, l.invariant.1, c.loop-done-test.false))) l.invariant.2
+    covers-walked a.self.now a.bytes.now a.from (l.done - a.from) l.done l.at a.seen.now l.seen a.hits.now.items l.hits.items
+    (omega (arith, l.invariant.0, l.invariant.1))
+    (omega (arith, l.invariant.0))
+    (inl (omega (arith, l.invariant.0, l.invariant.1, c.loop-done-test.false)))
+    l.invariant.2

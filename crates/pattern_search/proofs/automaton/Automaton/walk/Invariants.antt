@@ -6,7 +6,11 @@ use Rattle.pattern_search.specs.Finding.{Walks}
 use Rattle.pattern_search.proofs.automaton.Automaton.walk.Given as goal
 
 abbrev pub invariant-loop-done : goal.invariant-loop-done
-invariant-loop-done l = (l.from ≤ l.done) × (l.done ≤ length l.bytes) × Walks l.self (word_of l.self.letters (take (l.done - l.from) (drop l.from l.bytes))) l.at l.fn.seen l.fn.hits.items l.seen l.hits.items
+invariant-loop-done l =
+    (l.from ≤ l.done)
+    × (l.done ≤ length l.bytes)
+    × Walks l.self (word_of l.self.letters (take (l.done - l.from) (drop l.from l.bytes)))
+    l.at l.fn.seen l.fn.hits.items l.seen l.hits.items
 
 abbrev pub decreases-loop-done : goal.decreases-loop-done
 decreases-loop-done l = length l.bytes - l.done

@@ -24,5 +24,11 @@ loop-place-preserved c =
     record {
       trie = goes.trie;
       width = goes.width ∙ c.loop-place.invariant.width;
-      ends = subst P (sym c.write.ensures) (between-more letters patterns c.loop-place.trie c.next_end.new.trie c.loop-place.ends c.args.depth place c.in_ok-next.next c.bytes.result.now c.loop-place.invariant.ends c.loop-place-test.true (c.bytes.ensures ∙ get_or_read patterns place c.index-patterns-place.result c.loop-place-test.true c.index-patterns-place.is []) goes);
+      ends =
+          subst P (sym c.write.ensures)
+          (between-more letters patterns c.loop-place.trie c.next_end.new.trie c.loop-place.ends c.args.depth place
+          c.in_ok-next.next c.bytes.result.now c.loop-place.invariant.ends c.loop-place-test.true
+          (c.bytes.ensures ∙
+          get_or_read patterns place c.index-patterns-place.result c.loop-place-test.true c.index-patterns-place.is [])
+          goes);
     }

@@ -10,4 +10,6 @@ child-requires-clause-trie c =
 
 pub returns : goal.returns
 returns c =
-    advance-some c.args.trie.now c.child.new.self c.args.letters.now c.args.pattern.now c.args.depth c.args.end (slice_index c.args.letters.now (get_or c.args.pattern.now c.args.depth 0)) c.in_ok-next.next c.requires.end c.if-pattern-depth.false refl c.in_ok-next.ensures
+    advance-some c.args.trie.now c.child.new.self c.args.letters.now c.args.pattern.now c.args.depth c.args.end
+    (slice_index c.args.letters.now (get_or c.args.pattern.now c.args.depth 0))
+    c.in_ok-next.next c.requires.end c.if-pattern-depth.false refl c.in_ok-next.ensures

@@ -24,4 +24,6 @@ deepen-requires-clause-trie c = deeper (words_of c.loop-depth.trie.steps.items) 
 
 pub returns-clause-grown : goal.returns-clause-grown
 returns-clause-grown c =
-    grown-all c.args.letters.now.of c.args.patterns.now (record { trie = c.loop-depth.trie; ends = c.loop-depth.ends }) c.loop-depth.depth c.longest-depth-end.result c.loop-depth.invariant.trie c.loop-depth-test.false c.longest-depth-end.ensures c.loop-depth.invariant.ends
+    grown-all c.args.letters.now.of c.args.patterns.now (record { trie = c.loop-depth.trie; ends = c.loop-depth.ends })
+    c.loop-depth.depth c.longest-depth-end.result c.loop-depth.invariant.trie c.loop-depth-test.false c.longest-depth-end.ensures
+    c.loop-depth.invariant.ends

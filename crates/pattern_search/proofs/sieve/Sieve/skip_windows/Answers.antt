@@ -8,5 +8,10 @@ loop-to-init c = (omega arith, omega (arith, c.requires.within), skips-none c.ar
 
 pub loop-to-preserved : goal.loop-to-preserved
 loop-to-preserved c =
-    let l = c.loop-to in
-    (omega (arith, l.invariant.0), omega (arith, c.loop-to-test.true), skips-more c.args.self.now c.args.bytes.now c.args.from l.to c.requires.some (omega (arith, c.window_bit.ensures.is, c.if-window_bit-ne0.false)) l.invariant.2)
+    let l = c.loop-to in (
+      omega (arith, l.invariant.0),
+      omega (arith, c.loop-to-test.true),
+      skips-more c.args.self.now c.args.bytes.now c.args.from l.to c.requires.some
+          (omega (arith, c.window_bit.ensures.is, c.if-window_bit-ne0.false))
+          l.invariant.2,
+    )

@@ -10,4 +10,5 @@ returns-then-child-ne0 c = has-child c.args.self.now c.args.state c.args.letter 
 pub returns : goal.returns
 returns c =
     let said = c.in_ok-child.ensures in
-    adds-child c.args.self.now c.grow.new.self c.args.state c.args.letter c.found-child.result c.in_ok-child.child c.requires.trie c.requires.state c.requires.letter c.found-child.ensures (omega arith) said.state said.steps said.firsts said.width said.few
+    adds-child c.args.self.now c.grow.new.self c.args.state c.args.letter c.found-child.result c.in_ok-child.child c.requires.trie
+    c.requires.state c.requires.letter c.found-child.ensures (omega arith) said.state said.steps said.firsts said.width said.few

@@ -17,8 +17,11 @@ pub loop-at-preserved : goal.loop-at-preserved
 loop-at-preserved c =
     let trie = c.args.self.now in
     let at = c.loop-at.at in
-    let known : c.step_at-step.result ≡ step_at trie.steps.items (at - 1) = c.step_at-step.ensures ∙ ap (λ (ss : List Step). step_at ss (at - 1)) c.deref-in-loop-at.ensures.value in
-    seek-more trie c.args.state c.args.letter at c.min-at.result (omega arith) c.loop-at.invariant (λ e. c.if-step-letter.false (ap (λ (s : Step). s.by) known ∙ e)) (c.min-at.ensures ∙ ap (λ (s : Step). min s.same (at - 1)) known)
+    let known : c.step_at-step.result ≡ step_at trie.steps.items (at - 1) =
+    c.step_at-step.ensures ∙ ap (λ (ss : List Step). step_at ss (at - 1)) c.deref-in-loop-at.ensures.value in
+    seek-more trie c.args.state c.args.letter at c.min-at.result (omega arith) c.loop-at.invariant
+    (λ e. c.if-step-letter.false (ap (λ (s : Step). s.by) known ∙ e))
+    (c.min-at.ensures ∙ ap (λ (s : Step). min s.same (at - 1)) known)
 
 pub returns : goal.returns
 returns c = seek-end c.args.self.now c.args.state c.args.letter c.loop-at.at c.loop-at.invariant (omega arith)

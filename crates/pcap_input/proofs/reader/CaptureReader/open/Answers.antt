@@ -15,9 +15,13 @@ returns-clause-gives g c =
 pub returns-clause-rest : goal.returns-clause-rest
 returns-clause-rest g c =
     told g.H.Host g.met.H.Host.as_told c.args.host.now c.open_seen.new.host
-    (λ contents old new. (bytes : List ℕ) → Tells contents c.args.name.now bytes → OnOk c.open_seen.result (new ≡ Some (drop file_header bytes))) c.open_seen.ensures.same_contents c.open_seen.ensures.rest
+    (λ contents old new. (bytes : List ℕ) → Tells contents c.args.name.now bytes →
+    OnOk c.open_seen.result (new ≡ Some (drop file_header bytes)))
+    c.open_seen.ensures.same_contents c.open_seen.ensures.rest
 
 pub returns-clause-takes : goal.returns-clause-takes
 returns-clause-takes g c =
     told g.H.Host g.met.H.Host.as_told c.args.host.now c.open_seen.new.host
-    (λ contents old new. TakesHead contents c.args.name.now c.open_seen.result new ⊎ (IsErrOf c.open_seen.result fault.Failed × (new ≡ None))) c.open_seen.ensures.same_contents c.open_seen.ensures.takes
+    (λ contents old new. TakesHead contents c.args.name.now c.open_seen.result new ⊎
+    (IsErrOf c.open_seen.result fault.Failed × (new ≡ None)))
+    c.open_seen.ensures.same_contents c.open_seen.ensures.takes

@@ -16,4 +16,6 @@ returns-clause-gives g c =
 pub returns-clause-takes : goal.returns-clause-takes
 returns-clause-takes g c =
     told g.H.Host g.met.H.Host.as_told c.args.host.now c.open_seen.new.host
-    (λ contents old new. TakesHead contents c.args.name.now c.open_seen.result new ⊎ (IsErrOf c.open_seen.result fault.Failed × (new ≡ None))) c.open_seen.ensures.same_contents c.open_seen.ensures.takes
+    (λ contents old new. TakesHead contents c.args.name.now c.open_seen.result new ⊎
+    (IsErrOf c.open_seen.result fault.Failed × (new ≡ None)))
+    c.open_seen.ensures.same_contents c.open_seen.ensures.takes

@@ -6,4 +6,8 @@ pub next-requires : goal.next-requires
 next-requires g c = front_next c.self.inside.ring c.self.inside.head.ptr c.self.inside.tail.ptr c.self.inside.here.ptr c.self.inside.len c.self.inside.at c.self.invariant
 
 pub new-requires : goal.new-requires
-new-requires g c = (c.self.invariant.counts, (front_placed c.self.inside.ring c.self.inside.head.ptr c.self.inside.tail.ptr c.self.inside.here.ptr c.self.inside.len c.self.inside.at c.self.invariant c.next.result.ptr c.next.ensures).at_node)
+new-requires g c = (
+  c.self.invariant.counts,
+  (front_placed c.self.inside.ring c.self.inside.head.ptr c.self.inside.tail.ptr c.self.inside.here.ptr c.self.inside.len
+      c.self.inside.at c.self.invariant c.next.result.ptr c.next.ensures).at_node,
+)

@@ -83,23 +83,37 @@ module _ (E : El) {M : Type 1} {𝓤 : Ura M} (𝓛 : Logic 𝓤) (C : Calls �
   walk : ent 𝓤 (⋆ 𝓛 Had) (WpFn 𝓤 H C Λ (function E) (word node.ptr ∷ []) Post)
   walk =
       let room : (Rm E).Denot = record { ptr = node.ptr } in
-      qed 𝓛 Had ∵ enter ! C Λ (function E) (word node.ptr ∷ []) _ $ alloc_all ! (λ l. pass_all ! refl (word-Good [] node.ptr, tt) $
+      qed 𝓛 Had ∵
+      enter ! C Λ (function E) (word node.ptr ∷ []) _ $ alloc_all ! (λ l. pass_all ! refl (word-Good [] node.ptr, tt) $
       let En : Env 𝓤 H = env (function E).locals l in
-      fsplit ! $ move ! (1 ∷ []) $ in_a_block ! node.ptr (λ p. filled_owns (RV E) p node.value) (fst∗ 𝓤 (never 𝓤) (sem 𝓛 (heap_deed (RV E) null_ptr))) (λ pb po ep.
-      fsplit ! $ use1 𝓛 (some (λ (v : Val). given (Good (layout E.val) v) (‵ (fat full_share (layout E.val) pb (po + vo E) v) ⊛ ‵ (E.val.own_val node.value (v ∷ []))))) (value_out 0 E.val E.val_laws 𝓛 node.value pb (po + vo E)) $ pick ! (λ v. learn ! (λ gv. split ! $
+      fsplit ! $ move ! (1 ∷ []) $
+      in_a_block ! node.ptr (λ p. filled_owns (RV E) p node.value) (fst∗ 𝓤 (never 𝓤) (sem 𝓛 (heap_deed (RV E) null_ptr)))
+      (λ pb po ep.
+      fsplit ! $
+      use1 𝓛
+      (some (λ (v : Val). given (Good (layout E.val) v)
+      (‵ (fat full_share (layout E.val) pb (po + vo E) v) ⊛ ‵ (E.val.own_val node.value (v ∷ [])))))
+      (value_out 0 E.val E.val_laws 𝓛 node.value pb (po + vo E)) $
+      pick ! (λ v. learn ! (λ gv. split ! $
       let at : Ptr = block_ptr pb po in
       let typed = as_fields (layout E.val ∷ layout (Rm E) ∷ []) (v ∷ word at ∷ []) (gv, (word-Good [] at, tt)) in
       -- [the value's cell; what it owns; the deed; room for the links]
-      sets ! (is ! (of_opd ! (get_in ! (fld ! refl (stop !)) (sub ! 0 refl (whole !)))) (ap ptr_val ep)) refl (tt, tt) $ first ! $ blocks ! $
-      sets ! (addr ! (through ! refl (fld ! refl (stop !)))) refl (tt, tt) $ sets ! (of_opd ! (load ! (through ! refl (stop !)) (look ! 0 refl))) refl gv $
+      sets ! (is ! (of_opd ! (get_in ! (fld ! refl (stop !)) (sub ! 0 refl (whole !)))) (ap ptr_val ep)) refl (tt, tt) $ first ! $
+      blocks ! $
+      sets ! (addr ! (through ! refl (fld ! refl (stop !)))) refl (tt, tt) $
+      sets ! (of_opd ! (load ! (through ! refl (stop !)) (look ! 0 refl))) refl gv $
       sets ! (of_opd ! (get ! refl)) refl gv $ sets ! (agg ! (and_then ! (get ! refl) (no_more !))) refl (word-Good [] at) $
       sets_last ! (agg ! (and_then ! (get ! refl) (and_then ! (get ! refl) (no_more !)))) refl typed $
       exec ! C Λ En (after 2 (function E).body) (at_ret En Post) $ sets ! (of_opd ! (get ! refl)) refl typed $
-      use1 𝓛 (‵ (froom (layout E.val) pb (po + vo E))) (𝓛.laws.at_room (layout E.val) pb (po + vo E) v) $ as_raw ! (layout E.val) pb (po + vo E) $
-      move ! (0 ∷ 2 ∷ []) $ fjoin ! $ rewrite ! 0 (λ (p : Ptr). ‵ (vacant_owns (RV E) p)) (sym ep) refl $ move ! (2 ∷ 0 ∷ []) $ fjoin ! $ word_made ! node.ptr $ fjoin ! $
+      use1 𝓛 (‵ (froom (layout E.val) pb (po + vo E))) (𝓛.laws.at_room (layout E.val) pb (po + vo E) v) $
+      as_raw ! (layout E.val) pb (po + vo E) $
+      move ! (0 ∷ 2 ∷ []) $ fjoin ! $ rewrite ! 0 (λ (p : Ptr). ‵ (vacant_owns (RV E) p)) (sym ep) refl $ move ! (2 ∷ 0 ∷ []) $
+      fjoin ! $ word_made ! node.ptr $ fjoin ! $
       rewrite ! 0 (λ (p : Ptr). ‵ ((Rm E).own_val room (word p ∷ []))) ep refl $ move ! (1 ∷ 0 ∷ []) $
-      use2 𝓛 (‵ ((Out E).own_val (node.value, room) (pair_val v (word at) ∷ []))) (pair_of 𝓛 (RV E) (Rm E) node.value room v (word at)) $
-      returns ! (look_at ! 0 refl) $ free_all ! refl $ keep ! (0 ∷ []) $ by ! (exits (node.value, room) (pair_val v (word at)) refl)))))
+      use2 𝓛 (‵ ((Out E).own_val (node.value, room) (pair_val v (word at) ∷ [])))
+      (pair_of 𝓛 (RV E) (Rm E) node.value room v (word at)) $
+      returns ! (look_at ! 0 refl) $ free_all ! refl $ keep ! (0 ∷ []) $
+      by ! (exits (node.value, room) (pair_val v (word at)) refl)))))
 
   entry : ent 𝓤 (on_entry 𝓛 (ended E).signature tt tt (node, tt) (us0, tt)) (WpFn 𝓤 H C Λ (function E) (us0 ++ []) Post)
   entry =

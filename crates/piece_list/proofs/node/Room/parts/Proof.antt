@@ -62,7 +62,15 @@ module _ (E : El) where
   Out = Tuple (Bl E ∷ Dd ∷ [])
 
   abbrev ended : Ended
-  ended = record { signature = record { lifetimes = 1; outlives = []; params = plain (λ _. Rm E) ∷ RefOf (0 ∷ []) tt (plain (λ _. G.the_row)) (λ _. tt) ∷ []; result = plain (λ _. Out) }; kept = (no, (yes, tt)) }
+  ended = record {
+    signature = record {
+      lifetimes = 1;
+      outlives = [];
+      params = plain (λ _. Rm E) ∷ RefOf (0 ∷ []) tt (plain (λ _. G.the_row)) (λ _. tt) ∷ [];
+      result = plain (λ _. Out);
+    };
+    kept = (no, (yes, tt));
+  }
 
   abbrev stayed : Stays ended.signature.params ended.kept
   stayed = (stay_dropped (plain (λ _. Rm E)) no, (stay_dropped (RefOf (0 ∷ []) tt (plain (λ _. G.the_row)) (λ _. tt)) yes, tt))
@@ -119,8 +127,12 @@ module _ (E : El) {M : Type 1} {𝓤 : Ura M} (𝓛 : Logic 𝓤) (C : Calls �
 meets : (E : El) {M : Type 1} {𝓤 : Ura M} (𝓛 : Logic 𝓤) (𝓣 : Tables 𝓤 𝓛.H)
     → Meets 𝓛 (ended E).signature (WpFn 𝓤 𝓛.H 𝓣.C 𝓣.Λ (function E)) (closing 𝓛 (ended E) (spec E 𝓛))
 meets E {𝓤 = 𝓤} 𝓛 𝓣 =
-    walk_Meets 𝓛 (ended E) (stayed E) (Goes-blank 𝓛 1 (plain (λ _. Rm E)) no (λ κs x f. tt), (Goes-dropped 𝓛 1 (RefOf (0 ∷ []) tt (plain (λ _. G.the_row)) (λ _. tt)) yes (λ κs x f. refl), tt)) (spec E 𝓛) (WpFn 𝓤 𝓛.H 𝓣.C 𝓣.Λ (function E)) (WpFn-mono 𝓤 𝓛.H 𝓛.laws 𝓣 (function E))
-    (λ z. via 𝓤 _ (fst∗ 𝓤 _ (emp 𝓤)) (entry E 𝓛 𝓣.C 𝓣.Λ z.0.0.0 z.0.1.0 z.0.3.1.0.ref_ptr.0 z.0.3.1.0.ref_ptr.1 z.0.3.1.0.now z.0.3.0 z.0.4.0 z.0.4.1.0))
+    walk_Meets 𝓛 (ended E) (stayed E) (
+      Goes-blank 𝓛 1 (plain (λ _. Rm E)) no (λ κs x f. tt),
+      (Goes-dropped 𝓛 1 (RefOf (0 ∷ []) tt (plain (λ _. G.the_row)) (λ _. tt)) yes (λ κs x f. refl), tt),
+    ) (spec E 𝓛) (WpFn 𝓤 𝓛.H 𝓣.C 𝓣.Λ (function E)) (WpFn-mono 𝓤 𝓛.H 𝓛.laws 𝓣 (function E))
+    (λ z. via 𝓤 _ (fst∗ 𝓤 _ (emp 𝓤))
+    (entry E 𝓛 𝓣.C 𝓣.Λ z.0.0.0 z.0.1.0 z.0.3.1.0.ref_ptr.0 z.0.3.1.0.ref_ptr.1 z.0.3.1.0.now z.0.3.0 z.0.4.0 z.0.4.1.0))
 
 pub parts_spec : {M : Type 1} → stated.statement M
 unfolding tables_of

@@ -45,7 +45,15 @@ module _ (E : El) where
   function = inst_fn (args E) code.function
 
   abbrev ended : Ended
-  ended = record { signature = record { lifetimes = 0; outlives = []; params = plain (λ _. Rg E) ∷ plain (λ _. Np E) ∷ plain (λ _. Np E) ∷ []; result = plain (λ _. Tuple (Rm E ∷ Rm E ∷ [])) }; kept = (no, (no, (no, tt))) }
+  ended = record {
+    signature = record {
+      lifetimes = 0;
+      outlives = [];
+      params = plain (λ _. Rg E) ∷ plain (λ _. Np E) ∷ plain (λ _. Np E) ∷ [];
+      result = plain (λ _. Tuple (Rm E ∷ Rm E ∷ []));
+    };
+    kept = (no, (no, (no, tt)));
+  }
 
   abbrev stayed : Stays ended.signature.params ended.kept
   stayed = (stay_dropped (plain (λ _. Rg E)) no, (stay_dropped (plain (λ _. Np E)) no, (stay_dropped (plain (λ _. Np E)) no, tt)))
@@ -80,20 +88,34 @@ module _ (E : El) {M : Type 1} {𝓤 : Ura M} (𝓛 : Logic 𝓤) (C : Calls �
   walk : Asks E list head tail → ent 𝓤 (⋆ 𝓛 Had) (WpFn 𝓤 H C Λ (function E) (mark ∷ word head.ptr ∷ word tail.ptr ∷ []) Post)
   walk asked =
       let one : (Rm E).Denot = record { ptr = head.ptr } in let two : (Rm E).Denot = record { ptr = tail.ptr } in
-      qed 𝓛 Had ∵ enter ! C Λ (function E) (mark ∷ word head.ptr ∷ word tail.ptr ∷ []) _ $ alloc_all ! (λ l. pass_all ! refl ((tt, (tt, tt)), (word-Good [] head.ptr, (word-Good [] tail.ptr, tt))) $
+      qed 𝓛 Had ∵
+      enter ! C Λ (function E) (mark ∷ word head.ptr ∷ word tail.ptr ∷ []) _ $
+      alloc_all ! (λ l. pass_all ! refl ((tt, (tt, tt)), (word-Good [] head.ptr, (word-Good [] tail.ptr, tt))) $
       let En : Env 𝓤 H = env (function E).locals l in
-      rewrite ! 0 (λ (p : Ptr × List (Node E) × Ptr). ‵ (ring_owns (RV E) p.0 p.1 p.2)) (λ i. (sym asked.0 i, asked.2 i, sym asked.1 i)) refl $ fsplit3 ! $ fsplit ! $
-      in_a_block ! head.ptr (λ p. edge p tail.ptr) (no_source 𝓛 tail.ptr) (λ hb ho eh. in_a_block ! tail.ptr (edge (block_ptr hb ho)) (no_target 𝓛 (block_ptr hb ho)) (λ tb to et.
-      edge_out ! hb ho tb to $ stale ! (block_ptr tb to) hb (ho + 8) $ rewrite ! 0 (λ (p : Ptr). ‵ (room_for ty_ptr (next_of p))) (sym eh) refl $
-      move ! (1 ∷ []) $ stale ! (block_ptr hb ho) tb (to + 0) $ rewrite ! 0 (λ (p : Ptr). ‵ (room_for ty_ptr (prev_of p))) (sym et) refl $
+      rewrite ! 0 (λ (p : Ptr × List (Node E) × Ptr). ‵ (ring_owns (RV E) p.0 p.1 p.2))
+      (λ i. (sym asked.0 i, asked.2 i, sym asked.1 i)) refl $
+      fsplit3 ! $ fsplit ! $
+      in_a_block ! head.ptr (λ p. edge p tail.ptr) (no_source 𝓛 tail.ptr)
+      (λ hb ho eh. in_a_block ! tail.ptr (edge (block_ptr hb ho)) (no_target 𝓛 (block_ptr hb ho)) (λ tb to et.
+      edge_out ! hb ho tb to $ stale ! (block_ptr tb to) hb (ho + 8) $
+      rewrite ! 0 (λ (p : Ptr). ‵ (room_for ty_ptr (next_of p))) (sym eh) refl $
+      move ! (1 ∷ []) $ stale ! (block_ptr hb ho) tb (to + 0) $
+      rewrite ! 0 (λ (p : Ptr). ‵ (room_for ty_ptr (prev_of p))) (sym et) refl $
       move ! (4 ∷ []) $ fsplit ! $ fsplit ! $ move ! (2 ∷ []) $ fsplit ! $
       -- [room for tail.next; what else the tail owns; head.prev; what else the head owns; tail.prev; head.next]
-      move ! (4 ∷ 0 ∷ []) $ fjoin ! $ fjoin ! $ word_made ! tail.ptr $ fjoin ! $ move ! (1 ∷ 3 ∷ []) $ fjoin ! $ move ! (0 ∷ 2 ∷ []) $ fjoin ! $ word_made ! head.ptr $ fjoin ! $
-      use2 𝓛 (‵ ((Tuple (Rm E ∷ Rm E ∷ [])).own_val (one, two) (pair_val (word head.ptr) (word tail.ptr) ∷ []))) (pair_of 𝓛 (Rm E) (Rm E) one two (word head.ptr) (word tail.ptr)) $
-      sets ! (agg ! (and_then ! (get_in ! (fld ! refl (stop !)) (sub ! 0 refl (whole !))) (no_more !))) refl (word-Good [] head.ptr) $
-      sets ! (agg ! (and_then ! (get_in ! (fld ! refl (stop !)) (sub ! 0 refl (whole !))) (no_more !))) refl (word-Good [] tail.ptr) $
-      sets ! (agg ! (and_then ! (get ! refl) (and_then ! (get ! refl) (no_more !)))) refl (pair_Typed (layout (Rm E)) (layout (Rm E)) (word head.ptr) (word tail.ptr) (word-Good [] head.ptr) (word-Good [] tail.ptr)) $
-      returns ! (look_at ! 0 refl) $ free_all ! refl $ keep ! (0 ∷ []) $ by ! (exits (one, two) (pair_val (word head.ptr) (word tail.ptr)) (asked.0, asked.1)))))
+      move ! (4 ∷ 0 ∷ []) $ fjoin ! $ fjoin ! $ word_made ! tail.ptr $ fjoin ! $ move ! (1 ∷ 3 ∷ []) $ fjoin ! $
+      move ! (0 ∷ 2 ∷ []) $ fjoin ! $ word_made ! head.ptr $ fjoin ! $
+      use2 𝓛 (‵ ((Tuple (Rm E ∷ Rm E ∷ [])).own_val (one, two) (pair_val (word head.ptr) (word tail.ptr) ∷ [])))
+      (pair_of 𝓛 (Rm E) (Rm E) one two (word head.ptr) (word tail.ptr)) $
+      sets ! (agg ! (and_then ! (get_in ! (fld ! refl (stop !)) (sub ! 0 refl (whole !))) (no_more !))) refl
+      (word-Good [] head.ptr) $
+      sets ! (agg ! (and_then ! (get_in ! (fld ! refl (stop !)) (sub ! 0 refl (whole !))) (no_more !))) refl
+      (word-Good [] tail.ptr) $
+      sets ! (agg ! (and_then ! (get ! refl) (and_then ! (get ! refl) (no_more !)))) refl
+      (pair_Typed (layout (Rm E)) (layout (Rm E)) (word head.ptr) (word tail.ptr) (word-Good [] head.ptr)
+      (word-Good [] tail.ptr)) $
+      returns ! (look_at ! 0 refl) $ free_all ! refl $ keep ! (0 ∷ []) $
+      by ! (exits (one, two) (pair_val (word head.ptr) (word tail.ptr)) (asked.0, asked.1)))))
 
   entry : Asks E list head tail → ent 𝓤 (on_entry 𝓛 (ended E).signature tt tt (list, (head, (tail, tt))) (us0, (us1, (us2, tt)))) (WpFn 𝓤 H C Λ (function E) (us0 ++ (us1 ++ (us2 ++ []))) Post)
   entry asked =
@@ -112,8 +134,12 @@ module _ (E : El) {M : Type 1} {𝓤 : Ura M} (𝓛 : Logic 𝓤) (C : Calls �
 meets : (E : El) {M : Type 1} {𝓤 : Ura M} (𝓛 : Logic 𝓤) (𝓣 : Tables 𝓤 𝓛.H)
     → Meets 𝓛 (ended E).signature (WpFn 𝓤 𝓛.H 𝓣.C 𝓣.Λ (function E)) (closing 𝓛 (ended E) (spec E 𝓛))
 meets E {𝓤 = 𝓤} 𝓛 𝓣 =
-    walk_Meets 𝓛 (ended E) (stayed E) (Goes-blank 𝓛 0 (plain (λ _. Rg E)) no (λ κs x f. tt), (Goes-dropped 𝓛 0 (plain (λ _. Np E)) no (λ κs x f. refl), (Goes-dropped 𝓛 0 (plain (λ _. Np E)) no (λ κs x f. refl), tt))) (spec E 𝓛) (WpFn 𝓤 𝓛.H 𝓣.C 𝓣.Λ (function E)) (WpFn-mono 𝓤 𝓛.H 𝓛.laws 𝓣 (function E))
-    (λ z. needs 𝓤 (Asks E z.0.3.0 z.0.3.1.0 z.0.3.1.1.0) _ (entry E 𝓛 𝓣.C 𝓣.Λ z.0.3.0 z.0.3.1.0 z.0.3.1.1.0 z.0.4.0 z.0.4.1.0 z.0.4.1.1.0))
+    walk_Meets 𝓛 (ended E) (stayed E) (
+      Goes-blank 𝓛 0 (plain (λ _. Rg E)) no (λ κs x f. tt),
+      (Goes-dropped 𝓛 0 (plain (λ _. Np E)) no (λ κs x f. refl), (Goes-dropped 𝓛 0 (plain (λ _. Np E)) no (λ κs x f. refl), tt)),
+    ) (spec E 𝓛) (WpFn 𝓤 𝓛.H 𝓣.C 𝓣.Λ (function E)) (WpFn-mono 𝓤 𝓛.H 𝓛.laws 𝓣 (function E))
+    (λ z. needs 𝓤 (Asks E z.0.3.0 z.0.3.1.0 z.0.3.1.1.0) _
+    (entry E 𝓛 𝓣.C 𝓣.Λ z.0.3.0 z.0.3.1.0 z.0.3.1.1.0 z.0.4.0 z.0.4.1.0 z.0.4.1.1.0))
 
 pub into_sentinels_spec : {M : Type 1} → stated.statement M
 unfolding tables_of

@@ -50,7 +50,15 @@ module _ (E : El) where
   function = inst_fn (args E) code.function
 
   abbrev ended : Ended
-  ended = record { signature = record { lifetimes = 1; outlives = []; params = RefMutOf (0 ∷ []) tt (plain (λ _. Rg E)) (λ _. tt) ∷ plain (λ _. Np E) ∷ plain (λ _. Dt E) ∷ []; result = plain (λ _. Np E) }; kept = (yes, (no, (no, tt))) }
+  ended = record {
+    signature = record {
+      lifetimes = 1;
+      outlives = [];
+      params = RefMutOf (0 ∷ []) tt (plain (λ _. Rg E)) (λ _. tt) ∷ plain (λ _. Np E) ∷ plain (λ _. Dt E) ∷ [];
+      result = plain (λ _. Np E);
+    };
+    kept = (yes, (no, (no, tt)));
+  }
 
   abbrev stayed : Stays ended.signature.params ended.kept
   stayed = (stay_ref (0 ∷ []) tt (plain (λ _. Rg E)), (stay_dropped (plain (λ _. Np E)) no, (stay_dropped (plain (λ _. Dt E)) no, tt)))
@@ -68,9 +76,15 @@ module _ (E : El) where
   Gives1 d after node r new = (xs ys : List (Node E)) → Cut d after xs ys → new.nodes ≡ xs ++ linked r.ptr node.value ∷ ys
 
   abbrev spec : {M : Type 1} {𝓤 : Ura M} (𝓛 : Logic 𝓤) → Clauses 𝓤 ended
-  spec {𝓤 = 𝓤} 𝓛 κs a = record { ghost = Unit {0}; requires = λ _. fact 𝓤 (Asks a.0.now a.1.0 a.1.1.0); ensures = λ _ r w. sep 𝓤 (fact 𝓤 (Gives0 a.0.now a.1.0 a.1.1.0 r w.0.now)) (fact 𝓤 (Gives1 a.0.now a.1.0 a.1.1.0 r w.0.now)) }
+  spec {𝓤 = 𝓤} 𝓛 κs a = record {
+    ghost = Unit {0};
+    requires = λ _. fact 𝓤 (Asks a.0.now a.1.0 a.1.1.0);
+    ensures = λ _ r w. sep 𝓤 (fact 𝓤 (Gives0 a.0.now a.1.0 a.1.1.0 r w.0.now)) (fact 𝓤 (Gives1 a.0.now a.1.0 a.1.1.0 r w.0.now));
+  }
 
-module _ (E : El) {M : Type 1} {𝓤 : Ura M} (𝓛 : Logic 𝓤) (𝓜 : Model 𝓤 𝓛.H) (C : Calls 𝓤 𝓛.H) (Λ : Loops 𝓤 𝓛.H) (κ : Lft) (q : Share) (rb ro : ℕ) (γ : GName) (d : (Rg E).Denot) (after : (Np E).Denot) (node : (Dt E).Denot) (us0 us1 us2 : List Val) where
+module _ (E : El) {M : Type 1} {𝓤 : Ura M} (𝓛 : Logic 𝓤) (𝓜 : Model 𝓤 𝓛.H) (C : Calls 𝓤 𝓛.H) (Λ : Loops 𝓤 𝓛.H) (κ : Lft)
+    (q : Share) (rb ro : ℕ) (γ : GName) (d : (Rg E).Denot) (after : (Np E).Denot) (node : (Dt E).Denot)
+    (us0 us1 us2 : List Val) where
   open 𝓛 use {H, A}
 
   abbrev self : MutBor (Rg E).Denot
@@ -82,11 +96,23 @@ module _ (E : El) {M : Type 1} {𝓤 : Ura M} (𝓛 : Logic 𝓤) (𝓜 : Model 
   abbrev Post : Val → SProp 𝓤
   Post = (walk_of 𝓛 (ended E) (stayed E) (spec E 𝓛)).post bound
 
-  exits : us0 ≡ vptr rb ro ∷ [] → (r : (Np E).Denot) (v : Val) (new : (Rg E).Denot) → Gives0 E d after node r new → Gives1 E d after node r new → ent 𝓤 (⋆ 𝓛 (‵ (fobs γ ((Rg E).coded.code new)) ∷ ‵ (fbor κ (Borrowed (mem (Rg E)) rb ro γ)) ∷ ‵ (flft κ q) ∷ ‵ ((Np E).own_val r (v ∷ [])) ∷ [])) (Post v)
+  exits : us0 ≡ vptr rb ro ∷ []
+      → (r : (Np E).Denot) (v : Val) (new : (Rg E).Denot)
+      → Gives0 E d after node r new
+      → Gives1 E d after node r new
+      → ent 𝓤
+      (⋆ 𝓛
+      (‵ (fobs γ ((Rg E).coded.code new)) ∷ ‵ (fbor κ (Borrowed (mem (Rg E)) rb ro γ)) ∷ ‵ (flft κ q) ∷
+      ‵ ((Np E).own_val r (v ∷ [])) ∷ []))
+      (Post v)
   exits passed r v new g0 g1 =
-      qed 𝓛 (‵ (fobs γ ((Rg E).coded.code new)) ∷ ‵ (fbor κ (Borrowed (mem (Rg E)) rb ro γ)) ∷ ‵ (flft κ q) ∷ ‵ ((Np E).own_val r (v ∷ [])) ∷ []) ∵
-      suffices ! _ (ends_at 𝓛 (ended E) (stayed E) (spec E 𝓛) bound v r (new, (tt, (tt, tt))) (tt, (tt, (tt, tt)))) $ says_both ! g0 g1 $
-      nothing ! $ move ! (3 ∷ 0 ∷ []) $ join ! $ frame ! $ feq_i ! (List Val) us0 (vptr rb ro ∷ []) passed $ fjoin3 ! $ nothing ! $ nothing ! $ fjoin ! $ nothing ! $ fjoin ! $ move ! (1 ∷ 0 ∷ []) $ fjoin ! $ done !
+      qed 𝓛
+      (‵ (fobs γ ((Rg E).coded.code new)) ∷ ‵ (fbor κ (Borrowed (mem (Rg E)) rb ro γ)) ∷ ‵ (flft κ q) ∷
+      ‵ ((Np E).own_val r (v ∷ [])) ∷ []) ∵
+      suffices ! _ (ends_at 𝓛 (ended E) (stayed E) (spec E 𝓛) bound v r (new, (tt, (tt, tt))) (tt, (tt, (tt, tt)))) $
+      says_both ! g0 g1 $
+      nothing ! $ move ! (3 ∷ 0 ∷ []) $ join ! $ frame ! $ feq_i ! (List Val) us0 (vptr rb ro ∷ []) passed $ fjoin3 ! $
+      nothing ! $ nothing ! $ fjoin ! $ nothing ! $ fjoin ! $ move ! (1 ∷ 0 ∷ []) $ fjoin ! $ done !
 
   abbrev Had : List (Item 𝓤)
   Had = ‵ (fobs γ ((Rg E).coded.code d)) ∷ ‵ (fbor κ (Borrowed (mem (Rg E)) rb ro γ)) ∷ ‵ (flft κ q) ∷ ‵ (detached_owns (RV E) node.ptr node.value) ∷ []
@@ -98,44 +124,70 @@ module _ (E : El) {M : Type 1} {𝓤 : Ura M} (𝓛 : Logic 𝓤) (𝓜 : Model 
       let p : Ptr = first_place ys d.tail in
       let on = first_place_cut ys d.tail in
       let before : Ptr = last_from d.head (places xs) in
-      let cut : places d.nodes ++ d.tail ∷ [] ≡ places xs ++ p ∷ on.0 = ap (λ ns. places ns ++ d.tail ∷ []) e ∙ places_joined xs ys d.tail ∙ ap (λ ps. places xs ++ ps) on.1 in
-      let back : places xs ++ node.ptr ∷ p ∷ on.0 ≡ places (xs ++ n ∷ ys) ++ d.tail ∷ [] = sym (places_cut xs n ys d.tail ∙ ap (λ ps. places xs ++ node.ptr ∷ ps) on.1) in
-      qed 𝓛 Had ∵ enter ! C Λ (function E) (vptr rb ro ∷ word after.ptr ∷ word node.ptr ∷ []) _ $ alloc_all ! (λ l. pass_all ! refl ((tt, tt), (word-Good [] after.ptr, (word-Good [] node.ptr, tt))) $
+      let cut : places d.nodes ++ d.tail ∷ [] ≡ places xs ++ p ∷ on.0 =
+      ap (λ ns. places ns ++ d.tail ∷ []) e ∙ places_joined xs ys d.tail ∙ ap (λ ps. places xs ++ ps) on.1 in
+      let back : places xs ++ node.ptr ∷ p ∷ on.0 ≡ places (xs ++ n ∷ ys) ++ d.tail ∷ [] =
+      sym (places_cut xs n ys d.tail ∙ ap (λ ps. places xs ++ node.ptr ∷ ps) on.1) in
+      qed 𝓛 Had ∵
+      enter ! C Λ (function E) (vptr rb ro ∷ word after.ptr ∷ word node.ptr ∷ []) _ $
+      alloc_all ! (λ l. pass_all ! refl ((tt, tt), (word-Good [] after.ptr, (word-Good [] node.ptr, tt))) $
       let En : Env 𝓤 H = env (function E).locals l in
-      opens ! tt (Rg E) {h = d} rb ro (λ vs. move ! (1 ∷ []) $ fsplit ! $ move ! (1 ∷ []) $ fsplit3 ! $ move ! (8 ∷ []) $ fsplit ! $ move ! (0 ∷ 2 ∷ []) $
+      opens ! tt (Rg E) {h = d} rb ro
+      (λ vs. move ! (1 ∷ []) $ fsplit ! $ move ! (1 ∷ []) $ fsplit3 ! $ move ! (8 ∷ []) $ fsplit ! $ move ! (0 ∷ 2 ∷ []) $
       knows ! (IsFresh node.ptr (ring d.head d.nodes d.tail)) (fresh 𝓛 𝓜 node.ptr d.head (places d.nodes) d.tail) (λ free.
       let new : (Rg E).Denot = record {
         mark = d.mark;
         head = d.head;
         tail = d.tail;
         nodes = xs ++ n ∷ ys;
-        apart = apart_attached d.head xs n ys d.tail (subst (λ ns. IsFresh node.ptr (ring d.head ns d.tail)) e free) (subst (λ ns. IsApart (ring d.head ns d.tail)) e d.apart);
+        apart =
+            apart_attached d.head xs n ys d.tail (subst (λ ns. IsFresh node.ptr (ring d.head ns d.tail)) e free)
+            (subst (λ ns. IsApart (ring d.head ns d.tail)) e d.apart);
       } in
-      in_a_block ! node.ptr link_room (no_room 𝓛) (λ pb po ep. fsplit ! $ move ! (2 ∷ []) $ rewrite ! 0 (λ (ps : List Ptr). ‵ (path d.head ps)) cut refl $
-      use1 𝓛 (‵ (path d.head (places xs)) ⊛ ‵ (path before (p ∷ on.0))) (path_cut 𝓛 d.head (places xs) (p ∷ on.0)) $ split ! $ move ! (1 ∷ []) $ fsplit ! $
-      in_a_block ! before (λ r. edge r p) (no_source 𝓛 p) (λ lb lo el. in_a_block ! p (edge (block_ptr lb lo)) (no_target 𝓛 (block_ptr lb lo)) (λ tb to et. edge_out ! lb lo tb to $
+      in_a_block ! node.ptr link_room (no_room 𝓛)
+      (λ pb po ep. fsplit ! $ move ! (2 ∷ []) $ rewrite ! 0 (λ (ps : List Ptr). ‵ (path d.head ps)) cut refl $
+      use1 𝓛 (‵ (path d.head (places xs)) ⊛ ‵ (path before (p ∷ on.0))) (path_cut 𝓛 d.head (places xs) (p ∷ on.0)) $ split ! $
+      move ! (1 ∷ []) $ fsplit ! $
+      in_a_block ! before (λ r. edge r p) (no_source 𝓛 p)
+      (λ lb lo el. in_a_block ! p (edge (block_ptr lb lo)) (no_target 𝓛 (block_ptr lb lo)) (λ tb to et. edge_out ! lb lo tb to $
       -- [before.next; after.prev; the path after; the path before; room for node.prev, and for node.next; the value; the others; the sentinels; the mark; its cell; ..]
-      sets ! (is ! (of_opd ! (get_in ! (fld ! refl (stop !)) (sub ! 0 refl (whole !)))) (ap ptr_val (asked.2.1 ∙ et))) refl (tt, tt) $ sets ! (is ! (of_opd ! (get_in ! (fld ! refl (stop !)) (sub ! 0 refl (whole !)))) (ap ptr_val ep)) refl (tt, tt) $ first ! $ blocks ! $
+      sets ! (is ! (of_opd ! (get_in ! (fld ! refl (stop !)) (sub ! 0 refl (whole !)))) (ap ptr_val (asked.2.1 ∙ et))) refl
+      (tt, tt) $
+      sets ! (is ! (of_opd ! (get_in ! (fld ! refl (stop !)) (sub ! 0 refl (whole !)))) (ap ptr_val ep)) refl (tt, tt) $ first ! $
+      blocks ! $
       assigns ! (of_opd ! (get ! refl)) (through ! refl (fld ! refl (stop !))) (init ! 5 refl (tt, tt)) $
       sets ! (of_opd ! (load ! (through ! refl (fld ! refl (stop !))) (look ! 1 refl))) refl (tt, tt) $
       assigns ! (of_opd ! (get ! refl)) (through ! refl (fld ! refl (stop !))) (init ! 4 refl (tt, tt)) $
       assigns ! (of_opd ! (get ! refl)) (through ! refl (fld ! refl (stop !))) (store ! 1 refl (tt, tt)) $
-      assigns_last ! (of_opd ! (get ! refl)) (through ! refl (fld ! refl (hop ! (look ! 4 refl) (fld ! refl (stop !))))) (store ! 0 refl (tt, tt)) $
-      exec ! C Λ En (rest_after 3 (function E).body) (at_ret En Post) $ sets ! (agg ! (and_then ! (get ! refl) (no_more !))) refl (word-Good [] (block_ptr pb po)) $
+      assigns_last ! (of_opd ! (get ! refl)) (through ! refl (fld ! refl (hop ! (look ! 4 refl) (fld ! refl (stop !)))))
+      (store ! 0 refl (tt, tt)) $
+      exec ! C Λ En (rest_after 3 (function E).body) (at_ret En Post) $
+      sets ! (agg ! (and_then ! (get ! refl) (no_more !))) refl (word-Good [] (block_ptr pb po)) $
       move ! (0 ∷ 4 ∷ []) $ edge_in ! lb lo pb po $ move ! (4 ∷ 1 ∷ []) $ edge_in ! pb po tb to $
-      rewrite ! 0 (λ (r : Ptr × Ptr). ‵ (edge r.0 r.1)) (λ i. (sym ep i, sym et i)) refl $ rewrite ! 1 (λ (r : Ptr × Ptr). ‵ (edge r.0 r.1)) (λ i. (sym el i, sym ep i)) refl $
+      rewrite ! 0 (λ (r : Ptr × Ptr). ‵ (edge r.0 r.1)) (λ i. (sym ep i, sym et i)) refl $
+      rewrite ! 1 (λ (r : Ptr × Ptr). ‵ (edge r.0 r.1)) (λ i. (sym el i, sym ep i)) refl $
       move ! (0 ∷ 2 ∷ []) $ fjoin ! $ move ! (1 ∷ 0 ∷ []) $ fjoin ! $ move ! (1 ∷ 0 ∷ []) $
       use2 𝓛 (‵ (path d.head (places xs ++ node.ptr ∷ p ∷ on.0))) (path_glue 𝓛 d.head (places xs) (node.ptr ∷ p ∷ on.0)) $
       rewrite ! 0 (λ (ps : List Ptr). ‵ (path d.head ps)) back refl $
       rewrite ! 2 (λ (ns : List (Node E)). ‵ (nodes_own (RV E) ns)) e refl $ move ! (1 ∷ 2 ∷ []) $
       use2 𝓛 (‵ (nodes_own (RV E) (xs ++ n ∷ ys))) (nodes_glue 𝓛 E xs n ys) $
       move ! (1 ∷ 0 ∷ 2 ∷ []) $ fjoin3 ! $ move ! (1 ∷ 0 ∷ []) $ fjoin ! $ move ! (1 ∷ 0 ∷ []) $ closes ! tt (Rg E) new vs rb ro $
-      returns ! (look_at ! 0 refl) $ free_all ! refl $ keep ! (0 ∷ 1 ∷ 2 ∷ []) $ word_made ! node.ptr $ move ! (1 ∷ 2 ∷ 3 ∷ 0 ∷ []) $
-      by ! (subst (λ (at : Ptr). ent 𝓤 (⋆ 𝓛 (‵ (fobs γ ((Rg E).coded.code new)) ∷ ‵ (fbor κ (Borrowed (mem (Rg E)) rb ro γ)) ∷ ‵ (flft κ q) ∷ ‵ ((Np E).own_val (record { ptr = node.ptr }) (word node.ptr ∷ [])) ∷ [])) (Post (word at))) ep
+      returns ! (look_at ! 0 refl) $ free_all ! refl $ keep ! (0 ∷ 1 ∷ 2 ∷ []) $ word_made ! node.ptr $
+      move ! (1 ∷ 2 ∷ 3 ∷ 0 ∷ []) $
+      by !
+      (subst (λ (at : Ptr). ent 𝓤
+      (⋆ 𝓛
+      (‵ (fobs γ ((Rg E).coded.code new)) ∷ ‵ (fbor κ (Borrowed (mem (Rg E)) rb ro γ)) ∷ ‵ (flft κ q) ∷
+      ‵ ((Np E).own_val (record { ptr = node.ptr }) (word node.ptr ∷ [])) ∷ []))
+      (Post (word at)))
+      ep
       (exits passed (record { ptr = node.ptr }) (word node.ptr) new (refl, refl) (λ us vs' again.
-      let same = same_before d.head d.nodes d.tail after.ptr xs ys us vs' d.apart asked.2 again in (λ i. same.0 i ++ n ∷ same.1 i))))))))))
+      let same = same_before d.head d.nodes d.tail after.ptr xs ys us vs' d.apart asked.2 again in
+      (λ i. same.0 i ++ n ∷ same.1 i))))))))))
 
-  entry : Asks E d after node → ent 𝓤 (on_entry 𝓛 (ended E).signature (κ, tt) (q, tt) (self, (after, (node, tt))) (us0, (us1, (us2, tt)))) (WpFn 𝓤 H C Λ (function E) (us0 ++ (us1 ++ (us2 ++ []))) Post)
+  entry : Asks E d after node
+      → ent 𝓤 (on_entry 𝓛 (ended E).signature (κ, tt) (q, tt) (self, (after, (node, tt))) (us0, (us1, (us2, tt))))
+      (WpFn 𝓤 H C Λ (function E) (us0 ++ (us1 ++ (us2 ++ []))) Post)
   entry asked =
       qed 𝓛 ((‵ (flft κ q) ⊛ ‵ ftrue) ∷ ‵ (owns (MutRef (named 0) κ (Rg E) ∷ Np E ∷ Dt E ∷ []) (self, (after, (node, tt))) (us0, (us1, (us2, tt)))) ∷ []) ∵
       split ! $ move ! (2 ∷ []) $
@@ -152,8 +204,13 @@ module _ (E : El) {M : Type 1} {𝓤 : Ura M} (𝓛 : Logic 𝓤) (𝓜 : Model 
 meets : (E : El) {M : Type 1} {𝓤 : Ura M} (𝓛 : Logic 𝓤) (𝓜 : Model 𝓤 𝓛.H) (𝓣 : Tables 𝓤 𝓛.H)
     → Meets 𝓛 (ended E).signature (WpFn 𝓤 𝓛.H 𝓣.C 𝓣.Λ (function E)) (closing 𝓛 (ended E) (spec E 𝓛))
 meets E {𝓤 = 𝓤} 𝓛 𝓜 𝓣 =
-    walk_Meets 𝓛 (ended E) (stayed E) (Goes-ref 𝓛 1 0 tt (plain (λ _. Rg E)), (Goes-dropped 𝓛 1 (plain (λ _. Np E)) no (λ κs x f. refl), (Goes-blank 𝓛 1 (plain (λ _. Dt E)) no (λ κs x f. tt), tt))) (spec E 𝓛) (WpFn 𝓤 𝓛.H 𝓣.C 𝓣.Λ (function E)) (WpFn-mono 𝓤 𝓛.H 𝓛.laws 𝓣 (function E))
-    (λ z. needs 𝓤 (Asks E z.0.3.0.now z.0.3.1.0 z.0.3.1.1.0) _ (entry E 𝓛 𝓜 𝓣.C 𝓣.Λ z.0.0.0 z.0.1.0 z.0.3.0.ref_ptr.0 z.0.3.0.ref_ptr.1 z.0.3.0.ghost_name z.0.3.0.now z.0.3.1.0 z.0.3.1.1.0 z.0.4.0 z.0.4.1.0 z.0.4.1.1.0))
+    walk_Meets 𝓛 (ended E) (stayed E) (
+      Goes-ref 𝓛 1 0 tt (plain (λ _. Rg E)),
+      (Goes-dropped 𝓛 1 (plain (λ _. Np E)) no (λ κs x f. refl), (Goes-blank 𝓛 1 (plain (λ _. Dt E)) no (λ κs x f. tt), tt)),
+    ) (spec E 𝓛) (WpFn 𝓤 𝓛.H 𝓣.C 𝓣.Λ (function E)) (WpFn-mono 𝓤 𝓛.H 𝓛.laws 𝓣 (function E))
+    (λ z. needs 𝓤 (Asks E z.0.3.0.now z.0.3.1.0 z.0.3.1.1.0) _
+    (entry E 𝓛 𝓜 𝓣.C 𝓣.Λ z.0.0.0 z.0.1.0 z.0.3.0.ref_ptr.0 z.0.3.0.ref_ptr.1 z.0.3.0.ghost_name z.0.3.0.now z.0.3.1.0 z.0.3.1.1.0
+    z.0.4.0 z.0.4.1.0 z.0.4.1.1.0))
 
 pub link_spec : {M : Type 1} → stated.statement M
 unfolding tables_of

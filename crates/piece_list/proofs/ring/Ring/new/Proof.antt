@@ -88,31 +88,55 @@ module _ (E : El) {M : Type 1} {𝓤 : Ura M} (𝓛 : Logic 𝓤) (𝓜 : Model 
 
   walk : ent 𝓤 (⋆ 𝓛 Had) (WpFn 𝓤 H C Λ (function E) (word head.ptr ∷ word tail.ptr ∷ []) Post)
   walk =
-      qed 𝓛 Had ∵ enter ! C Λ (function E) (word head.ptr ∷ word tail.ptr ∷ []) _ $ alloc_all ! (λ l. pass_all ! refl (word-Good [] head.ptr, (word-Good [] tail.ptr, tt)) $
+      qed 𝓛 Had ∵
+      enter ! C Λ (function E) (word head.ptr ∷ word tail.ptr ∷ []) _ $
+      alloc_all ! (λ l. pass_all ! refl (word-Good [] head.ptr, (word-Good [] tail.ptr, tt)) $
       let En : Env 𝓤 H = env (function E).locals l in
-      fsplit ! $ move ! (2 ∷ []) $ fsplit ! $ move ! (2 ∷ 0 ∷ []) $ knows ! (same_ptr head.ptr tail.ptr ≡ false) (rooms_differ 𝓛 𝓜 head.ptr tail.ptr) (λ differ.
-      let out : (Rg E).Denot = record { mark = record {}; head = head.ptr; tail = tail.ptr; nodes = []; apart = apart_two head.ptr tail.ptr differ } in
-      in_a_block ! head.ptr link_room (no_room 𝓛) (λ hb ho eh. fsplit ! $ move ! (2 ∷ []) $ in_a_block ! tail.ptr link_room (no_room 𝓛) (λ tb to et. fsplit ! $
+      fsplit ! $ move ! (2 ∷ []) $ fsplit ! $ move ! (2 ∷ 0 ∷ []) $
+      knows ! (same_ptr head.ptr tail.ptr ≡ false) (rooms_differ 𝓛 𝓜 head.ptr tail.ptr) (λ differ.
+      let out : (Rg E).Denot = record {
+        mark = record {};
+        head = head.ptr;
+        tail = tail.ptr;
+        nodes = [];
+        apart = apart_two head.ptr tail.ptr differ;
+      } in
+      in_a_block ! head.ptr link_room (no_room 𝓛)
+      (λ hb ho eh. fsplit ! $ move ! (2 ∷ []) $ in_a_block ! tail.ptr link_room (no_room 𝓛) (λ tb to et. fsplit ! $
       let front : (Np E).Denot = record { ptr = head.ptr } in let back : (Np E).Denot = record { ptr = tail.ptr } in
       let made : Val = three_val mark (word (block_ptr hb ho)) (word (block_ptr tb to)) in
-      let typed = as_fields (layout (Rg E) ∷ layout (Np E) ∷ layout (Np E) ∷ []) (mark ∷ word (block_ptr hb ho) ∷ word (block_ptr tb to) ∷ []) ((tt, (tt, tt)), (word-Good [] (block_ptr hb ho), (word-Good [] (block_ptr tb to), tt))) in
+      let typed =
+      as_fields (layout (Rg E) ∷ layout (Np E) ∷ layout (Np E) ∷ [])
+      (mark ∷ word (block_ptr hb ho) ∷ word (block_ptr tb to) ∷ [])
+      ((tt, (tt, tt)), (word-Good [] (block_ptr hb ho), (word-Good [] (block_ptr tb to), tt))) in
       -- [room for tail.prev, tail.next, head.prev and head.next; what else the tail owns; the head]
-      sets ! (is ! (of_opd ! (get_in ! (fld ! refl (stop !)) (sub ! 0 refl (whole !)))) (ap ptr_val eh)) refl (tt, tt) $ sets ! (is ! (of_opd ! (get_in ! (fld ! refl (stop !)) (sub ! 0 refl (whole !)))) (ap ptr_val et)) refl (tt, tt) $ first ! $ blocks ! $
+      sets ! (is ! (of_opd ! (get_in ! (fld ! refl (stop !)) (sub ! 0 refl (whole !)))) (ap ptr_val eh)) refl (tt, tt) $
+      sets ! (is ! (of_opd ! (get_in ! (fld ! refl (stop !)) (sub ! 0 refl (whole !)))) (ap ptr_val et)) refl (tt, tt) $ first ! $
+      blocks ! $
       assigns ! (of_opd ! (lit ! tt)) (through ! refl (fld ! refl (stop !))) (init ! 2 refl (Ptr-Good null_ptr)) $
       assigns ! (of_opd ! (get ! refl)) (through ! refl (fld ! refl (stop !))) (init ! 3 refl (tt, tt)) $
       assigns ! (of_opd ! (get ! refl)) (through ! refl (fld ! refl (stop !))) (init ! 0 refl (tt, tt)) $
       assigns_last ! (of_opd ! (lit ! tt)) (through ! refl (fld ! refl (stop !))) (init ! 1 refl (Ptr-Good null_ptr)) $
       exec ! C Λ En (after 3 (function E).body) (at_ret En Post) $
       sets ! (agg ! (no_more !)) refl (tt, tt) $ sets ! (agg ! (and_then ! (get ! refl) (no_more !))) refl (tt, (tt, tt)) $
-      sets ! (agg ! (and_then ! (get ! refl) (no_more !))) refl (word-Good [] (block_ptr hb ho)) $ sets ! (agg ! (and_then ! (get ! refl) (no_more !))) refl (word-Good [] (block_ptr tb to)) $
+      sets ! (agg ! (and_then ! (get ! refl) (no_more !))) refl (word-Good [] (block_ptr hb ho)) $
+      sets ! (agg ! (and_then ! (get ! refl) (no_more !))) refl (word-Good [] (block_ptr tb to)) $
       sets ! (agg ! (and_then ! (get ! refl) (and_then ! (get ! refl) (and_then ! (get ! refl) (no_more !))))) refl typed $
-      move ! (3 ∷ 0 ∷ []) $ edge_in ! hb ho tb to $ rewrite ! 0 (λ (p : Ptr × Ptr). ‵ (edge p.0 p.1)) (λ i. (sym eh i, sym et i)) refl $ nothing ! $ move ! (1 ∷ 0 ∷ []) $ fjoin ! $
-      move ! (1 ∷ []) $ stale ! null_ptr tb (to + 8) $ rewrite ! 0 (λ (p : Ptr). ‵ (room_for ty_ptr (next_of p))) (sym et) refl $ move ! (0 ∷ 3 ∷ []) $ fjoin ! $
-      move ! (2 ∷ []) $ stale ! null_ptr hb (ho + 0) $ rewrite ! 0 (λ (p : Ptr). ‵ (room_for ty_ptr (prev_of p))) (sym eh) refl $ move ! (0 ∷ 3 ∷ []) $ fjoin ! $ fjoin ! $
-      nothing ! $ move ! (2 ∷ 0 ∷ 1 ∷ []) $ fjoin3 ! $ use0 𝓛 (‵ ((Mark E).own_val (tt, tt) (mark ∷ []))) (mark_made E 𝓛) $ fjoin ! $
-      word_made ! tail.ptr $ rewrite ! 0 (λ (p : Ptr). ‵ ((Np E).own_val back (word p ∷ []))) et refl $ word_made ! head.ptr $ rewrite ! 0 (λ (p : Ptr). ‵ ((Np E).own_val front (word p ∷ []))) eh refl $ move ! (2 ∷ 0 ∷ 1 ∷ []) $
-      use3 𝓛 (‵ ((Out E).own_val (out, front, back) (made ∷ []))) (three_of 𝓛 (Rg E) (Np E) (Np E) out front back mark (word (block_ptr hb ho)) (word (block_ptr tb to))) $
-      returns ! (look_at ! 0 refl) $ free_all ! refl $ keep ! (0 ∷ []) $ by ! (exits (out, front, back) made (refl, refl, refl))))))
+      move ! (3 ∷ 0 ∷ []) $ edge_in ! hb ho tb to $
+      rewrite ! 0 (λ (p : Ptr × Ptr). ‵ (edge p.0 p.1)) (λ i. (sym eh i, sym et i)) refl $ nothing ! $ move ! (1 ∷ 0 ∷ []) $
+      fjoin ! $
+      move ! (1 ∷ []) $ stale ! null_ptr tb (to + 8) $ rewrite ! 0 (λ (p : Ptr). ‵ (room_for ty_ptr (next_of p))) (sym et) refl $
+      move ! (0 ∷ 3 ∷ []) $ fjoin ! $
+      move ! (2 ∷ []) $ stale ! null_ptr hb (ho + 0) $ rewrite ! 0 (λ (p : Ptr). ‵ (room_for ty_ptr (prev_of p))) (sym eh) refl $
+      move ! (0 ∷ 3 ∷ []) $ fjoin ! $ fjoin ! $
+      nothing ! $ move ! (2 ∷ 0 ∷ 1 ∷ []) $ fjoin3 ! $ use0 𝓛 (‵ ((Mark E).own_val (tt, tt) (mark ∷ []))) (mark_made E 𝓛) $
+      fjoin ! $
+      word_made ! tail.ptr $ rewrite ! 0 (λ (p : Ptr). ‵ ((Np E).own_val back (word p ∷ []))) et refl $ word_made ! head.ptr $
+      rewrite ! 0 (λ (p : Ptr). ‵ ((Np E).own_val front (word p ∷ []))) eh refl $ move ! (2 ∷ 0 ∷ 1 ∷ []) $
+      use3 𝓛 (‵ ((Out E).own_val (out, front, back) (made ∷ [])))
+      (three_of 𝓛 (Rg E) (Np E) (Np E) out front back mark (word (block_ptr hb ho)) (word (block_ptr tb to))) $
+      returns ! (look_at ! 0 refl) $ free_all ! refl $ keep ! (0 ∷ []) $
+      by ! (exits (out, front, back) made (refl, refl, refl))))))
 
   entry : ent 𝓤 (on_entry 𝓛 (ended E).signature tt tt (head, (tail, tt)) (us0, (us1, tt))) (WpFn 𝓤 H C Λ (function E) (us0 ++ (us1 ++ [])) Post)
   entry =
@@ -129,7 +153,9 @@ module _ (E : El) {M : Type 1} {𝓤 : Ura M} (𝓛 : Logic 𝓤) (𝓜 : Model 
 meets : (E : El) {M : Type 1} {𝓤 : Ura M} (𝓛 : Logic 𝓤) (𝓜 : Model 𝓤 𝓛.H) (𝓣 : Tables 𝓤 𝓛.H)
     → Meets 𝓛 (ended E).signature (WpFn 𝓤 𝓛.H 𝓣.C 𝓣.Λ (function E)) (closing 𝓛 (ended E) (spec E 𝓛))
 meets E {𝓤 = 𝓤} 𝓛 𝓜 𝓣 =
-    walk_Meets 𝓛 (ended E) (stayed E) (Goes-blank 𝓛 0 (plain (λ _. Rm E)) no (λ κs x f. tt), (Goes-blank 𝓛 0 (plain (λ _. Rm E)) no (λ κs x f. tt), tt)) (spec E 𝓛) (WpFn 𝓤 𝓛.H 𝓣.C 𝓣.Λ (function E)) (WpFn-mono 𝓤 𝓛.H 𝓛.laws 𝓣 (function E))
+    walk_Meets 𝓛 (ended E) (stayed E)
+    (Goes-blank 𝓛 0 (plain (λ _. Rm E)) no (λ κs x f. tt), (Goes-blank 𝓛 0 (plain (λ _. Rm E)) no (λ κs x f. tt), tt))
+    (spec E 𝓛) (WpFn 𝓤 𝓛.H 𝓣.C 𝓣.Λ (function E)) (WpFn-mono 𝓤 𝓛.H 𝓛.laws 𝓣 (function E))
     (λ z. via 𝓤 _ (fst∗ 𝓤 _ (emp 𝓤)) (entry E 𝓛 𝓜 𝓣.C 𝓣.Λ z.0.3.0 z.0.3.1.0 z.0.4.0 z.0.4.1.0))
 
 pub new_spec : {M : Type 1} → stated.statement M

@@ -51,7 +51,15 @@ module _ (E : El) where
   function = inst_fn (args E) code.function
 
   abbrev ended : Ended
-  ended = record { signature = record { lifetimes = 1; outlives = []; params = RefOf (0 ∷ []) tt (plain (λ _. Rg E)) (λ _. tt) ∷ plain (λ _. Np E) ∷ []; result = plain (λ _. Np E) }; kept = (yes, (no, tt)) }
+  ended = record {
+    signature = record {
+      lifetimes = 1;
+      outlives = [];
+      params = RefOf (0 ∷ []) tt (plain (λ _. Rg E)) (λ _. tt) ∷ plain (λ _. Np E) ∷ [];
+      result = plain (λ _. Np E);
+    };
+    kept = (yes, (no, tt));
+  }
 
   abbrev stayed : Stays ended.signature.params ended.kept
   stayed = (stay_dropped (RefOf (0 ∷ []) tt (plain (λ _. Rg E)) (λ _. tt)) yes, (stay_dropped (plain (λ _. Np E)) no, tt))
@@ -90,13 +98,24 @@ module _ (E : El) {M : Type 1} {𝓤 : Ura M} (𝓛 : Logic 𝓤) (C : Calls �
   walk asked =
       let other : Ptr = asked.0 in
       let out : (Np E).Denot = record { ptr = other } in
-      qed 𝓛 Had ∵ enter ! C Λ (function E) (vptr rb ro ∷ word node.ptr ∷ []) _ $ alloc_all ! (λ l. pass_all ! refl ((tt, tt), (word-Good [] node.ptr, tt)) $
+      qed 𝓛 Had ∵
+      enter ! C Λ (function E) (vptr rb ro ∷ word node.ptr ∷ []) _ $
+      alloc_all ! (λ l. pass_all ! refl ((tt, tt), (word-Good [] node.ptr, tt)) $
       let En : Env 𝓤 H = env (function E).locals l in
       unhide ! $ fsplit ! $ drop ! $ fsplit ! $
-      use1 𝓛 (‵ (edge_lent other node.ptr κ)) (edge_seen 𝓛 κ d.head (places d.nodes ++ d.tail ∷ []) asked.1.0 other node.ptr asked.1.1 asked.1.2) $ fsplit ! $ move ! (1 ∷ []) $
-      in_a_block ! node.ptr (λ p. lent_at RawPtr (prev_of p) other κ) (fst∗ 𝓤 (never 𝓤) (sem 𝓛 (shared_of RawPtr other 0 0 κ))) (λ pb po ep.
-      take_at ! 2 $ rewrite ! 0 (λ (p : Ptr). ‵ (fat full_share (layout (Np E)) (l 2) 0 (word p))) ep refl $ give_at ! 2 $ fsplit ! $ drop ! $ hide ! $ move ! (0 ∷ 3 ∷ []) $ peer_in ! tt other pb (po + 0) (λ s.
-      first ! $ blocks ! $ sets_last ! (of_opd ! (load ! (from ! (fld ! refl (hop ! (look_in_at ! 2 (sub ! 0 refl (whole !))) (fld ! refl (stop !))))) (look ! 0 refl))) refl (Ptr-Good other) $
+      use1 𝓛 (‵ (edge_lent other node.ptr κ))
+      (edge_seen 𝓛 κ d.head (places d.nodes ++ d.tail ∷ []) asked.1.0 other node.ptr asked.1.1 asked.1.2) $
+      fsplit ! $ move ! (1 ∷ []) $
+      in_a_block ! node.ptr (λ p. lent_at RawPtr (prev_of p) other κ)
+      (fst∗ 𝓤 (never 𝓤) (sem 𝓛 (shared_of RawPtr other 0 0 κ)))
+      (λ pb po ep.
+      take_at ! 2 $ rewrite ! 0 (λ (p : Ptr). ‵ (fat full_share (layout (Np E)) (l 2) 0 (word p))) ep refl $ give_at ! 2 $
+      fsplit ! $ drop ! $ hide ! $ move ! (0 ∷ 3 ∷ []) $ peer_in ! tt other pb (po + 0) (λ s.
+      first ! $ blocks ! $
+      sets_last !
+      (of_opd !
+      (load ! (from ! (fld ! refl (hop ! (look_in_at ! 2 (sub ! 0 refl (whole !))) (fld ! refl (stop !))))) (look ! 0 refl)))
+      refl (Ptr-Good other) $
       exec ! C Λ En (after 1 (function E).body) (at_ret En Post) $ sets ! (of_opd ! (get ! refl)) refl (Ptr-Good other) $
       sets ! (agg ! (and_then ! (get ! refl) (no_more !))) refl (word-Good [] other) $ peer_out ! tt other pb (po + 0) $
       returns ! (look_at ! 0 refl) $ free_all ! refl $ keep ! (0 ∷ []) $ word_made ! other $ move ! (1 ∷ 0 ∷ []) $
@@ -117,8 +136,12 @@ module _ (E : El) {M : Type 1} {𝓤 : Ura M} (𝓛 : Logic 𝓤) (C : Calls �
 meets : (E : El) {M : Type 1} {𝓤 : Ura M} (𝓛 : Logic 𝓤) (𝓣 : Tables 𝓤 𝓛.H)
     → Meets 𝓛 (ended E).signature (WpFn 𝓤 𝓛.H 𝓣.C 𝓣.Λ (function E)) (closing 𝓛 (ended E) (spec E 𝓛))
 meets E {𝓤 = 𝓤} 𝓛 𝓣 =
-    walk_Meets 𝓛 (ended E) (stayed E) (Goes-dropped 𝓛 1 (RefOf (0 ∷ []) tt (plain (λ _. Rg E)) (λ _. tt)) yes (λ κs x f. refl), (Goes-dropped 𝓛 1 (plain (λ _. Np E)) no (λ κs x f. refl), tt)) (spec E 𝓛) (WpFn 𝓤 𝓛.H 𝓣.C 𝓣.Λ (function E)) (WpFn-mono 𝓤 𝓛.H 𝓛.laws 𝓣 (function E))
-    (λ z. needs 𝓤 (Asks E z.0.3.0.now z.0.3.1.0) _ (entry E 𝓛 𝓣.C 𝓣.Λ z.0.0.0 z.0.1.0 z.0.3.0.ref_ptr.0 z.0.3.0.ref_ptr.1 z.0.3.0.now z.0.3.1.0 z.0.4.0 z.0.4.1.0))
+    walk_Meets 𝓛 (ended E) (stayed E) (
+      Goes-dropped 𝓛 1 (RefOf (0 ∷ []) tt (plain (λ _. Rg E)) (λ _. tt)) yes (λ κs x f. refl),
+      (Goes-dropped 𝓛 1 (plain (λ _. Np E)) no (λ κs x f. refl), tt),
+    ) (spec E 𝓛) (WpFn 𝓤 𝓛.H 𝓣.C 𝓣.Λ (function E)) (WpFn-mono 𝓤 𝓛.H 𝓛.laws 𝓣 (function E))
+    (λ z. needs 𝓤 (Asks E z.0.3.0.now z.0.3.1.0) _
+    (entry E 𝓛 𝓣.C 𝓣.Λ z.0.0.0 z.0.1.0 z.0.3.0.ref_ptr.0 z.0.3.0.ref_ptr.1 z.0.3.0.now z.0.3.1.0 z.0.4.0 z.0.4.1.0))
 
 pub prev_spec : {M : Type 1} → stated.statement M
 unfolding tables_of

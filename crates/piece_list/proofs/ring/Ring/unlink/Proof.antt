@@ -48,7 +48,15 @@ module _ (E : El) where
   function = inst_fn (args E) code.function
 
   abbrev ended : Ended
-  ended = record { signature = record { lifetimes = 1; outlives = []; params = RefMutOf (0 ∷ []) tt (plain (λ _. Rg E)) (λ _. tt) ∷ plain (λ _. Np E) ∷ []; result = plain (λ _. Dt E) }; kept = (yes, (no, tt)) }
+  ended = record {
+    signature = record {
+      lifetimes = 1;
+      outlives = [];
+      params = RefMutOf (0 ∷ []) tt (plain (λ _. Rg E)) (λ _. tt) ∷ plain (λ _. Np E) ∷ [];
+      result = plain (λ _. Dt E);
+    };
+    kept = (yes, (no, tt));
+  }
 
   abbrev stayed : Stays ended.signature.params ended.kept
   stayed = (stay_ref (0 ∷ []) tt (plain (λ _. Rg E)), (stay_dropped (plain (λ _. Np E)) no, tt))
@@ -63,9 +71,14 @@ module _ (E : El) where
   Gives1 d node r new = AtNode d.nodes node.ptr (λ xs n ys. (new.nodes ≡ xs ++ ys) × (n ≡ linked r.ptr r.value))
 
   abbrev spec : {M : Type 1} {𝓤 : Ura M} (𝓛 : Logic 𝓤) → Clauses 𝓤 ended
-  spec {𝓤 = 𝓤} 𝓛 κs a = record { ghost = Unit {0}; requires = λ _. fact 𝓤 (Asks a.0.now a.1.0); ensures = λ _ r w. sep 𝓤 (fact 𝓤 (Gives0 a.0.now a.1.0 r w.0.now)) (fact 𝓤 (Gives1 a.0.now a.1.0 r w.0.now)) }
+  spec {𝓤 = 𝓤} 𝓛 κs a = record {
+    ghost = Unit {0};
+    requires = λ _. fact 𝓤 (Asks a.0.now a.1.0);
+    ensures = λ _ r w. sep 𝓤 (fact 𝓤 (Gives0 a.0.now a.1.0 r w.0.now)) (fact 𝓤 (Gives1 a.0.now a.1.0 r w.0.now));
+  }
 
-module _ (E : El) {M : Type 1} {𝓤 : Ura M} (𝓛 : Logic 𝓤) (C : Calls 𝓤 𝓛.H) (Λ : Loops 𝓤 𝓛.H) (κ : Lft) (q : Share) (rb ro : ℕ) (γ : GName) (d : (Rg E).Denot) (node : (Np E).Denot) (us0 us1 : List Val) where
+module _ (E : El) {M : Type 1} {𝓤 : Ura M} (𝓛 : Logic 𝓤) (C : Calls 𝓤 𝓛.H) (Λ : Loops 𝓤 𝓛.H) (κ : Lft) (q : Share) (rb ro : ℕ)
+    (γ : GName) (d : (Rg E).Denot) (node : (Np E).Denot) (us0 us1 : List Val) where
   open 𝓛 use {H, A}
 
   abbrev self : MutBor (Rg E).Denot
@@ -77,7 +90,15 @@ module _ (E : El) {M : Type 1} {𝓤 : Ura M} (𝓛 : Logic 𝓤) (C : Calls �
   abbrev Post : Val → SProp 𝓤
   Post = (walk_of 𝓛 (ended E) (stayed E) (spec E 𝓛)).post bound
 
-  exits : us0 ≡ vptr rb ro ∷ [] → (r : (Dt E).Denot) (v : Val) (new : (Rg E).Denot) → Gives0 E d node r new → Gives1 E d node r new → ent 𝓤 (⋆ 𝓛 (‵ (fobs γ ((Rg E).coded.code new)) ∷ ‵ (fbor κ (Borrowed (mem (Rg E)) rb ro γ)) ∷ ‵ (flft κ q) ∷ ‵ ((Dt E).own_val r (v ∷ [])) ∷ [])) (Post v)
+  exits : us0 ≡ vptr rb ro ∷ []
+      → (r : (Dt E).Denot) (v : Val) (new : (Rg E).Denot)
+      → Gives0 E d node r new
+      → Gives1 E d node r new
+      → ent 𝓤
+      (⋆ 𝓛
+      (‵ (fobs γ ((Rg E).coded.code new)) ∷ ‵ (fbor κ (Borrowed (mem (Rg E)) rb ro γ)) ∷ ‵ (flft κ q) ∷
+      ‵ ((Dt E).own_val r (v ∷ [])) ∷ []))
+      (Post v)
   exits passed r v new g0 g1 =
       qed 𝓛 (‵ (fobs γ ((Rg E).coded.code new)) ∷ ‵ (fbor κ (Borrowed (mem (Rg E)) rb ro γ)) ∷ ‵ (flft κ q) ∷ ‵ ((Dt E).own_val r (v ∷ [])) ∷ []) ∵
       suffices ! _ (ends_at 𝓛 (ended E) (stayed E) (spec E 𝓛) bound v r (new, (tt, tt)) (tt, (tt, tt))) $ says_both ! g0 g1 $
@@ -92,37 +113,67 @@ module _ (E : El) {M : Type 1} {𝓤 : Ura M} (𝓛 : Logic 𝓤) (C : Calls �
       let on = first_of_push (places ys) d.tail in
       let cut : places d.nodes ++ d.tail ∷ [] ≡ places xs ++ n.at ∷ on.0 ∷ on.1 =
       ap (λ ns. places ns ++ d.tail ∷ []) asked.3 ∙ places_cut xs n ys d.tail ∙ ap (λ ps. places xs ++ n.at ∷ ps) on.2 in
-      let joined : places xs ++ on.0 ∷ on.1 ≡ places (xs ++ ys) ++ d.tail ∷ [] = sym (places_joined xs ys d.tail ∙ ap (λ ps. places xs ++ ps) on.2) in
-      let new : (Rg E).Denot = record { mark = d.mark; head = d.head; tail = d.tail; nodes = xs ++ ys; apart = apart_detached d.head xs n ys d.tail (subst (λ ns. IsApart (ring d.head ns d.tail)) asked.3 d.apart) } in
+      let joined : places xs ++ on.0 ∷ on.1 ≡ places (xs ++ ys) ++ d.tail ∷ [] =
+      sym (places_joined xs ys d.tail ∙ ap (λ ps. places xs ++ ps) on.2) in
+      let new : (Rg E).Denot = record {
+        mark = d.mark;
+        head = d.head;
+        tail = d.tail;
+        nodes = xs ++ ys;
+        apart = apart_detached d.head xs n ys d.tail (subst (λ ns. IsApart (ring d.head ns d.tail)) asked.3 d.apart);
+      } in
       let out : (Dt E).Denot = record { ptr = n.at; value = n.val } in
       let before : Ptr = last_from d.head (places xs) in
-      qed 𝓛 Had ∵ enter ! C Λ (function E) (vptr rb ro ∷ word node.ptr ∷ []) _ $ alloc_all ! (λ l. pass_all ! refl ((tt, tt), (word-Good [] node.ptr, tt)) $
+      qed 𝓛 Had ∵
+      enter ! C Λ (function E) (vptr rb ro ∷ word node.ptr ∷ []) _ $
+      alloc_all ! (λ l. pass_all ! refl ((tt, tt), (word-Good [] node.ptr, tt)) $
       let En : Env 𝓤 H = env (function E).locals l in
       opens ! tt (Rg E) {h = d} rb ro (λ vs. move ! (1 ∷ []) $ fsplit ! $ move ! (1 ∷ []) $ fsplit3 ! $
       -- [the path; the nodes; the sentinels; the mark; its cell; the open borrow; obs; auth]
-      rewrite ! 1 (λ (ns : List (Node E)). ‵ (nodes_own (RV E) ns)) asked.3 refl $ rewrite ! 0 (λ (ps : List Ptr). ‵ (path d.head ps)) cut refl $
-      use1 𝓛 (‵ (path d.head (places xs)) ⊛ ‵ (path before (n.at ∷ on.0 ∷ on.1))) (path_cut 𝓛 d.head (places xs) (n.at ∷ on.0 ∷ on.1)) $ split ! $ move ! (1 ∷ []) $ fsplit3 ! $
-      in_a_block ! before (λ p. edge p n.at) (no_source 𝓛 n.at) (λ lb lo el. in_a_block ! n.at (edge (block_ptr lb lo)) (no_target 𝓛 (block_ptr lb lo)) (λ pb po ep.
+      rewrite ! 1 (λ (ns : List (Node E)). ‵ (nodes_own (RV E) ns)) asked.3 refl $
+      rewrite ! 0 (λ (ps : List Ptr). ‵ (path d.head ps)) cut refl $
+      use1 𝓛 (‵ (path d.head (places xs)) ⊛ ‵ (path before (n.at ∷ on.0 ∷ on.1)))
+      (path_cut 𝓛 d.head (places xs) (n.at ∷ on.0 ∷ on.1)) $
+      split ! $ move ! (1 ∷ []) $ fsplit3 ! $
+      in_a_block ! before (λ p. edge p n.at) (no_source 𝓛 n.at)
+      (λ lb lo el. in_a_block ! n.at (edge (block_ptr lb lo)) (no_target 𝓛 (block_ptr lb lo)) (λ pb po ep.
       edge_out ! lb lo pb po $ move ! (2 ∷ []) $ rewrite ! 0 (λ (p : Ptr). ‵ (edge p on.0)) ep refl $
       in_a_block ! on.0 (edge (block_ptr pb po)) (no_target 𝓛 (block_ptr pb po)) (λ nb no en. edge_out ! pb po nb no $
       -- [node.next; after.prev; before.next; node.prev; the path after; the path before; the nodes; ..]
-      sets ! (is ! (of_opd ! (get_in ! (fld ! refl (stop !)) (sub ! 0 refl (whole !)))) (ap ptr_val (sym asked.4 ∙ ep))) refl (tt, tt) $ first ! $ blocks ! $
+      sets ! (is ! (of_opd ! (get_in ! (fld ! refl (stop !)) (sub ! 0 refl (whole !)))) (ap ptr_val (sym asked.4 ∙ ep))) refl
+      (tt, tt) $
+      first ! $ blocks ! $
       sets ! (of_opd ! (load ! (through ! refl (fld ! refl (stop !))) (look ! 0 refl))) refl (tt, tt) $
-      assigns ! (of_opd ! (get ! refl)) (through ! refl (fld ! refl (hop ! (look ! 3 refl) (fld ! refl (stop !))))) (store ! 2 refl (tt, tt)) $
+      assigns ! (of_opd ! (get ! refl)) (through ! refl (fld ! refl (hop ! (look ! 3 refl) (fld ! refl (stop !)))))
+      (store ! 2 refl (tt, tt)) $
       sets ! (of_opd ! (load ! (through ! refl (fld ! refl (stop !))) (look ! 3 refl))) refl (tt, tt) $
-      assigns_last ! (of_opd ! (get ! refl)) (through ! refl (fld ! refl (hop ! (look ! 0 refl) (fld ! refl (stop !))))) (store ! 1 refl (tt, tt)) $
-      exec ! C Λ En (after 2 (function E).body) (at_ret En Post) $ sets ! (agg ! (and_then ! (get ! refl) (no_more !))) refl (word-Good [] (block_ptr pb po)) $
-      stale ! (block_ptr nb no) pb (po + 8) $ move ! (3 ∷ []) $ stale ! (block_ptr lb lo) pb (po + 0) $ fjoin ! $ rewrite ! 0 (λ (p : Ptr). ‵ (link_room p)) (sym ep) refl $
-      move ! (2 ∷ 1 ∷ []) $ edge_in ! lb lo nb no $ rewrite ! 0 (λ (p : Ptr × Ptr). ‵ (edge p.0 p.1)) (λ i. (sym el i, sym en i)) refl $ move ! (0 ∷ 2 ∷ []) $ fjoin ! $ move ! (2 ∷ 0 ∷ []) $
-      use2 𝓛 (‵ (path d.head (places xs ++ on.0 ∷ on.1))) (path_glue 𝓛 d.head (places xs) (on.0 ∷ on.1)) $ rewrite ! 0 (λ (ps : List Ptr). ‵ (path d.head ps)) joined refl $
+      assigns_last ! (of_opd ! (get ! refl)) (through ! refl (fld ! refl (hop ! (look ! 0 refl) (fld ! refl (stop !)))))
+      (store ! 1 refl (tt, tt)) $
+      exec ! C Λ En (after 2 (function E).body) (at_ret En Post) $
+      sets ! (agg ! (and_then ! (get ! refl) (no_more !))) refl (word-Good [] (block_ptr pb po)) $
+      stale ! (block_ptr nb no) pb (po + 8) $ move ! (3 ∷ []) $ stale ! (block_ptr lb lo) pb (po + 0) $ fjoin ! $
+      rewrite ! 0 (λ (p : Ptr). ‵ (link_room p)) (sym ep) refl $
+      move ! (2 ∷ 1 ∷ []) $ edge_in ! lb lo nb no $
+      rewrite ! 0 (λ (p : Ptr × Ptr). ‵ (edge p.0 p.1)) (λ i. (sym el i, sym en i)) refl $ move ! (0 ∷ 2 ∷ []) $ fjoin ! $
+      move ! (2 ∷ 0 ∷ []) $
+      use2 𝓛 (‵ (path d.head (places xs ++ on.0 ∷ on.1))) (path_glue 𝓛 d.head (places xs) (on.0 ∷ on.1)) $
+      rewrite ! 0 (λ (ps : List Ptr). ‵ (path d.head ps)) joined refl $
       move ! (2 ∷ []) $ use1 𝓛 (‵ (One E n) ⊛ ‵ (nodes_own (RV E) (xs ++ ys))) (nodes_cut 𝓛 E xs n ys) $ split ! $
       -- [the node; the others; the path; the node's links; the sentinels; the mark; ..]
-      move ! (3 ∷ 0 ∷ []) $ fjoin ! $ word_made ! n.at $ fjoin ! $ move ! (2 ∷ 1 ∷ 3 ∷ []) $ fjoin3 ! $ move ! (2 ∷ 0 ∷ []) $ fjoin ! $
+      move ! (3 ∷ 0 ∷ []) $ fjoin ! $ word_made ! n.at $ fjoin ! $ move ! (2 ∷ 1 ∷ 3 ∷ []) $ fjoin3 ! $ move ! (2 ∷ 0 ∷ []) $
+      fjoin ! $
       move ! (2 ∷ 0 ∷ 3 ∷ 4 ∷ 5 ∷ []) $ closes ! tt (Rg E) new vs rb ro $
       returns ! (look_at ! 0 refl) $ free_all ! refl $ keep ! (0 ∷ 1 ∷ 2 ∷ 3 ∷ []) $
-      by ! (subst (λ (p : Ptr). ent 𝓤 (⋆ 𝓛 (‵ (fobs γ ((Rg E).coded.code new)) ∷ ‵ (fbor κ (Borrowed (mem (Rg E)) rb ro γ)) ∷ ‵ (flft κ q) ∷ ‵ ((Dt E).own_val out (word n.at ∷ [])) ∷ [])) (Post (word p))) ep
+      by !
+      (subst (λ (p : Ptr). ent 𝓤
+      (⋆ 𝓛
+      (‵ (fobs γ ((Rg E).coded.code new)) ∷ ‵ (fbor κ (Borrowed (mem (Rg E)) rb ro γ)) ∷ ‵ (flft κ q) ∷
+      ‵ ((Dt E).own_val out (word n.at ∷ [])) ∷ []))
+      (Post (word p)))
+      ep
       (exits passed out (word n.at) new (refl, refl) (λ us m ws e at.
-      let same = same_node d.nodes xs n ys us m ws (apart_places d.head d.nodes d.tail d.apart) asked.3 e (asked.4 ∙ sym at) in (λ i. same.0 i ++ same.2 i, sym same.1)))))))))
+      let same = same_node d.nodes xs n ys us m ws (apart_places d.head d.nodes d.tail d.apart) asked.3 e (asked.4 ∙ sym at) in
+      (λ i. same.0 i ++ same.2 i, sym same.1)))))))))
 
   entry : Asks E d node → ent 𝓤 (on_entry 𝓛 (ended E).signature (κ, tt) (q, tt) (self, (node, tt)) (us0, (us1, tt))) (WpFn 𝓤 H C Λ (function E) (us0 ++ (us1 ++ [])) Post)
   entry asked =
@@ -139,8 +190,12 @@ module _ (E : El) {M : Type 1} {𝓤 : Ura M} (𝓛 : Logic 𝓤) (C : Calls �
 meets : (E : El) {M : Type 1} {𝓤 : Ura M} (𝓛 : Logic 𝓤) (𝓣 : Tables 𝓤 𝓛.H)
     → Meets 𝓛 (ended E).signature (WpFn 𝓤 𝓛.H 𝓣.C 𝓣.Λ (function E)) (closing 𝓛 (ended E) (spec E 𝓛))
 meets E {𝓤 = 𝓤} 𝓛 𝓣 =
-    walk_Meets 𝓛 (ended E) (stayed E) (Goes-ref 𝓛 1 0 tt (plain (λ _. Rg E)), (Goes-dropped 𝓛 1 (plain (λ _. Np E)) no (λ κs x f. refl), tt)) (spec E 𝓛) (WpFn 𝓤 𝓛.H 𝓣.C 𝓣.Λ (function E)) (WpFn-mono 𝓤 𝓛.H 𝓛.laws 𝓣 (function E))
-    (λ z. needs 𝓤 (Asks E z.0.3.0.now z.0.3.1.0) _ (entry E 𝓛 𝓣.C 𝓣.Λ z.0.0.0 z.0.1.0 z.0.3.0.ref_ptr.0 z.0.3.0.ref_ptr.1 z.0.3.0.ghost_name z.0.3.0.now z.0.3.1.0 z.0.4.0 z.0.4.1.0))
+    walk_Meets 𝓛 (ended E) (stayed E)
+    (Goes-ref 𝓛 1 0 tt (plain (λ _. Rg E)), (Goes-dropped 𝓛 1 (plain (λ _. Np E)) no (λ κs x f. refl), tt))
+    (spec E 𝓛) (WpFn 𝓤 𝓛.H 𝓣.C 𝓣.Λ (function E)) (WpFn-mono 𝓤 𝓛.H 𝓛.laws 𝓣 (function E))
+    (λ z. needs 𝓤 (Asks E z.0.3.0.now z.0.3.1.0) _
+    (entry E 𝓛 𝓣.C 𝓣.Λ z.0.0.0 z.0.1.0 z.0.3.0.ref_ptr.0 z.0.3.0.ref_ptr.1 z.0.3.0.ghost_name z.0.3.0.now z.0.3.1.0 z.0.4.0
+    z.0.4.1.0))
 
 pub unlink_spec : {M : Type 1} → stated.statement M
 unfolding tables_of

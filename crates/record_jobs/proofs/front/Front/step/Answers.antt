@@ -33,14 +33,21 @@ returns-clause-steps c =
       counts = record counts { records = counts.records + 1; flows = counts.flows + c.from.result };
     } in
     let none : c.decode_at-skip.result ≡ None = cc in
-    let told = subst (λ (bs : List ℕ). placed bs c.decode_at-skip.result read ≡ decoded c.args.link bs c.args.by.now.checks) c.bytes-bytes.ensures c.decode_at-skip.ensures.told in
-    let at_place : c.payload.result.now ≡ payload_at bytes read = c.payload.ensures.exact ∙ ap (λ (bs : List ℕ). payload_at bs read) c.bytes-bytes.ensures in
+    let told =
+    subst (λ (bs : List ℕ). placed bs c.decode_at-skip.result read ≡ decoded c.args.link bs c.args.by.now.checks)
+    c.bytes-bytes.ensures c.decode_at-skip.ensures.told in
+    let at_place : c.payload.result.now ≡ payload_at bytes read =
+    c.payload.ensures.exact ∙ ap (λ (bs : List ℕ). payload_at bs read) c.bytes-bytes.ensures in
     let many : length (payload_at bytes read) ≡ read.len = ap length (sym at_place) ∙ c.payload.ensures.len in
     let lent : c.lent-payload.result ≡ payload_at bytes read = c.lent-payload.ensures ∙ at_place in
     let counted : c.from.result ≡ one_if c.is_fresh.result = c.from.ensures ∙ from_bool-one_if c.is_fresh.result in
     let added =
-    subst (λ (time : Time). Adds c.self.inside.next time.now (works_by way time touch None (Some (read_item time.now read (payload_at bytes read)))) items next c.add_packet.new.out.items) c.of-time.ensures
-    (subst (λ (payload : List ℕ). Adds c.self.inside.next c.of-time.result.now (works_by way c.of-time.result touch None (Some (read_item c.of-time.result.now read payload))) items next c.add_packet.new.out.items) lent c.in_ok-self-inside.ensures.added) in
+    subst (λ (time : Time). Adds c.self.inside.next time.now
+    (works_by way time touch None (Some (read_item time.now read (payload_at bytes read)))) items next
+    c.add_packet.new.out.items) c.of-time.ensures
+    (subst (λ (payload : List ℕ). Adds c.self.inside.next c.of-time.result.now
+    (works_by way c.of-time.result touch None (Some (read_item c.of-time.result.now read payload))) items next
+    c.add_packet.new.out.items) lent c.in_ok-self-inside.ensures.added) in
     subst (λ (front : FrontState). Steps way front r new items c.add_packet.new.out.items) c.self.view_is
     (straight way (front_of c.self.inside) new r (fields_at bytes read) touch items c.add_packet.new.out.items
     (said-four way r c.decode_at-skip.result read told none)
@@ -52,5 +59,6 @@ returns-clause-steps c =
     refl
     (ap (λ (time : Time). Some time.first) c.of-time.ensures)
     (ap (λ (time : Time). time.now) c.of-time.ensures)
-    (ap (λ (n : ℕ). record counts { records = counts.records + 1; flows = counts.flows + n }) (counted ∙ ap one_if c.is_fresh.ensures))
+    (ap (λ (n : ℕ). record counts { records = counts.records + 1; flows = counts.flows + n })
+    (counted ∙ ap one_if c.is_fresh.ensures))
     added)

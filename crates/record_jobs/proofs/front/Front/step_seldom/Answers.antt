@@ -38,5 +38,6 @@ returns-clause-steps c =
     (ap (λ (time : Time). Some time.first) c.of-time.ensures)
     (ap (λ (time : Time). time.now) c.of-time.ensures)
     c.with_record-self-inside.ensures.value
-    (subst (λ (time : Time). Adds c.self.inside.next time.now (works_by way time touch content.fragment content.packet) items next c.add_works.new.out.items) c.of-time.ensures c.in_ok-self-inside.ensures.added)
+    (subst (λ (time : Time). Adds c.self.inside.next time.now (works_by way time touch content.fragment content.packet) items next
+    c.add_works.new.out.items) c.of-time.ensures c.in_ok-self-inside.ensures.added)
     c.in_ok-content.ensures.short)

@@ -15,13 +15,18 @@ pub returns-in_err-extend_from_slice-clause-unchanged :
 returns-in_err-extend_from_slice-clause-unchanged c =
     let new = c.extend_from_slice.new.self in
     let updates = (c.get_mut.follows.holds new).3 (search rules) in
-    on_err c.from_residual.result (rw (← c.self.view_is) (files-kept c.self.inside.entries (c.get_mut.follows.lender new) c.args.name.now c.in-Some.held.now new updates c.in-Some.ensures.value c.in_err-extend_from_slice.ensures.items))
+    on_err c.from_residual.result
+    (rw (← c.self.view_is)
+    (files-kept c.self.inside.entries (c.get_mut.follows.lender new) c.args.name.now c.in-Some.held.now new updates
+    c.in-Some.ensures.value c.in_err-extend_from_slice.ensures.items))
 
 pub returns-in-Some-clause-appended : goal.returns-in-Some-clause-appended
 returns-in-Some-clause-appended c =
     let new = c.extend_from_slice.new.self in
     let updates = (c.get_mut.follows.holds new).3 (search rules) in
-    rw (← c.self.view_is) (files-grown c.self.inside.entries (c.get_mut.follows.lender new) c.args.name.now c.in-Some.held.now new c.args.bytes.now updates c.in-Some.ensures.value c.in_ok-extend_from_slice.ensures.items)
+    rw (← c.self.view_is)
+    (files-grown c.self.inside.entries (c.get_mut.follows.lender new) c.args.name.now c.in-Some.held.now new c.args.bytes.now
+    updates c.in-Some.ensures.value c.in_ok-extend_from_slice.ensures.items)
 
 pub returns-clause-appended : goal.returns-clause-appended
 returns-clause-appended c =

@@ -17,9 +17,16 @@ loop-name-preserved c =
     let rest = c.next.new.self in
     let all = c.self.inside.entries.entries in
     let start : c.into_iter-name-iterator.result ≡ all = search rules in
-    let so_far = rest_so_far deref_pair c.loop-name.yielded c.into_iter-name-iterator.result c.loop-name.name-iterator c.loop-name.yielded_by in
+    let so_far =
+    rest_so_far deref_pair c.loop-name.yielded c.into_iter-name-iterator.result c.loop-name.name-iterator
+    c.loop-name.yielded_by in
     let next = rest_more deref_pair c.loop-name.name-iterator rest c.next.result item c.in-Some.is c.next.ensures.steps in
-    let whole : all ≡ front ++ deref_pair item ∷ rest = sym start ∙ so_far ∙ ap (λ (es : List (String Global × Vec ℕ Global)). front ++ es) next in
-    let put : c.put.new.self ≡ record c.loop-name.host { files = fin.insert c.loop-name.host.files (string_bytes c.in-Some.name.now) c.in-Some.bytes.now.items } = rw (← c.deref.ensures, ← c.deref-in-loop-name.ensures.value) c.in_ok-put.ensures.put in
-    host-next front (deref_pair item) rest all c.loop-name.host c.put.new.self c.iter-name-items.ensures.ordered whole c.loop-name.invariant put
+    let whole : all ≡ front ++ deref_pair item ∷ rest =
+    sym start ∙ so_far ∙ ap (λ (es : List (String Global × Vec ℕ Global)). front ++ es) next in
+    let put : c.put.new.self
+    ≡ record c.loop-name.host
+    { files = fin.insert c.loop-name.host.files (string_bytes c.in-Some.name.now) c.in-Some.bytes.now.items } =
+    rw (← c.deref.ensures, ← c.deref-in-loop-name.ensures.value) c.in_ok-put.ensures.put in
+    host-next front (deref_pair item) rest all c.loop-name.host c.put.new.self c.iter-name-items.ensures.ordered whole
+    c.loop-name.invariant put
     ∙ ap (λ es. record no_files { files = files_in es }) (sym (map-append deref_pair c.loop-name.yielded (item ∷ [])))

@@ -53,14 +53,18 @@ returns-then-not-begins_otherwise-clause-opened g c = λ seen may.
 pub returns-in_err-reader-clause-opened : goal.returns-in_err-reader-clause-opened
 returns-in_err-reader-clause-opened g c = λ seen may.
     let first = c.in_err-reader.ensures.earlier seen may in
-    opened_again seen c.args.name.now c.in-Err.why (left_by (g.H.Host.left_of c.open.new.host) seen) _ (g.H.Host.opens c.args.host.now) (g.H.Host.opens c.open.new.host) _ c.in-Err.ensures.counted c.in_err-reader.ensures.counted
-    (c.begins_otherwise.ensures.otherwise c.if-not-begins_otherwise.false) (c.in-Err.ensures.seen_gives seen first) (c.in-Err.ensures.seen_takes seen first)
+    opened_again seen c.args.name.now c.in-Err.why (left_by (g.H.Host.left_of c.open.new.host) seen) _
+    (g.H.Host.opens c.args.host.now) (g.H.Host.opens c.open.new.host) _ c.in-Err.ensures.counted c.in_err-reader.ensures.counted
+    (c.begins_otherwise.ensures.otherwise c.if-not-begins_otherwise.false)
+    (c.in-Err.ensures.seen_gives seen first) (c.in-Err.ensures.seen_takes seen first)
 
 pub returns-clause-opened : goal.returns-clause-opened
 returns-clause-opened g c = λ seen may.
     let first = c.in_ok-reader.ensures.earlier seen may in
-    opened_again seen c.args.name.now c.in-Err.why (left_by (g.H.Host.left_of c.open.new.host) seen) _ (g.H.Host.opens c.args.host.now) (g.H.Host.opens c.open.new.host) _ c.in-Err.ensures.counted c.in_ok-reader.ensures.counted
-    (c.begins_otherwise.ensures.otherwise c.if-not-begins_otherwise.false) (c.in-Err.ensures.seen_gives seen first) (c.in-Err.ensures.seen_takes seen first)
+    opened_again seen c.args.name.now c.in-Err.why (left_by (g.H.Host.left_of c.open.new.host) seen) _
+    (g.H.Host.opens c.args.host.now) (g.H.Host.opens c.open.new.host) _ c.in-Err.ensures.counted c.in_ok-reader.ensures.counted
+    (c.begins_otherwise.ensures.otherwise c.if-not-begins_otherwise.false)
+    (c.in-Err.ensures.seen_gives seen first) (c.in-Err.ensures.seen_takes seen first)
 
 -- where it didn't fail, the host counted nothing
 pub returns-then-not-begins_otherwise-clause-quiet : goal.returns-then-not-begins_otherwise-clause-quiet
