@@ -344,13 +344,8 @@ pub fn load<H: Host>(
     ensures places { LieInFiles result out.new }
 
     // The host is as before, but for its count.
-    ensures same { (H.contents host.new ≡ H.contents host.old) × (H.left host.new ≡ H.left host.old)
-        × (H.opens host.new ≡ H.opens host.old) }
-    ensures same_left { (files : Files) → H.left_of host.new files ≡ H.left_of host.old files }
-    ensures earlier { (seen : Option Files) → MaySee (H.contents host.new) (H.agrees host.new) seen
-        → MaySee (H.contents host.old) (H.agrees host.old) seen }
+    ensures only_loaded { OnlyLoaded H.Host host.old host.new }
     ensures quiet { UnlessHostFailed (H.faults host.new ≡ H.faults host.old) result }
-    ensures later { H.faults host.old ≤ H.faults host.new }
 {
     let first = match Text::copy(alloc, name.as_bytes()) {
         Ok(first) => first,
