@@ -87,7 +87,6 @@ fn show_setup<R: Threads + Sync>(
 }
 
 /// The setup of these words over any host, or why nothing is ready.
-#[tactic(auto, using(crate::proofs::Triable::all_triable))]
 fn ready_over<H: Host, M: PatternMaker>(
     alloc: Global,
     words: &SetupWords<'_>,

@@ -9,9 +9,9 @@ use Rattle.rule_parser.specs.declared.fault.RuleFault.{RuleFault}
 use Rattle.rule_parser.specs.declared.fault.RuleKind.TheVariants as kind
 use Rattle.rule_parser.specs.Faults.{plain}
 use Rattle.rule_types.specs.declared.rule.Rule.{Rule}
-use Rattle.snort_setup.specs.Rules.{Frame, RulesState, Verdict, RulesEnd, end_at, nothing_read, is_taken, most_rules, judged}
-use Rattle.snort_setup.specs.Rules.{is_among, LineGives, RulesGive, is_skippable, rule_warning, rule_error, with_warning}
-use Rattle.snort_setup.specs.Rules.{after_fault, after_line}
+use Rattle.snort_setup.specs.Rules.{Frame, RulesState, Verdict, RulesEnd, end_at, is_taken, most_rules, judged, is_among}
+use Rattle.snort_setup.specs.Rules.{LineGives, RulesGive, is_skippable, rule_warning, rule_error, with_warning, after_fault}
+use Rattle.snort_setup.specs.Rules.{after_line}
 use Rattle.snort_setup.specs.Lines.{RulesAnswer}
 
 -- ---- one line
@@ -87,5 +87,8 @@ lines-few frame refused place state (line ∷ rest) end few (verdict, gives, on)
     (λ after same given. lines-few frame refused (place + 1) after rest end (after-few frame line state after (is_among refused place) verdict gives few same) given)
     (λ message is. subst (λ (e : RulesEnd). length e.rules ≤ most_rules) (sym is) few) on
 
-pub answer-few : (frame : Frame) (lines : List Line) (warnings : List (List ℕ)) (grown : List Refusal) (end : RulesEnd) → RulesAnswer frame lines warnings grown end → length end.rules ≤ most_rules
-answer-few frame lines warnings grown end answer = lines-few frame answer.refused 0 (nothing_read warnings) lines end (omega arith) answer.gives
+pub answer-few : (frame : Frame) (lines : List Line) (start : RulesState) (grown : List Refusal) (end : RulesEnd)
+    → length start.rules ≤ most_rules
+    → RulesAnswer frame lines start grown end
+    → length end.rules ≤ most_rules
+answer-few frame lines start grown end few answer = lines-few frame answer.refused 0 start lines end few answer.gives

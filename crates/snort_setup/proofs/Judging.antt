@@ -6,6 +6,7 @@ use Rattle.std.proofs.Math.Seq.{drop-append_seam, drop-length}
 use Rattle.std.proofs.lemmas.Bool.{lt-ltb, le-ltb}
 use Rattle.edge_io.specs.declared.pattern.Refusal.{Refusal}
 use Rattle.edge_io.specs.declared.pattern.Span.{Span}
+use Rattle.conf_types.specs.declared.classes.Class.{Class}
 use Rattle.option_eval.specs.Places.{Means}
 use Rattle.option_eval.specs.RuleSet.{RefusesText, RefusesOneOf, Rules, SameMeaning, FindWhatIsMeant}
 use Rattle.rule_parser.specs.declared.fault.RuleFault.{RuleFault}
@@ -15,6 +16,7 @@ use Rattle.rule_types.specs.declared.option.Opt.TheVariants as opt
 use Rattle.rule_types.specs.declared.rule.Rule.{Rule}
 use Rattle.rule_parser.specs.Faults.{plain}
 use Rattle.snort_setup.specs.Rules.{is_taken, most_rules, judged}
+use Rattle.snort_setup.specs.Lines.{StayReady}
 use Rattle.snort_setup.specs.Steps.{refused_one, Grows, Refuses, IsAdded, IsJudged}
 
 -- ---- the maker
@@ -56,6 +58,18 @@ meant-later finds a b set same = subst (λ (means : Means). FindWhatIsMeant find
 
 pub meant-before : {P : Type 0} (finds : P → List ℕ → Option Span) (a b : Means) (set : Rules P) → SameMeaning a b → FindWhatIsMeant finds b set → FindWhatIsMeant finds a set
 meant-before finds a b set same = subst (λ (means : Means). FindWhatIsMeant finds means set) (sym (same-means a b same))
+
+-- what stays ready by two makers that mean the same
+pub ready-ready : {P : Type 0} (finds : P → List ℕ → Option Span) (means mid : Means) (classes : List Class)
+    (old now new : Rules P)
+    → SameMeaning means mid
+    → StayReady finds means classes old now
+    → StayReady finds mid classes now new
+    → StayReady finds means classes old new
+ready-ready finds means mid classes old now new same a b = record {
+  sound = λ sound. b.sound (a.sound sound);
+  meant = λ meant. meant-before finds means mid new same (b.meant (meant-later finds means mid now same (a.meant meant)));
+}
 
 -- ---- the rule
 

@@ -14,30 +14,31 @@ use Rattle.std.proofs.lemmas.List.Elements.{All-nil, All-cons, All-push, All-wea
 use Rattle.std.proofs.lemmas.List.Folds.{list_any-append, list_any_none}
 use Rattle.edge_io.specs.declared.pattern.Refusal.{Refusal}
 use Rattle.conf_parser.specs.declared.line.Line.{Line}
+use Rattle.option_eval.specs.Places.{Means}
 use Rattle.option_eval.specs.RuleSet.{RefusesText, RefusesOneOf}
 use Rattle.rule_types.specs.declared.option.Opt.{Opt}
 use Rattle.rule_types.specs.declared.option.Opt.TheVariants as opt
 use Rattle.rule_types.specs.declared.rule.Rule.{Rule}
-use Rattle.snort_setup.specs.Rules.{Frame, RulesState, RulesEnd, end_at, nothing_read, is_among, IsRule, LineGives, RulesGive, after_line}
+use Rattle.snort_setup.specs.Rules.{Frame, RulesState, RulesEnd, end_at, is_among, IsRule, LineGives, RulesGive, after_line}
 use Rattle.snort_setup.specs.Answers.{IsPattern, HasPatternOf, IsRefusedLine, AreRefused}
-use Rattle.snort_setup.specs.Steps.{refused_one, grown_by, Grows}
+use Rattle.snort_setup.specs.Steps.{refused_one, grown_by, Grows, OnlyMade}
 use Rattle.snort_setup.specs.Lines.{AsksOf, IsStep, StepGives, RulesAnswer}
 
 -- ---- the lines so far
 
-pub record SoFar (frame : Frame) (lines : List Line) (warnings : List (List ℕ)) (state : RulesState) (rest : List Line) (grown : List Refusal) : Type 0 where
+pub record SoFar (frame : Frame) (lines : List Line) (start : RulesState) (state : RulesState) (rest : List Line) (grown : List Refusal) : Type 0 where
   pub place : ℕ
   pub refused : List ℕ
   pub below : All (λ p. p < place) refused
   pub left : drop place lines ≡ rest
   pub goes : (later : List ℕ) → All (λ p. place ≤ p) later → (end : RulesEnd)
-      → RulesGive frame (refused ++ later) place state rest end → RulesGive frame (refused ++ later) 0 (nothing_read warnings) lines end
+      → RulesGive frame (refused ++ later) place state rest end → RulesGive frame (refused ++ later) 0 start lines end
   pub are_refused : AreRefused frame lines refused grown
 
 -- no line was read yet
-pub sofar-none : (frame : Frame) (lines : List Line) (warnings : List (List ℕ)) (state : RulesState) (grown : List Refusal) → state ≡ nothing_read warnings
-    → SoFar frame lines warnings state lines grown
-sofar-none frame lines warnings state grown same = record {
+pub sofar-none : (frame : Frame) (lines : List Line) (start : RulesState) (state : RulesState) (grown : List Refusal) → state ≡ start
+    → SoFar frame lines start state lines grown
+sofar-none frame lines start state grown same = record {
   place = 0;
   refused = [];
   below = All-nil (λ p. p < 0);
@@ -124,6 +125,13 @@ pub grows-grows : (first old new : List Refusal) → Grows first old → Grows o
 grows-grows first old new a b =
     b ∙ ap (λ xs. xs ++ grown_by old new) a ∙ append_assoc first (grown_by first old) (grown_by old new) ∙ ap (λ xs. first ++ xs) (sym (grown-grown first old new a b))
 
+-- what the maker did from one moment to another, and then to a third
+pub made-made : (means mid later : Means) (first old new : List Refusal) → OnlyMade means mid first old → OnlyMade mid later old new → OnlyMade means later first new
+made-made means mid later first old new a b = record {
+  same_meaning = λ text flags bytes. b.same_meaning text flags bytes ∙ a.same_meaning text flags bytes;
+  grows = grows-grows first old new a.grows b.grows;
+}
+
 -- ---- one line
 
 go-on : (before : RulesState) (r : Result RulesState (List ℕ)) (after : RulesState) (P : RulesState → Type 0) (Q : List ℕ → Type 0) → IsStep before r after None → P after → MatchResult r P Q
@@ -157,9 +165,9 @@ given-none frame all place state = refl
 
 -- ---- the lines so far and one more
 
-module _ (frame : Frame) (lines : List Line) (warnings : List (List ℕ)) (first old new : List Refusal) (before after : RulesState)
+module _ (frame : Frame) (lines : List Line) (start : RulesState) (first old new : List Refusal) (before after : RulesState)
     (line : Line) (rest : List Line) (grew_before : Grows first old) (grew : Grows old new)
-    (so : SoFar frame lines warnings before (line ∷ rest) (grown_by first old))
+    (so : SoFar frame lines start before (line ∷ rest) (grown_by first old))
     (asks : AsksOf frame before.names line.text old new) where
   at : (slice_get lines so.place ≡ Some line) × (drop (so.place + 1) lines ≡ rest)
   at = at-place so.place lines line rest so.left
@@ -215,7 +223,7 @@ module _ (frame : Frame) (lines : List Line) (warnings : List (List ℕ)) (first
         );
       }
 
-  onward-no : refused_one old new ≡ false → StepGives frame line before false after None → SoFar frame lines warnings after rest (grown_by first new)
+  onward-no : refused_one old new ≡ false → StepGives frame line before false after None → SoFar frame lines start after rest (grown_by first new)
   onward-no none step = record {
     place = so.place + 1;
     refused = so.refused;
@@ -226,7 +234,7 @@ module _ (frame : Frame) (lines : List Line) (warnings : List (List ℕ)) (first
     are_refused = kept;
   }
 
-  onward-yes : refused_one old new ≡ true → StepGives frame line before true after None → SoFar frame lines warnings after rest (grown_by first new)
+  onward-yes : refused_one old new ≡ true → StepGives frame line before true after None → SoFar frame lines start after rest (grown_by first new)
   onward-yes some step = record {
     place = so.place + 1;
     refused = so.refused ++ so.place ∷ [];
@@ -236,20 +244,20 @@ module _ (frame : Frame) (lines : List Line) (warnings : List (List ℕ)) (first
         let whole : RulesGive frame (so.refused ++ so.place ∷ later) (so.place + 1) after rest end = subst (λ all. RulesGive frame all (so.place + 1) after rest end) (same-all later) given in
         let on = given-on frame (so.refused ++ so.place ∷ later) so.place true before after line rest end (among-yes so.place so.refused later) step whole in
         let from = so.goes (so.place ∷ later) (All-cons (λ p. so.place ≤ p) so.place later (omega arith) (higher later above)) end on in
-        subst (λ all. RulesGive frame all 0 (nothing_read warnings) lines end) (sym (same-all later)) from;
+        subst (λ all. RulesGive frame all 0 start lines end) (sym (same-all later)) from;
     are_refused = one-more some;
   }
 
-  pub onward : StepGives frame line before (refused_one old new) after None → SoFar frame lines warnings after rest (grown_by first new)
+  pub onward : StepGives frame line before (refused_one old new) after None → SoFar frame lines start after rest (grown_by first new)
   onward step = go (refused_one old new) refl step where
-    go : (b : Bool) → refused_one old new ≡ b → StepGives frame line before b after None → SoFar frame lines warnings after rest (grown_by first new)
+    go : (b : Bool) → refused_one old new ≡ b → StepGives frame line before b after None → SoFar frame lines start after rest (grown_by first new)
     go false is s = onward-no is s
     go true is s = onward-yes is s
 
   stopped-no : (message : List ℕ)
       → refused_one old new ≡ false
       → StepGives frame line before false after (Some message)
-      → RulesAnswer frame lines warnings (grown_by first new) (end_at after (Some message))
+      → RulesAnswer frame lines start (grown_by first new) (end_at after (Some message))
   stopped-no message none step = record {
     refused = so.refused;
     are_refused = kept;
@@ -257,13 +265,13 @@ module _ (frame : Frame) (lines : List Line) (warnings : List (List ℕ)) (first
         let all = so.refused ++ [] in
         let last = given-stop frame all so.place false before after line rest message (among-no so.place so.refused [] so.below (All-nil (λ p. so.place + 1 ≤ p))) step in
         let from = so.goes [] (All-nil (λ p. so.place ≤ p)) (end_at after (Some message)) last in
-        subst (λ all. RulesGive frame all 0 (nothing_read warnings) lines (end_at after (Some message))) (append-nil so.refused) from;
+        subst (λ all. RulesGive frame all 0 start lines (end_at after (Some message))) (append-nil so.refused) from;
   }
 
   stopped-yes : (message : List ℕ)
       → refused_one old new ≡ true
       → StepGives frame line before true after (Some message)
-      → RulesAnswer frame lines warnings (grown_by first new) (end_at after (Some message))
+      → RulesAnswer frame lines start (grown_by first new) (end_at after (Some message))
   stopped-yes message some step = record {
     refused = so.refused ++ so.place ∷ [];
     are_refused = one-more some;
@@ -272,39 +280,36 @@ module _ (frame : Frame) (lines : List Line) (warnings : List (List ℕ)) (first
         so.goes (so.place ∷ []) (All-cons (λ p. so.place ≤ p) so.place [] (omega arith) (All-nil (λ p. so.place ≤ p))) (end_at after (Some message)) last;
   }
 
-  pub stopped : (message : List ℕ) → StepGives frame line before (refused_one old new) after (Some message) → RulesAnswer frame lines warnings (grown_by first new) (end_at after (Some message))
+  pub stopped : (message : List ℕ) → StepGives frame line before (refused_one old new) after (Some message) → RulesAnswer frame lines start (grown_by first new) (end_at after (Some message))
   stopped message step = go (refused_one old new) refl step where
-    go : (b : Bool) → refused_one old new ≡ b → StepGives frame line before b after (Some message) → RulesAnswer frame lines warnings (grown_by first new) (end_at after (Some message))
+    go : (b : Bool) → refused_one old new ≡ b → StepGives frame line before b after (Some message) → RulesAnswer frame lines start (grown_by first new) (end_at after (Some message))
     go false is s = stopped-no message is s
     go true is s = stopped-yes message is s
 
   -- by the error that there is, if there is one
-  pub onward-at : (refusal : Option (List ℕ)) → is_some refusal ≡ false → StepGives frame line before (refused_one old new) after refusal → SoFar frame lines warnings after rest (grown_by first new)
+  pub onward-at : (refusal : Option (List ℕ)) → is_some refusal ≡ false → StepGives frame line before (refused_one old new) after refusal → SoFar frame lines start after rest (grown_by first new)
   onward-at None none step = onward step
   onward-at (Some message) none step = absurd (false≢true (sym none))
 
   pub stopped-at : (refusal : Option (List ℕ))
       → is_some refusal ≡ true
       → StepGives frame line before (refused_one old new) after refusal
-      → RulesAnswer frame lines warnings (grown_by first new) (end_at after refusal)
+      → RulesAnswer frame lines start (grown_by first new) (end_at after refusal)
   stopped-at None is step = absurd (false≢true is)
   stopped-at (Some message) is step = stopped message step
 
 -- all lines were read
-pub finished : (frame : Frame) (lines : List Line) (warnings : List (List ℕ)) (state : RulesState) (grown : List Refusal)
-    → SoFar frame lines warnings state [] grown
-    → RulesAnswer frame lines warnings grown (end_at state None)
-finished frame lines warnings state grown so = record {
+pub finished : (frame : Frame) (lines : List Line) (start : RulesState) (state : RulesState) (grown : List Refusal)
+    → SoFar frame lines start state [] grown
+    → RulesAnswer frame lines start grown (end_at state None)
+finished frame lines start state grown so = record {
   refused = so.refused;
   are_refused = so.are_refused;
-  gives = subst (λ all. RulesGive frame all 0 (nothing_read warnings) lines (end_at state None)) (append-nil so.refused)
+  gives = subst (λ all. RulesGive frame all 0 start lines (end_at state None)) (append-nil so.refused)
       (so.goes [] (All-nil (λ p. so.place ≤ p)) (end_at state None) (given-none frame (so.refused ++ []) so.place state));
 }
 
-pub finished-at : (frame : Frame) (lines : List Line) (warnings : List (List ℕ)) (state : RulesState) (rest : List Line)
-    (grown : List Refusal)
-    → length rest ≡ 0
-    → SoFar frame lines warnings state rest grown
-    → RulesAnswer frame lines warnings grown (end_at state None)
-finished-at frame lines warnings state [] grown none so = finished frame lines warnings state grown so
-finished-at frame lines warnings state (line ∷ rest) grown none so = absurd (omega arith)
+pub finished-at : (frame : Frame) (lines : List Line) (start : RulesState) (state : RulesState) (rest : List Line) (grown : List Refusal) → length rest ≡ 0 → SoFar frame lines start state rest grown
+    → RulesAnswer frame lines start grown (end_at state None)
+finished-at frame lines start state [] grown none so = finished frame lines start state grown so
+finished-at frame lines start state (line ∷ rest) grown none so = absurd (omega arith)

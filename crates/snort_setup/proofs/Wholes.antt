@@ -58,9 +58,9 @@ module _ {A : Type 0} (view : A → Ruled) (words : Words) (skips : Bool)
     (same_skips : words.skips ≡ skips)
     (configured : Configured) (before : List (List ℕ)) (ended : Ended) (is : IsConfigured configured before ended)
     (grown : List Asked) where
-  module _ (end : RulesEnd) (answer : RulesAnswer (frame_of skips configured.vars configured.loaded) configured.loaded.rules before grown end) where
-    its : RulesAnswer (frame_of words.skips configured.vars configured.loaded) configured.loaded.rules before grown end
-    its = subst (λ s. RulesAnswer (frame_of s configured.vars configured.loaded) configured.loaded.rules before grown end) (sym same_skips) answer
+  module _ (end : RulesEnd) (answer : RulesAnswer (frame_of skips configured.vars configured.loaded) configured.loaded.rules (nothing_read before) grown end) where
+    its : RulesAnswer (frame_of words.skips configured.vars configured.loaded) configured.loaded.rules (nothing_read before) grown end
+    its = subst (λ s. RulesAnswer (frame_of s configured.vars configured.loaded) configured.loaded.rules (nothing_read before) grown end) (sym same_skips) answer
 
     refused_are : AreRefusedBy words ended its.refused grown
     refused_are = lines-refused words configured before its.refused grown ended is its.are_refused

@@ -1,15 +1,18 @@
 -- What the code gives over rule lines: one, and all.
-use Rattle.std.specs.Prelude.{◌≡◌, ℕ, Bool, List, [], Option, Some, None, Result, Ok, Err}
+use Rattle.std.specs.Prelude.{◌≡◌, ℕ, Bool, List, [], Option, Some, None, Result, Ok, Err, All}
 use Rattle.std.specs.Bool.{OnTrue}
 use Rattle.edge_io.specs.declared.pattern.Refusal.{Refusal}
+use Rattle.edge_io.specs.declared.pattern.Span.{Span}
+use Rattle.conf_types.specs.declared.classes.Class.{Class}
 use Rattle.conf_parser.specs.declared.line.Line.{Line}
-use Rattle.option_eval.specs.RuleSet.{RefusesOneOf}
+use Rattle.option_eval.specs.Places.{Means}
+use Rattle.option_eval.specs.RuleSet.{Rules, FindWhatIsMeant, RefusesOneOf}
 use Rattle.rule_parser.specs.declared.fault.RuleFault.{RuleFault}
 use Rattle.rule_types.specs.declared.rule.Rule.{Rule}
+use Rattle.rule_types.specs.Sound.{IsSound}
 use Rattle.snort_setup.specs.declared.rules.LinesIn as lines
 use Rattle.snort_setup.specs.declared.rules.Progress as progress
-use Rattle.snort_setup.specs.declared.rules.RulesEnd as ends
-use Rattle.snort_setup.specs.Rules.{Frame, RulesState, Verdict, RulesEnd, end_at, nothing_read, IsRule, LineGives, RulesGive, after_line, after_fault}
+use Rattle.snort_setup.specs.Rules.{Frame, RulesState, Verdict, RulesEnd, IsRule, LineGives, RulesGive, after_line, after_fault}
 use Rattle.snort_setup.specs.Answers.{AreRefused}
 use Rattle.snort_setup.specs.Steps.{refused_one, IsJudged}
 
@@ -26,12 +29,15 @@ lines_frame lines = record {
 abbrev pub state_of : {P : Type 0} → progress.Progress P → RulesState
 state_of progress = record { names = progress.names; rules = progress.accepted.rules; warnings = progress.warnings }
 
-abbrev pub end_of : {P : Type 0} → ends.RulesEnd P → RulesEnd
-end_of end = end_at (state_of end.progress) end.refusal
-
 -- what there is before the first line
 abbrev pub first_progress : {P : Type 0} → List (List ℕ) → progress.Progress P
 first_progress warnings = record { accepted = record { rules = []; patterns = [] }; names = []; warnings = warnings }
+
+-- accepted rules stay sound, and their patterns find what is meant
+pub record StayReady {P : Type 0} (finds : P → List ℕ → Option Span) (means : Means) (classes : List Class)
+    (old new : Rules P) : Type 0 where
+  pub sound : All (IsSound classes) old.rules → All (IsSound classes) new.rules
+  pub meant : FindWhatIsMeant finds means old → FindWhatIsMeant finds means new
 
 -- ---- one line
 
@@ -69,9 +75,9 @@ StepGives frame line before is_refused after refusal =
 
 -- ---- all lines
 
--- how all lines end, with those whose patterns the maker refused
-pub record RulesAnswer (frame : Frame) (lines : List Line) (warnings : List (List ℕ)) (grown : List Refusal)
-    (end : RulesEnd) : Type 0 where
+-- how all lines end, from what there is before them, with those whose patterns the maker refused
+pub record RulesAnswer (frame : Frame) (lines : List Line) (start : RulesState) (grown : List Refusal) (end : RulesEnd)
+    : Type 0 where
   pub refused : List ℕ
   pub are_refused : AreRefused frame lines refused grown
-  pub gives : RulesGive frame refused 0 (nothing_read warnings) lines end
+  pub gives : RulesGive frame refused 0 start lines end

@@ -4,7 +4,8 @@
 use Rattle.std.specs.Prelude.{◌≡◌, ◌++◌, Bool, true, false, List, [], ◌∷◌, Option, Some, None, Result, Ok, Err, length, drop, nat_lt}
 use Rattle.std.specs.Bool.{OnTrue}
 use Rattle.edge_io.specs.declared.pattern.Refusal.{Refusal}
-use Rattle.option_eval.specs.RuleSet.{RefusesOneOf}
+use Rattle.option_eval.specs.Places.{Means}
+use Rattle.option_eval.specs.RuleSet.{RefusesOneOf, SameMeaning}
 use Rattle.rule_parser.specs.declared.fault.RuleKind.{RuleKind}
 use Rattle.rule_parser.specs.declared.fault.RuleKind.TheVariants as kind
 use Rattle.rule_parser.specs.declared.fault.RuleFault.{RuleFault}
@@ -25,6 +26,11 @@ refused_one old new = nat_lt (length old) (length new)
 -- a maker's refusals only grow
 abbrev pub Grows : List Refusal → List Refusal → Type 0
 Grows old new = new ≡ old ++ grown_by old new
+
+-- a maker made some patterns: it means what it meant, and keeps what it refused
+pub record OnlyMade (means_old means_new : Means) (refused_old refused_new : List Refusal) : Type 0 where
+  pub same_meaning : SameMeaning means_old means_new
+  pub grows : Grows refused_old refused_new
 
 -- what a maker refused is one pattern of these options, or nothing
 abbrev pub Refuses : List Opt → List Refusal → List Refusal → Type 0

@@ -1,13 +1,11 @@
 //! The rule lines of a configuration, one after another.
-ghost use Rattle.std.specs.Prelude.{◌≡◌, ◌&&◌, false, All, IfOk, OnOk};
-ghost use Rattle.rule_types.specs.Sound.{IsSound};
-ghost use Rattle.option_eval.specs.RuleSet.{FindWhatIsMeant, SameMeaning};
+ghost use Rattle.std.specs.Prelude.{◌≡◌, ◌&&◌, false, IfOk, OnOk};
 ghost use Rattle.snort_setup.specs.Setup.{frame_of};
 ghost use Rattle.snort_setup.specs.Pieces.{reason_text};
 ghost use Rattle.snort_setup.specs.Texts.{shown_by};
-ghost use Rattle.snort_setup.specs.Rules.{fault_text, is_skippable};
-ghost use Rattle.snort_setup.specs.Lines.{state_of, end_of, lines_frame, IsRead, AsksOf, Skips, StepGives, RulesAnswer, first_progress};
-ghost use Rattle.snort_setup.specs.Steps.{is_memory, refused_one, grown_by, Grows};
+ghost use Rattle.snort_setup.specs.Rules.{end_at, fault_text, is_skippable};
+ghost use Rattle.snort_setup.specs.Lines.{state_of, lines_frame, IsRead, AsksOf, Skips, StayReady, StepGives, RulesAnswer, first_progress};
+ghost use Rattle.snort_setup.specs.Steps.{is_memory, refused_one, grown_by, OnlyMade};
 
 use crate::accepted::Accepted;
 use crate::message::{Reason, error_line, file_at, rule_reason, warning_line};
@@ -16,6 +14,7 @@ use edge_io::{Items, NoMemory, Pattern, PatternMaker, Text};
 use net_lists::Vars;
 use rule_parser::{BitNames, RuleFault, RuleKind, read_rule};
 use std::alloc::Global;
+use std::mem;
 
 /// What there is after some rule lines: the accepted rules, the names of flowbits, and all warnings.
 #[derive(Drop)]
@@ -23,13 +22,6 @@ pub(crate) struct Progress<P> {
     pub accepted: Accepted<P>,
     pub names: BitNames,
     pub warnings: Items<Text>,
-}
-
-/// How rule lines end: what there is after them, or after those before the one that is refused with this message.
-#[derive(Drop)]
-pub(crate) struct RulesEnd<P> {
-    pub progress: Progress<P>,
-    pub refusal: Option<Text>,
 }
 
 /// What all rule lines are read in.
@@ -81,53 +73,33 @@ fn line_fault(fault: RuleFault) -> Result<RuleFault, NoMemory>
     }
 }
 
-/// What there is after a line that is read: with its rule, or without it, and then the fault for which it is none.
+/// Reads a line, and takes its rule in; gives the fault for which it is none.
 #[tactic(auto, unfolding(crate::specs::Rules::LineGives))]
 fn read_line<M: PatternMaker>(
     alloc: Global,
     lines: &LinesIn<'_>,
-    progress: Progress<M::Made>,
+    progress: &mut Progress<M::Made>,
     maker: &mut M,
     text: &[u8],
-) -> Result<(Progress<M::Made>, Option<RuleFault>), NoMemory>
-    ensures read { IfOk result (λ after. IsRead (lines_frame lines.now) (state_of progress) text.now
-        (refused_one (M.refusals maker.old) (M.refusals maker.new)) (state_of after.0) after.1) }
-    ensures asks { IfOk result (λ _. AsksOf (lines_frame lines.now) progress.names text.now (M.refusals maker.old)
+) -> Result<Option<RuleFault>, NoMemory>
+    ensures read { IfOk result (IsRead (lines_frame lines.now) (state_of progress.old) text.now
+        (refused_one (M.refusals maker.old) (M.refusals maker.new)) (state_of progress.new)) }
+    ensures asks { IfOk result (λ _. AsksOf (lines_frame lines.now) progress.old.names text.now (M.refusals maker.old)
         (M.refusals maker.new)) }
-    ensures grows { Grows (M.refusals maker.old) (M.refusals maker.new) }
-    ensures sound { All (IsSound lines.now.classes.now) progress.accepted.rules
-        → IfOk result (λ after. All (IsSound lines.now.classes.now) after.0.accepted.rules) }
-    ensures meant { FindWhatIsMeant M.Made.finds (M.means maker.old) progress.accepted
-        → IfOk result (λ after. FindWhatIsMeant M.Made.finds (M.means maker.old) after.0.accepted) }
-    ensures same_meaning { SameMeaning (M.means maker.old) (M.means maker.new) }
+    ensures ready { IfOk result (λ _. StayReady M.Made.finds (M.means maker.old) lines.now.classes.now
+        progress.old.accepted progress.new.accepted) }
+    ensures only_made { OnlyMade (M.means maker.old) (M.means maker.new) (M.refusals maker.old) (M.refusals maker.new) }
 {
-    let Progress {
-        accepted,
-        mut names,
-        warnings,
-    } = progress;
-    match read_rule(alloc, text, lines.vars, lines.classes, &mut names) {
+    match read_rule(alloc, text, lines.vars, lines.classes, &mut progress.names) {
         Ok(rule) => {
-            let (accepted, fault) = accepted.judge(alloc, rule, maker)?;
-            Ok((
-                Progress {
-                    accepted,
-                    names,
-                    warnings,
-                },
-                fault,
-            ))
+            let before = mem::replace(&mut progress.accepted, Accepted::new(alloc));
+            let (accepted, fault) = before.judge(alloc, rule, maker)?;
+            progress.accepted = accepted;
+            Ok(fault)
         }
         Err(fault) => {
             let fault = line_fault(fault)?;
-            Ok((
-                Progress {
-                    accepted,
-                    names,
-                    warnings,
-                },
-                Some(fault),
-            ))
+            Ok(Some(fault))
         }
     }
 }
@@ -139,75 +111,55 @@ fn skips(lines: &LinesIn<'_>, kind: RuleKind) -> bool
     lines.skips && is_skippable(kind)
 }
 
-/// What there is after a line that is none for this fault: a warning more, or the end with an error.
+/// After a line that is none for this fault: a warning more, or the error that ends the setup.
 fn refused_line<P: Pattern>(
     alloc: Global,
     lines: &LinesIn<'_>,
-    progress: Progress<P>,
+    progress: &mut Progress<P>,
     line: &Line,
     fault: RuleFault,
-) -> Result<RulesEnd<P>, NoMemory>
-    ensures gives { IfOk result (λ end. Skips (lines_frame lines.now) line.now (state_of progress) fault
-        (state_of end.progress) end.refusal) }
-    ensures same_rules { IfOk result (λ end. end.progress.accepted ≡ progress.accepted) }
+) -> Result<Option<Text>, NoMemory>
+    ensures gives { IfOk result (Skips (lines_frame lines.now) line.now (state_of progress.old) fault
+        (state_of progress.new)) }
+    ensures same_rules { progress.new.accepted ≡ progress.old.accepted }
 {
     let file = file_at(lines.files, line.file);
     let reason = reason(line, fault);
     if !skips(lines, fault.kind) {
         let message = error_line(alloc, file, line.line, reason)?;
-        return Ok(RulesEnd {
-            progress,
-            refusal: Some(message),
-        });
+        return Ok(Some(message));
     }
-    let Progress {
-        accepted,
-        names,
-        mut warnings,
-    } = progress;
-    warnings.push(warning_line(alloc, file, line.line, reason)?)?;
-    Ok(RulesEnd {
-        progress: Progress {
-            accepted,
-            names,
-            warnings,
-        },
-        refusal: None,
-    })
+    let warning = warning_line(alloc, file, line.line, reason)?;
+    progress.warnings.push(warning)?;
+    Ok(None)
 }
 
-/// What there is after one line, and the error, if it ends there.
+/// Takes a line in; gives the error, if it ends the setup.
 #[tactic(auto, unfolding(crate::specs::Rules::after_line))]
 fn line_end<M: PatternMaker>(
     alloc: Global,
     lines: &LinesIn<'_>,
-    progress: Progress<M::Made>,
+    progress: &mut Progress<M::Made>,
     maker: &mut M,
     line: &Line,
-) -> Result<RulesEnd<M::Made>, NoMemory>
-    ensures gives { IfOk result (λ end. StepGives (lines_frame lines.now) line.now (state_of progress)
-        (refused_one (M.refusals maker.old) (M.refusals maker.new)) (state_of end.progress) end.refusal) }
-    ensures asks { IfOk result (λ _. AsksOf (lines_frame lines.now) progress.names line.now.text (M.refusals maker.old)
-        (M.refusals maker.new)) }
-    ensures grows { Grows (M.refusals maker.old) (M.refusals maker.new) }
-    ensures sound { All (IsSound lines.now.classes.now) progress.accepted.rules
-        → IfOk result (λ end. All (IsSound lines.now.classes.now) end.progress.accepted.rules) }
-    ensures meant { FindWhatIsMeant M.Made.finds (M.means maker.old) progress.accepted
-        → IfOk result (λ end. FindWhatIsMeant M.Made.finds (M.means maker.old) end.progress.accepted) }
-    ensures same_meaning { SameMeaning (M.means maker.old) (M.means maker.new) }
+) -> Result<Option<Text>, NoMemory>
+    ensures gives { IfOk result (StepGives (lines_frame lines.now) line.now (state_of progress.old)
+        (refused_one (M.refusals maker.old) (M.refusals maker.new)) (state_of progress.new)) }
+    ensures asks { IfOk result (λ _. AsksOf (lines_frame lines.now) progress.old.names line.now.text
+        (M.refusals maker.old) (M.refusals maker.new)) }
+    ensures ready { IfOk result (λ _. StayReady M.Made.finds (M.means maker.old) lines.now.classes.now
+        progress.old.accepted progress.new.accepted) }
+    ensures only_made { OnlyMade (M.means maker.old) (M.means maker.new) (M.refusals maker.old) (M.refusals maker.new) }
 {
-    let (progress, fault) = read_line(alloc, lines, progress, maker, line.text.bytes())?;
+    let fault = read_line(alloc, lines, progress, maker, line.text.bytes())?;
     match fault {
-        None => Ok(RulesEnd {
-            progress,
-            refusal: None,
-        }),
+        None => Ok(None),
         Some(fault) => Ok(refused_line(alloc, lines, progress, line, fault)?),
     }
 }
 
 /// What there is before the first line, after these warnings.
-fn first_progress<P: Pattern>(alloc: Global, warnings: Items<Text>) -> Progress<P>
+pub(crate) fn first_progress<P: Pattern>(alloc: Global, warnings: Items<Text>) -> Progress<P>
     ensures { result ≡ first_progress warnings }
 {
     Progress {
@@ -217,52 +169,46 @@ fn first_progress<P: Pattern>(alloc: Global, warnings: Items<Text>) -> Progress<
     }
 }
 
-/// What there is after all these lines, or after those before the first that is refused.
+/// Takes these lines in, or those before the first that is refused; gives its error.
 fn read_lines<M: PatternMaker>(
     alloc: Global,
     lines: &LinesIn<'_>,
     rules: &[Line],
-    warnings: Items<Text>,
+    progress: &mut Progress<M::Made>,
     maker: &mut M,
-) -> Result<RulesEnd<M::Made>, NoMemory>
-    ensures answer { IfOk result (λ end. RulesAnswer (lines_frame lines.now) rules.now warnings
-        (grown_by (M.refusals maker.old) (M.refusals maker.new)) (end_of end)) }
-    ensures grows { Grows (M.refusals maker.old) (M.refusals maker.new) }
-    ensures sound { IfOk result (λ end. All (IsSound lines.now.classes.now) end.progress.accepted.rules) }
-    ensures meant { IfOk result (λ end. FindWhatIsMeant M.Made.finds (M.means maker.old) end.progress.accepted) }
-    ensures same_meaning { SameMeaning (M.means maker.old) (M.means maker.new) }
+) -> Result<Option<Text>, NoMemory>
+    ensures answer { IfOk result (λ refusal. RulesAnswer (lines_frame lines.now) rules.now (state_of progress.old)
+        (grown_by (M.refusals maker.old) (M.refusals maker.new)) (end_at (state_of progress.new) refusal)) }
+    ensures ready { IfOk result (λ _. StayReady M.Made.finds (M.means maker.old) lines.now.classes.now
+        progress.old.accepted progress.new.accepted) }
+    ensures only_made { OnlyMade (M.means maker.old) (M.means maker.new) (M.refusals maker.old) (M.refusals maker.new) }
 {
-    let mut progress = first_progress(alloc, warnings);
     let mut rest = rules;
     'lines: while let Some((line, after)) = rest.split_first() {
-        let end = line_end(alloc, lines, progress, maker, line)?;
-        if end.refusal.is_some() {
-            return Ok(end);
+        let refusal = line_end(alloc, lines, progress, maker, line)?;
+        if refusal.is_some() {
+            return Ok(refusal);
         }
-        progress = end.progress;
         rest = after;
     }
-    Ok(RulesEnd {
-        progress,
-        refusal: None,
-    })
+    Ok(None)
 }
 
-/// Reads the rule lines of a configuration that was loaded, after its warnings.
+/// Takes the rule lines of a configuration that was loaded in; gives the error of the first that is refused.
 pub(crate) fn read_rules<M: PatternMaker>(
     alloc: Global,
     vars: &Vars,
     loaded: &Loaded,
     skips: bool,
-    warnings: Items<Text>,
+    progress: &mut Progress<M::Made>,
     maker: &mut M,
-) -> Result<RulesEnd<M::Made>, NoMemory>
-    ensures answer { IfOk result (λ end. RulesAnswer (frame_of skips vars.now loaded.now) loaded.now.rules warnings
-        (grown_by (M.refusals maker.old) (M.refusals maker.new)) (end_of end)) }
-    ensures grows { Grows (M.refusals maker.old) (M.refusals maker.new) }
-    ensures sound { IfOk result (λ end. All (IsSound loaded.now.config.classes) end.progress.accepted.rules) }
-    ensures meant { IfOk result (λ end. FindWhatIsMeant M.Made.finds (M.means maker.old) end.progress.accepted) }
-    ensures same_meaning { SameMeaning (M.means maker.old) (M.means maker.new) }
+) -> Result<Option<Text>, NoMemory>
+    ensures answer { IfOk result (λ refusal. RulesAnswer (frame_of skips vars.now loaded.now) loaded.now.rules
+        (state_of progress.old) (grown_by (M.refusals maker.old) (M.refusals maker.new))
+        (end_at (state_of progress.new) refusal)) }
+    ensures ready { IfOk result (λ _. StayReady M.Made.finds (M.means maker.old) loaded.now.config.classes
+        progress.old.accepted progress.new.accepted) }
+    ensures only_made { OnlyMade (M.means maker.old) (M.means maker.new) (M.refusals maker.old) (M.refusals maker.new) }
 {
     let lines = LinesIn {
         vars,
@@ -270,5 +216,5 @@ pub(crate) fn read_rules<M: PatternMaker>(
         files: loaded.files.as_slice(),
         skips,
     };
-    read_lines(alloc, &lines, loaded.rules.as_slice(), warnings, maker)
+    read_lines(alloc, &lines, loaded.rules.as_slice(), progress, maker)
 }

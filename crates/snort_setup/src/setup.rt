@@ -1,20 +1,18 @@
 //! The setup: configuration, rule lines and host table, in this order.
-ghost use Rattle.std.specs.Prelude.{◌≡◌, ◌≤◌, All, IfOk, IfErr, Some, length, Option};
-ghost use Rattle.edge_io.specs.Files.{Files, MaySee};
+ghost use Rattle.std.specs.Prelude.{◌≡◌, IfOk, IfErr, Some};
+ghost use Rattle.edge_io.specs.Files.{Files};
+ghost use Rattle.edge_io.specs.Frames.{OnlyLoaded};
 ghost use Rattle.edge_io.specs.Told.{Rose};
 ghost use Rattle.conf_types.specs.Sound as conf;
 ghost use Rattle.conf_parser.specs.Reading.{Ended};
-ghost use Rattle.rule_types.specs.Sound.{IsSound};
-ghost use Rattle.option_eval.specs.RuleSet.{FindWhatIsMeant, SameMeaning};
 ghost use Rattle.snort_setup.specs.Words.{words_of, Words, HasName};
-ghost use Rattle.snort_setup.specs.Rules.{most_rules};
 ghost use Rattle.snort_setup.specs.Answers.{SetsUp, HasCause, HasOneSetup, OnReadyOrRefused};
 ghost use Rattle.snort_setup.specs.Stages.{IsConfigured};
-ghost use Rattle.snort_setup.specs.Whole.{RuledGives, IsRulesStop, ruled_of, ready_of};
-ghost use Rattle.snort_setup.specs.Steps.{grown_by, Grows};
+ghost use Rattle.snort_setup.specs.Whole.{AreReady, IsReadySetup, RuledGives, IsRulesStop, ruled_of, ready_of};
+ghost use Rattle.snort_setup.specs.Steps.{grown_by, OnlyMade};
 
 use crate::conf::{Configured, read_conf};
-use crate::rules::{Progress, RulesEnd, read_rules};
+use crate::rules::{Progress, first_progress, read_rules};
 use crate::stop::SetupStop;
 use crate::table::read_table;
 use crate::words::SetupWords;
@@ -52,17 +50,13 @@ fn read_ruled<M: PatternMaker>(
     ensures gives { (words : Words) → words.skips ≡ skips → (ended : Ended) → IsConfigured configured warnings.old ended
         → RuledGives ruled_of words ended (grown_by (M.refusals maker.old) (M.refusals maker.new)) result warnings.new }
     ensures kind { IfErr result IsRulesStop }
-    ensures grows { Grows (M.refusals maker.old) (M.refusals maker.new) }
-    ensures config { IfOk result (λ ruled. conf.IsSound ruled.config) }
-    ensures rules { IfOk result (λ ruled. All (IsSound ruled.config.classes) ruled.set.rules) }
-    ensures few { IfOk result (λ ruled. length ruled.set.rules ≤ most_rules) }
-    ensures meant { IfOk result (λ ruled. FindWhatIsMeant M.Made.finds (M.means maker.old) ruled.set) }
-    ensures same_meaning { SameMeaning (M.means maker.old) (M.means maker.new) }
+    ensures ready { IfOk result (λ ruled. AreReady M.Made.finds (M.means maker.old) ruled.config ruled.set) }
+    ensures only_made { OnlyMade (M.means maker.old) (M.means maker.new) (M.refusals maker.old) (M.refusals maker.new) }
 {
     let Configured { vars, loaded } = configured;
     let before = mem::replace(warnings, Items::new(alloc));
-    let end = read_rules(alloc, &vars, &loaded, skips, before, maker)?;
-    let RulesEnd { progress, refusal } = end;
+    let mut progress = first_progress(alloc, before);
+    let refusal = read_rules(alloc, &vars, &loaded, skips, &mut progress, maker)?;
     let Progress {
         accepted,
         names: _,
@@ -105,21 +99,12 @@ pub fn read_setup<H: Host, M: PatternMaker>(
     ensures cause { IfErr result (HasCause (Rose (H.faults host.old) (H.faults host.new)) (H.contents host.old)) }
 
     // What is ready is sound, with at most 65536 rules, and its patterns find what they mean.
-    ensures config { IfOk result (λ setup. conf.IsSound setup.config) }
-    ensures rules { IfOk result (λ setup. All (IsSound setup.config.classes) setup.set.rules) }
-    ensures few { IfOk result (λ setup. length setup.set.rules ≤ most_rules) }
-    ensures meant { IfOk result (λ setup. FindWhatIsMeant M.Made.finds (M.means maker.old) setup.set) }
+    ensures ready { IfOk result (IsReadySetup M.Made.finds (M.means maker.old)) }
 
     // The host is as before, but for its count, and the maker but for what it refused.
-    ensures same { (H.contents host.new ≡ H.contents host.old)
-        × (H.left host.new ≡ H.left host.old) × (H.opens host.new ≡ H.opens host.old) }
-    ensures same_left { (files : Files) → H.left_of host.new files ≡ H.left_of host.old files }
-    ensures earlier { (seen : Option Files) → MaySee (H.contents host.new) (H.agrees host.new) seen
-        → MaySee (H.contents host.old) (H.agrees host.old) seen }
+    ensures only_loaded { OnlyLoaded H.Host host.old host.new }
     ensures quiet { OnReadyOrRefused (H.faults host.new ≡ H.faults host.old) result }
-    ensures later { H.faults host.old ≤ H.faults host.new }
-    ensures grows { Grows (M.refusals maker.old) (M.refusals maker.new) }
-    ensures same_meaning { SameMeaning (M.means maker.old) (M.means maker.new) }
+    ensures only_made { OnlyMade (M.means maker.old) (M.means maker.new) (M.refusals maker.old) (M.refusals maker.new) }
 {
     let configured = read_conf(alloc, words, host, warnings)?;
     let ruled = read_ruled(alloc, words.skip_refused, configured, maker, warnings)?;

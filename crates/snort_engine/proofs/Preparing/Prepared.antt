@@ -1,11 +1,8 @@
 -- What is known before a capture is opened, from what the words and the setup gave.
-use Rattle.std.proofs.Common.{◌≡◌, ℕ, ◌≤◌, Bool, true, false, List, [], Option, Some, None, Result, Ok, Err, length, refl, sym, ap, subst, ◌∙◌, arith, inl, inr, ⊎_elim}
-use Rattle.std.specs.Prelude.{All, IfOk, IfErr, IsSome, if◌then◌else◌}
+use Rattle.std.proofs.Common.{◌≡◌, ℕ, Bool, true, false, List, [], Option, Some, None, Result, Ok, Err, length, refl, sym, ap, subst, ◌∙◌, arith, inl, inr, ⊎_elim}
+use Rattle.std.specs.Prelude.{IfOk, IfErr, IsSome, if◌then◌else◌}
 use Rattle.edge_io.specs.declared.pattern.Span.{Span}
 use Rattle.option_eval.specs.Places.{Means}
-use Rattle.option_eval.specs.RuleSet.{FindWhatIsMeant}
-use Rattle.conf_types.specs.Sound as conf
-use Rattle.rule_types.specs.Sound.{IsSound}
 use Rattle.std.specs.Option.{option_map, option_map_or}
 use Rattle.packet_decode.specs.declared.checks.Checks.{Checks}
 use Rattle.std.specs.FinMap.{get}
@@ -19,10 +16,9 @@ use Rattle.snort_setup.specs.declared.setup.Setup.{Setup}
 use Rattle.snort_setup.specs.declared.stop.SetupStop.{SetupStop}
 use Rattle.snort_setup.specs.declared.stop.SetupStop.TheVariants as halted
 use Rattle.snort_setup.specs.Words.{Words}
-use Rattle.snort_setup.specs.Rules.{most_rules}
 use Rattle.snort_setup.specs.Setup.{Refused, Lacks, Ready, Warned, warned, IsSetup, conf_read}
 use Rattle.snort_setup.specs.Answers.{AreRefusedBy, Gives, HasCause as HasSetupCause}
-use Rattle.snort_setup.specs.Whole.{ready_of}
+use Rattle.snort_setup.specs.Whole.{IsReadySetup, ready_of}
 use Rattle.snort_setup.proofs.One.{setup-one}
 use Rattle.snort_engine.specs.declared.plan.Plan as code
 use Rattle.snort_engine.specs.declared.prepare.Task.TheVariants.{Show, Tell}
@@ -39,8 +35,7 @@ use Rattle.snort_engine.specs.Steps.Detecting.{IsRanged}
 use Rattle.snort_engine.specs.Messages.{usage_text, version_text, accepted_text, command_line_text, cannot_read_text}
 use Rattle.snort_engine.specs.Steps.Stop.{is_uncut, setup_stop, stop_status, stop_text}
 use Rattle.snort_engine.specs.Steps.Preparing.{HasWay, stops, way_by, Prepares, StopsFileless, HasEarlyCauses, IsPrepared}
-use Rattle.snort_engine.specs.Steps.Preparing.{IsReadyPlan, IsReadySetup, IsSetUp, KeepsSetup, HasCause, ListsFile, task_way}
-use Rattle.snort_engine.specs.Steps.Preparing.{way_for, told_of}
+use Rattle.snort_engine.specs.Steps.Preparing.{IsReadyPlan, IsSetUp, KeepsSetup, HasCause, ListsFile, task_way, way_for, told_of}
 use Rattle.snort_engine.proofs.Courses.FileWays.{file_way-one}
 
 -- what maps to nothing is nothing
@@ -364,15 +359,6 @@ pub kept_early : {P : Type 0} (host : Option Files) (old new : ℕ) (setup : Set
 kept_early host old new setup answer kept same = record { cause = kept_cause (Rose old new) host setup answer kept; quiet = λ uncut. same }
 
 -- ---- a detector that is ready
-
-pub ready_setup : {P : Type 0} (finds : P → List ℕ → Option Span) (means : Means) (answer : Result (Setup P) SetupStop)
-    → IfOk answer (λ setup. conf.IsSound setup.config)
-    → IfOk answer (λ setup. All (IsSound setup.config.classes) setup.set.rules)
-    → IfOk answer (λ setup. length setup.set.rules ≤ most_rules)
-    → IfOk answer (λ setup. FindWhatIsMeant finds means setup.set)
-    → IfOk answer (IsReadySetup finds means)
-ready_setup finds means (Ok setup) config rules few meant = record { config = config; rules = rules; few = few; meant = meant }
-ready_setup finds means (Err why) config rules few meant = tt
 
 -- the plan keeps its setup, and its numbers are those of the words
 pub kept_ready : {P : Type 0} (finds : P → List ℕ → Option Span) (means : Means) (setup : Setup P) (answer : Result (code.Plan P) Stop) (lanes flush : ℕ) → KeepsSetup setup answer

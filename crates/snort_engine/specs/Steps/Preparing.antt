@@ -2,7 +2,7 @@
 --
 -- To try it on: where `r` has one rule, `snort -c r -r p` is prepared with the plan for `p` and that rule,
 -- and no warning; `snort -c r -T` stops as Accepted; `snort --read-unified2 u` is to tell the lines of `u`.
-use Rattle.std.specs.Prelude.{◌≡◌, ℕ, ◌≤◌, ⊤, List, [], length, All, Option, None, Result, Ok, Err, IfErr, ◌⊎◌}
+use Rattle.std.specs.Prelude.{◌≡◌, ℕ, ⊤, List, [], Option, None, Result, Ok, Err, IfErr, ◌⊎◌}
 use Rattle.std.specs.FinMap.{get}
 use Rattle.edge_io.specs.Files.{Files, Lacks}
 use Rattle.edge_io.specs.Told.{Rose}
@@ -12,18 +12,14 @@ use Rattle.unified2_out.specs.Reading.{IsBadAt}
 use Rattle.edge_io.specs.declared.pattern.Refusal.{Refusal}
 use Rattle.edge_io.specs.declared.pattern.Span.{Span}
 use Rattle.option_eval.specs.Places.{Means}
-use Rattle.option_eval.specs.RuleSet.{FindWhatIsMeant, SameMeaning}
-use Rattle.conf_types.specs.Sound as conf
-use Rattle.rule_types.specs.Sound.{IsSound}
+use Rattle.option_eval.specs.RuleSet.{FindWhatIsMeant}
 use Rattle.command_words.specs.CommandLine.{Asked, Run}
 use Rattle.rule_eval.specs.Hits.{Test}
 use Rattle.snort_setup.specs.declared.setup.Setup.{Setup}
 use Rattle.snort_setup.specs.declared.stop.SetupStop.{SetupStop}
 use Rattle.snort_setup.specs.declared.stop.SetupStop.TheVariants as halted
 use Rattle.snort_setup.specs.Answers.{SetsUp}
-use Rattle.snort_setup.specs.Rules.{most_rules}
 use Rattle.snort_setup.specs.Setup.{Ready}
-use Rattle.snort_setup.specs.Steps.{Grows}
 use Rattle.snort_engine.specs.declared.plan.Plan as code
 use Rattle.snort_engine.specs.declared.prepare.Task.{Task}
 use Rattle.snort_engine.specs.declared.prepare.Task.TheVariants.{Show, Tell}
@@ -113,22 +109,10 @@ KeepsSetup setup (Err why) = ⊥
 
 -- ---- a detector that is ready
 
--- a setup is sound, has no more rules than it may have, and its patterns find what the maker means
-pub record IsReadySetup {P : Type 0} (finds : P → List ℕ → Option Span) (means : Means) (setup : Setup P) : Type 0 where
-  pub config : conf.IsSound setup.config
-  pub rules : All (IsSound setup.config.classes) setup.set.rules
-  pub few : length setup.set.rules ≤ most_rules
-  pub meant : FindWhatIsMeant finds means setup.set
-
 -- a plan is sound, and its patterns find what the maker means
 pub record IsReadyPlan {P : Type 0} (finds : P → List ℕ → Option Span) (means : Means) (plan : code.Plan P) : Type 0 where
   pub sound : IsSoundPlan plan
   pub meant : FindWhatIsMeant finds means plan.setup.set
-
--- a maker made some patterns: it means what it meant, and keeps what it refused
-pub record OnlyMade (means_old means_new : Means) (refused_old refused_new : List Refusal) : Type 0 where
-  pub same_meaning : SameMeaning means_old means_new
-  pub grows : Grows refused_old refused_new
 
 -- ---- its causes
 

@@ -1,6 +1,5 @@
 -- What `read_setup` gives is the setup of the words that `setup_words` takes over, and the warnings that are told are
 -- those that `told_of` leaves.
-use Rattle.snort_engine.proofs.Preparing.Prepared.{ready_setup}
 use Rattle.snort_engine.proofs.prepare.set_up.Goals as goal
 
 pub returns-clause-set_up : goal.returns-clause-set_up
@@ -9,8 +8,3 @@ returns-clause-set_up g c = λ files agree. record {
   sets_up = rw c.setup_words.ensures at (c.read_setup-outcome.ensures.agreed files agree);
   told_are = c.told_of.ensures;
 }
-
-pub returns-clause-ready : goal.returns-clause-ready
-returns-clause-ready g c =
-    let read = c.read_setup-outcome.ensures in
-    ready_setup _ _ c.read_setup-outcome.result read.config read.rules read.few read.meant

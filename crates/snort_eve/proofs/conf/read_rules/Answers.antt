@@ -12,4 +12,4 @@ returns-clause-given g c files a =
     (rw c.setup_words.ensures at (c.read_setup.ensures.agreed files a))
 
 pub returns-clause-earlier : goal.returns-clause-earlier
-returns-clause-earlier g c files a = c.read_setup.ensures.earlier (Some files) a
+returns-clause-earlier g c files a = c.read_setup.ensures.only_loaded.earlier (Some files) a

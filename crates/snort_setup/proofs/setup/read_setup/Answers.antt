@@ -37,8 +37,11 @@ returns-in_err-hosts-clause-one g c = setup-one
 pub returns-clause-one : goal.returns-clause-one
 returns-clause-one g c = setup-one
 
-pub returns-in_err-configured-clause-grows : goal.returns-in_err-configured-clause-grows
-returns-in_err-configured-clause-grows g c = grows-none (g.M.PatternMaker.refusals c.args.maker.now) (g.M.PatternMaker.refusals c.args.maker.now) refl
+pub returns-in_err-configured-clause-only_made : goal.returns-in_err-configured-clause-only_made
+returns-in_err-configured-clause-only_made g c = record {
+  same_meaning = λ text flags bytes. refl;
+  grows = grows-none (g.M.PatternMaker.refusals c.args.maker.now) (g.M.PatternMaker.refusals c.args.maker.now) refl;
+}
 
 pub returns-in_err-ruled-clause-agreed : goal.returns-in_err-ruled-clause-agreed
 returns-in_err-ruled-clause-agreed g c = λ files agree.
