@@ -81,8 +81,8 @@ fn state_at_begin(
 
 /// A session that the packet begins takes its place.
 // Kept out of the line of the other packets, which otherwise pay for its moves. Bases are set in its place: a session that
-// is lent before it has its place is made elsewhere, and moved. What stands there leaves first: where nothing is known to
-// stand, there is no code that drops it.
+// is lent before it has its place is made elsewhere, and moved. What was there leaves first: where nothing is known to
+// be there, there is no code that drops it.
 #[inline(never)]
 fn begin(
     alloc: Global,
@@ -107,7 +107,7 @@ fn begin(
     }
 }
 
-/// The session that stands is let go.
+/// The session at hand is let go.
 // One copy of what is done for all that a session held.
 #[inline(never)]
 fn let_go(found: &mut Option<FlowState>)

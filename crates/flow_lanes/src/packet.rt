@@ -224,7 +224,7 @@ impl Flow {
         Ok(tally)
     }
 
-    /// The first packet of the flow, as `packet` does it: no session stands that it could leave as it is.
+    /// The first packet of the flow, as `packet` does it: there is no session yet that it could leave as it is.
     pub fn begin<P: Pattern, L: Ledger>(
         &mut self,
         inspector: &Inspector<'_, P>,
