@@ -1,11 +1,11 @@
 """Alerts as they are read back: from alert lines, or from Unified2 records. Used by eve and report.
 
-A line is that of docs/manual/events.md, with the year that Snort's `-y` writes behind the day, or without:
+A line is that of docs/manual/events.md, with the year that Snort's `-y` writes after the day, or without:
 
     MM/DD[/YY]-HH:MM:SS.uuuuuu  [**] [gid:sid:rev] msg [**] [Classification: text] [Priority: n] {PROTOCOL} from -> to
 
-What stands in `msg` may look like the rest of a line, so the rest is taken from the end. Records are those of
-docs/manual/unified2.md: an event, of kind 7 or 72, and the packet behind it, of kind 2. Other kinds are passed over.
+What is in `msg` may look like the rest of a line, so the rest is taken from the end. Records are those of
+docs/manual/unified2.md: an event, of kind 7 or 72, and the packet after it, of kind 2. Other kinds are passed over.
 """
 import argparse, calendar, contextlib, datetime, functools, os, re, socket, struct, sys
 from collections import namedtuple
@@ -50,11 +50,11 @@ def latest_year(month, day, today):
             return year
     raise ValueError
 
-def year_behind(before, month, day):
-    """The year of a date that comes behind another one, in which times may run back.
+def year_after(before, month, day):
+    """The year of a date that comes after another one, in which times may run back.
 
     A date that is more than half a year earlier in the year is in the next one, and one that is more than eleven months
-    later in the one before, since so long a capture has no alert in between more seldom than times run back.
+    later in the one before, since a capture without an alert for that long is rarer than times that run back.
     """
     ahead = (datetime.date(2000, month, day) - before.replace(year=2000)).days
     return before.year + (ahead < -183) - (ahead > 335)
@@ -62,9 +62,9 @@ def year_behind(before, month, day):
 class Years:
     """The dates of the lines of a file, which have no year.
 
-    The first one has the year that is asked for; else that in which it comes behind a date that is known, that of a capture's
+    The first one has the year that is asked for; else that in which it comes after a date that is known, that of a capture's
     first record; else the latest one in which it isn't after today, a guess of which `tell` hears. Each further one comes
-    behind the one before. A line with a year of its own has that.
+    after the one before. A line with a year of its own has that.
     """
     def __init__(self, asked=None, known=None, tell=lambda year: None):
         self.asked, self.before, self.tell = asked, known, tell
@@ -72,7 +72,7 @@ class Years:
 
     def year_of(self, month, day):
         if self.before:
-            return year_behind(self.before, month, day)
+            return year_after(self.before, month, day)
         if self.asked:
             return self.asked
         return latest_year(month, day, datetime.datetime.now(datetime.timezone.utc).date())
@@ -94,7 +94,7 @@ class Years:
         return calendar.timegm(date.timetuple())
 
     def second_of(self, text):
-        """The second that stands ahead of a line."""
+        """The second that is ahead of a line."""
         if text != self.text:
             if not (found := SECOND.fullmatch(text)):
                 raise Wrong("no alert line")
@@ -124,7 +124,7 @@ def usual_address(data):
 def ends(source, target, has_ports):
     """Both ends of a line, as address, port, address, port.
 
-    A port stands behind a colon, also that of an address of version 6: what can be read as an address and a port is read so.
+    A port follows a colon, also that of an address of version 6: what can be read as an address and a port is read so.
     """
     pair = [PORT.match(it) for it in (source, target)] if has_ports else [None]
     if all(it and packed(it[1]) and int(it[2]) < 65536 for it in pair):
@@ -162,7 +162,7 @@ def ends_part(text):
 def alert_of_line(line, years):
     """The alert of a line, without what ends it."""
     stamp, _, rest = line.partition(STARS)
-    middle = rest.rfind(b"] {") + 1  # of what is behind it nothing may look like this
+    middle = rest.rfind(b"] {") + 1  # of what is after it nothing may look like this
     second, _, micro = stamp.partition(b".")
     if not middle or len(micro) != 6 or not micro.isdigit():
         raise Wrong("no alert line")
@@ -263,7 +263,7 @@ class Words(argparse.ArgumentParser):
         sys.exit(f"{message}\n{self.usage}")
 
     def asked(self):
-        """The words of the command, files and others in any order; behind `--` all are files."""
+        """The words of the command, files and others in any order; after `--` all are files."""
         words = sys.argv[1:]
         end = words.index("--") if "--" in words else len(words)
         if any(map(NO_VALUE.fullmatch, words[:end])):  # argparse drops it

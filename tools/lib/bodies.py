@@ -1,7 +1,7 @@
-"""The wrong bodies of the crates: where they stand, how they are read, and on which files their refusal rests.
+"""The wrong bodies of the crates: where they are, how they are read, and on which files their refusal rests.
 
 A body is a file NAME.edit of the form that `rt help` gives: a line 'file: src/NAME.rt', then pairs of lines 'old: TEXT' and
-'new: TEXT'. `rt ci` tries those of a crate's folder must-fail. Those of must-fail-more stand beside it, since the kit counts
+'new: TEXT'. `rt ci` tries those of a crate's folder must-fail. Those of must-fail-more are beside it, since the kit counts
 each other file below must-fail as a bad one.
 """
 import functools, hashlib, os, re
@@ -34,7 +34,7 @@ def crates_of(top):
     return {name: (line, [it for it in used if it in lines]) for name, (line, used) in lines.items()}
 
 def below(crates, name):
-    """All crates that a crate stands on."""
+    """All crates below a crate."""
     found = list(crates[name][1])
     for it in found:
         found += [low for low in crates[it][1] if low not in found]
@@ -50,7 +50,7 @@ def bodies_of(top, crate, folders=(GATE, MORE)):
     return found
 
 def unread(top, crate):
-    """The files of the two folders that are no bodies; a page may stand there."""
+    """The files of the two folders that are no bodies; a page may be there."""
     found = []
     for folder in (GATE, MORE):
         for at, _, names in os.walk(f"{top}/crates/{crate}/{folder}"):
@@ -69,7 +69,7 @@ def edited(text, folder):
         if not colon or key not in ("file", "old", "new"):
             return texts, f"a line begins with none of 'file: ', 'old: ', 'new: ': {line[:60]}"
         if old is not None and key != "new":
-            return texts, "an 'old:' line has no 'new:' line behind it"
+            return texts, "an 'old:' line has no 'new:' line after it"
         if key == "file":
             path, old = rest.strip(), None
             if not path.startswith("src/") or os.path.normpath(path) != path:
@@ -89,7 +89,7 @@ def edited(text, folder):
         else:
             texts[path], old = texts[path].replace(old, rest), None
     if old is not None:
-        return texts, "an 'old:' line has no 'new:' line behind it"
+        return texts, "an 'old:' line has no 'new:' line after it"
     return texts, None if texts != was else "it changes nothing"
 
 def sum_of(*parts):
@@ -127,7 +127,7 @@ def faults(top):
             if body.folder == GATE:
                 in_gate[crate] = in_gate.get(crate, 0) + 1
     if sum(in_gate.values()) > MOST:
-        found.append(f"{sum(in_gate.values())} bodies stand in {GATE}, and at most {MOST} may: move some to {MORE}")
+        found.append(f"{sum(in_gate.values())} bodies are in {GATE}, and at most {MOST} may: move some to {MORE}")
     if len(in_gate) > MOST_CRATES:
         found.append(f"{len(in_gate)} crates have bodies in {GATE}, and at most {MOST_CRATES} may: move those of some to {MORE}")
     return found

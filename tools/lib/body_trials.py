@@ -31,7 +31,7 @@ def copy_kept(source, target):
             shutil.rmtree(target, ignore_errors=True)
 
 class Written:
-    """A written proof, of which entries can be taken out: comments stand round each such entry, and an edit makes one comment of
+    """A written proof, of which entries can be taken out: comments are round each such entry, and an edit makes one comment of
     the two and what is between them, so that no line moves."""
     def __init__(self, text):
         self.lines, self.marks = text.split("\n"), {}
@@ -60,7 +60,7 @@ class Written:
         """The proof with its comments."""
         lines = [*self.lines]
         for name, (before, last) in self.marks.items():
-            lines[last] += f" {{- behind {name} -}}"
+            lines[last] += f" {{- after {name} -}}"
             lines[before] += f" {{- before {name} -}}"
         return "\n".join(lines)
 
@@ -76,7 +76,7 @@ class Written:
             if use and len(kept) < use[2].count(",") + 1:
                 found.append((line, use[1] + ",".join(kept).strip() + "}" if kept else ""))
         for name in names:
-            found += [(f"{{- before {name} -}}", "{-"), (f"{{- behind {name} -}}", "-}")]
+            found += [(f"{{- before {name} -}}", "{-"), (f"{{- after {name} -}}", "-}")]
         return "".join(f"old: {old}\nnew: {new}\n" for old, new in found)
 
 class Trial:
@@ -157,7 +157,7 @@ class Trial:
 
     def read(self, log):
         """Takes what rt said of each body."""
-        said = {it["body"]: (it["text"], behind) for it, behind in lines_said(log) if it["crate"] == self.crate}
+        said = {it["body"]: (it["text"], after) for it, after in lines_said(log) if it["crate"] == self.crate}
         last = log.rstrip().split("\n")[-1][:160] or "nothing"
         for name in self.left():
             answer, where = answer_of(*said.get(name, (f"{NOT_TRIED}: rt did not come to it; it said: {last}", [])))
@@ -205,7 +205,7 @@ class Trial:
         shutil.rmtree(self.tree, ignore_errors=True)
 
 def lines_said(log):
-    """What rt said of each body, with the lines behind it that belong to it."""
+    """What rt said of each body, with the lines after it that belong to it."""
     lines, found = log.split("\n"), []
     for line in lines:
         it = SAID.match(line)
@@ -215,7 +215,7 @@ def lines_said(log):
             found[-1][1].append(line)
     return found
 
-def answer_of(text, behind):
+def answer_of(text, after):
     """The answer that rt gave for a body, and the place or the reason that it gave."""
     refusal = REFUSAL.match(text)
     if refusal:
@@ -223,7 +223,7 @@ def answer_of(text, behind):
         return {None: REFUSED, "by a limit": LIMIT}.get(only, PROOF), refusal["where"] or "no place is told"
     for answer in (MISSED, BAD, NOT_TRIED):
         if text.startswith(answer):
-            more = next((it.strip() for it in behind if "error" in it), "")
+            more = next((it.strip() for it in after if "error" in it), "")
             return answer, (text[len(answer):].lstrip(": ") + (f" {more}" if more else ""))[:300]
     return NOT_TRIED, f"rt said something else: {text[:160]}"
 

@@ -11,7 +11,7 @@ class Failed(Exception):
     """What the browser or a script of the page says of a fault."""
 
 class Browser:
-    """One page of a browser; messages are JSON, with a byte 0 behind each."""
+    """One page of a browser; messages are JSON, with a byte 0 after each."""
     def __init__(self, width=1280, height=900):
         self.profile, self.count, self.kept, self.events = tempfile.mkdtemp(), 0, b"", []
         (to_read, self.to), (self.answers, to_write) = os.pipe(), os.pipe()
@@ -72,7 +72,7 @@ class Browser:
         self.call("Emulation.setEmulatedMedia", features=[{"name": "prefers-color-scheme", "value": "dark" if dark else "light"}])
 
     def open(self, path, hash=""):
-        """Opens a file, by way of an empty page, so that another part behind # is another page too."""
+        """Opens a file, by way of an empty page, so that another part after # is another page too."""
         for address in ("about:blank", f"file://{path}{hash}"):
             self.events = [it for it in self.events if it.get("method") != "Page.loadEventFired"]
             self.call("Page.navigate", url=address)

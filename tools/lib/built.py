@@ -1,4 +1,4 @@
-"""Programs that this checkout builds: their crates, where they stand, and whether a source is newer. Used by build, package."""
+"""Programs that this checkout builds: their crates, where they are, and whether a source is newer. Used by build, package."""
 import os
 
 TOP = os.path.dirname(os.path.dirname(os.path.dirname(os.path.realpath(__file__))))
@@ -22,7 +22,7 @@ def crates_of(programs):
     return {name: used for name, (_, used) in lines.items() if name in found}
 
 def path_of(program):
-    """Where a program stands once it is built."""
+    """Where a program is once it is built."""
     return f"{TOP}/crates/{program}/out/{program}"
 
 def sources_of(program):

@@ -1,6 +1,6 @@
 """The command words of snort and of snort_eve, each in a table, and what completes them in bash and zsh. Used by package.
 
-A word is an option, which takes a value, or a flag, which takes none; each may stand once. What a word is about is said on the
+A word is an option, which takes a value, or a flag, which takes none; each may be given once. What a word is about is said on the
 manual's pages, command-words.md and snort_eve.md in docs/manual; the ranges and the order are those of the crates command_words
 and snort_eve.
 """
@@ -33,7 +33,7 @@ WORDS = (
     Word("--unified2", "write Unified2 records instead of lines"),
     Word("--help", "show the usage"),
 )
-# Words that stand beside no other, and pairs that are refused together.
+# Words that go with no other, and pairs that are refused together.
 ALONE = ("--read-unified2", "-V", "--help")
 APART = (("-r", "--generate"),)
 
@@ -50,7 +50,7 @@ EVE_WORDS = (
     Word("--help", "show the usage"),
 )
 EVE_APART = (("--lines", "--unified2"), ("--year", "--capture"))
-# The words of a program; which stand alone, and which apart; and whether names of files may stand between them.
+# The words of a program; which go alone, and which apart; and whether names of files may come between them.
 Command = namedtuple("Command", "words alone apart has_files")
 COMMANDS = {"snort": Command(WORDS, ALONE, APART, False), "snort_eve": Command(EVE_WORDS, ("--help",), EVE_APART, True)}
 
@@ -63,7 +63,7 @@ def is_told(option):
 
 BASH = r"""# bash completion of @name@'s command words. It needs no other file.
 
-# Sets `waits` to the option that waits for its value behind a word, and adds the word's options and flags to `given`.
+# Sets `waits` to the option that waits for its value after a word, and adds the word's options and flags to `given`.
 _@name@_read() {
     local letters=${1#-} letter
     waits=
@@ -83,7 +83,7 @@ _@name@_read() {
     esac
 }
 
-# The options and flags that may stand beside those that are given.
+# The options and flags that may go with those that are given.
 _@name@_offered() {
     local word offered=" @words@ "
     [ ${#given[@]} -eq 0 ] || offered=" @beside@ "
@@ -100,7 +100,7 @@ _@name@() {
     local word=${COMP_WORDS[COMP_CWORD]} waits= given=() at
     COMPREPLY=()
     for ((at = 1; at < COMP_CWORD; at++)); do
-        # Between an option and its value `=` may stand, a word of its own here.
+        # Between an option and its value `=` may come, a word of its own here.
         if [ "${COMP_WORDS[at]}" = = ]; then continue; fi
         if [ -n "$waits" ]; then waits=; else _@name@_read "${COMP_WORDS[at]}"; fi
     done

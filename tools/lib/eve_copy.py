@@ -39,7 +39,7 @@ def is_reader_gone():
     poll.register(sys.stdout.fileno(), 0)
     return any(event & (select.POLLERR | select.POLLHUP) for _, event in poll.poll(0))
 
-# Whole lines, how many stand ahead of them, and the date of the last one of these.
+# Whole lines, how many are ahead of them, and the date of the last one of these.
 Block = collections.namedtuple("Block", "lines count before")
 
 class Lines:
@@ -65,7 +65,7 @@ class Lines:
         return year if year in YEARS else None
 
     def read_lines(self):
-        """Further whole lines; the bytes behind the last line feed at the end, and then none."""
+        """Further whole lines; the bytes after the last line feed at the end, and then none."""
         while piece := self.file.read1(PIECE):
             lines, feed, rest = piece.rpartition(b"\n")
             lines, self.rest = self.rest + lines + feed if feed else b"", rest if feed else self.rest + rest
@@ -105,7 +105,7 @@ class Lines:
         return lines
 
     def left(self, number):
-        """The lines from this number on, once those ahead of it were alerts; `years` is as it is behind these."""
+        """The lines from this number on, once those ahead of it were alerts; `years` is as it is after these."""
         while len(self.kept) > 1 and self.kept[1].count < number:
             self.kept.popleft()
         lines = self.kept[0].lines.split(b"\n")

@@ -27,16 +27,16 @@ def payload_of(random):
 
 # --- Packets
 
-def behind_ip(random, protocol, own_icmp):
-    """The bytes behind the IP headers, and their payload."""
+def after_ip(random, protocol, own_icmp):
+    """The bytes after the IP headers, and their payload."""
     payload = payload_of(random)
     if protocol == TCP:
         options = random.randbytes(4 * random.randrange(11))
         offset = (20 + len(options)) // 4 << 4 | random.randrange(16)
         return random.randbytes(12) + bytes([offset]) + random.randbytes(7) + options + payload, payload
     if protocol == UDP:
-        behind = random.randbytes(random.choice((0, 0, 3)))
-        return random.randbytes(4) + struct.pack(">H", 8 + len(payload)) + random.randbytes(2) + payload + behind, payload
+        after = random.randbytes(random.choice((0, 0, 3)))
+        return random.randbytes(4) + struct.pack(">H", 8 + len(payload)) + random.randbytes(2) + payload + after, payload
     if protocol == own_icmp:
         return random.randbytes(8) + payload, payload
     return payload, payload
@@ -46,7 +46,7 @@ def fragmentation(random):
     return random.choice(((1, 0), (0, random.randrange(1, 8192)), (1, random.randrange(1, 8192))))
 
 def version_4(random, protocol, is_fragment):
-    body, payload = behind_ip(random, protocol, ICMP)
+    body, payload = after_ip(random, protocol, ICMP)
     if is_fragment:
         payload = body
     options = random.randbytes(4 * random.choice((0, 0, 0, random.randrange(11))))
@@ -57,7 +57,7 @@ def version_4(random, protocol, is_fragment):
     return head + options + body, payload
 
 def version_6(random, protocol, is_fragment):
-    body, payload = behind_ip(random, protocol, ICMP6)
+    body, payload = after_ip(random, protocol, ICMP6)
     if is_fragment:
         payload = body
         more, offset = fragmentation(random)
@@ -70,7 +70,7 @@ def version_6(random, protocol, is_fragment):
     return head + random.randbytes(33) + body, payload
 
 def framed(random, link, data):
-    """A packet behind its link header, with bytes behind it that belong to none."""
+    """A packet after its link header, with bytes after it that belong to none."""
     kind = b"\x08\0" if data[0] >> 4 == 4 else b"\x86\xdd"
     tags = b"".join(b"\x81\0" + random.randbytes(2) for _ in range(random.choice((0, 0, 1, 2))))
     front = {ETHERNET: random.randbytes(12) + tags + kind, COOKED: random.randbytes(14) + tags + kind, RAW: b""}[link]
@@ -135,19 +135,19 @@ def another(mark, random):
     at = random.randrange(3)
     return tuple(it ^ (place == at) << random.randrange(32) for place, it in enumerate(mark))
 
-def records_behind(random, mark):
-    """What stands behind an event, and the packet of it that is its own, or None."""
-    behind, own = [], None
+def records_after(random, mark):
+    """What follows an event, and the packet of it that is its own, or None."""
+    after, own = [], None
     while random.random() < 0.2:
-        behind.append(record_of(random.choice((0, 3, 104, 110, 2**32 - 1)), random.randbytes(random.randrange(40))))
+        after.append(record_of(random.choice((0, 3, 104, 110, 2**32 - 1)), random.randbytes(random.randrange(40))))
     if random.random() < 0.1:
-        behind.append(packet_record(another(mark, random), packet_of(random), random))
+        after.append(packet_record(another(mark, random), packet_of(random), random))
     if random.random() < 0.8:
         own = packet_of(random)
-        behind.append(packet_record(mark, own, random))
+        after.append(packet_record(mark, own, random))
         if random.random() < 0.1:
-            behind.append(packet_record(mark, packet_of(random), random))
-    return behind, own
+            after.append(packet_record(mark, packet_of(random), random))
+    return after, own
 
 def rule_fields(is_blocked, gid, sid, rev, place, priority):
     return {"action": "blocked" if is_blocked else "allowed", "gid": gid, "signature_id": sid, "rev": rev, "signature": "",
@@ -161,7 +161,7 @@ def packet_fields(packet):
     return {**fields, "packet": b64encode(packet.data).decode(), "packet_info": {"linktype": packet.link}}
 
 def flow_fields(protocol, ends, pair, seed):
-    """The fields of a flow, and the identifier of it that stands behind them."""
+    """The fields of a flow, and the identifier of it that comes after them."""
     has_ports, has_icmp = pair and protocol in (TCP, UDP), pair and protocol in (ICMP, ICMP6)
     sport, dport = pair if has_ports else (None, None)
     number, community = flow_ids.ids_of(protocol, ends[0], sport, ends[1], dport, pair if has_icmp else None, seed)
@@ -182,17 +182,17 @@ def event(random, seed, more):
     flags = random.randbytes(2) + bytes([random.choice((0, 0, 1, 1, 2, 255))])
     body = struct.pack(">9I", sensor, number, second, micro, sid, gid, rev, place, priority) + source + target
     body += struct.pack(">2HB", *pair, protocol) + flags
-    behind, packet = records_behind(random, (sensor, number, second))
+    after, packet = records_after(random, (sensor, number, second))
     is_known = any(pair) or packet is not None and packet.payload is not None and not packet.is_fragment
     moment = EPOCH + timedelta(microseconds=second * 10**6 + micro)
     fields = {"timestamp": f"{moment:%Y-%m-%dT%H:%M:%S}.{moment.microsecond:06}+0000",
               **flow_fields(protocol, (source_text, target_text), pair if is_known else None, seed.to_bytes(2, "big")),
               "alert": rule_fields(flags[2] == 1, gid, sid, rev, place, priority),
               **(packet_fields(packet) if packet else {}), **more}
-    return b"".join((record_of(kind, body), *behind)), fields
+    return b"".join((record_of(kind, body), *after)), fields
 
 def events(random, count, seed=0, more=()):
-    """So many events, each its records and the fields of its line."""
+    """That many events, each its records and the fields of its line."""
     return (event(random, seed, dict(more)) for _ in range(count))
 
 # --- Alert lines
@@ -236,7 +236,7 @@ def line_event(random, moment, seed, more):
                   **flow_fields(protocol, texts, pair, seed.to_bytes(2, "big")), "alert": rule, **more}
 
 def line_events(random, count, year, seed=0, more=()):
-    """So many lines, the first of this year, each with the fields of its record."""
+    """That many lines, the first of this year, each with the fields of its record."""
     moment = datetime(year, 2, 28, 23, 59, 59)
     for _ in range(count):
         yield line_event(random, moment.replace(microsecond=random.randrange(10**6)), seed, dict(more))

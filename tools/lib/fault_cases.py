@@ -61,7 +61,7 @@ def block(kind, body):  # of pcapng: padded to four bytes, its length on both si
 SECTION, INTERFACE, STATISTICS, ENHANCED = 0x0A0D0D0A, 1, 5, 6
 
 def pcapng(packets):
-    """One interface of Ethernet, whose times are microseconds, and a block behind each packet that is passed over."""
+    """One interface of Ethernet, whose times are microseconds, and a block after each packet that is passed over."""
     blocks = [block(SECTION, struct.pack("<IHHq", 0x1A2B3C4D, 1, 0, -1)), block(INTERFACE, struct.pack("<HHI", 1, 0, 65535))]
     for moment, packet in enumerate(packets):
         upper, lower = divmod(moment * 10**6, 2**32)
@@ -198,11 +198,11 @@ EVE_PACKET = f',"payload_printable":"abc","packet":"{b64encode(FRAME).decode()}"
 ALONE, WITH_PACKET = ((EVE % ("", it)).encode() for it in ("", EVE_PACKET))
 
 def eve_file(count):
-    """So many events with their packets, and one without, which waits for its packet until the end."""
+    """That many events with their packets, and one without, which waits for its packet until the end."""
     return count * (EVENT + PACKET) + EVENT, [(2 * it + 1, WITH_PACKET) for it in range(count)] + [(END, ALONE)]
 
 def eve_case(name, *counts, cut=0):
-    """A case of snort_eve over such files, of which the last one lacks so many bytes, and so its last event."""
+    """A case of snort_eve over such files, of which the last one lacks that many bytes, and so its last event."""
     made = [eve_file(it) for it in counts]
     files = {f"f{place}": records for place, (records, _) in enumerate(made)}
     lines = [(f"f{place}", *line) for place, (_, lines) in enumerate(made) for line in lines]
@@ -211,7 +211,7 @@ def eve_case(name, *counts, cut=0):
     return Case(name, " ".join(files), files, lines, 2 if cut else 0, False, None, "snort_eve")
 
 def eve_lines(name, *counts, last=b"", capture=None):
-    """A case of snort_eve over files of so many alert lines, the last file with what is no whole one.
+    """A case of snort_eve over files of that many alert lines, the last file with what is no whole one.
 
     Their year is that of a capture, if one is given, which is read before them.
     """

@@ -16,7 +16,7 @@ ASKED = {ICMP: {8: 0, 13: 14, 15: 16, 17: 18, 10: 9}, ICMP6: {128: 129, 133: 134
 PAIRED = {protocol: {**asked, **{answer: it for it, answer in asked.items()}} for protocol, asked in ASKED.items()}
 
 def hash_of(seed, source, target, protocol, here=0, there=0, has_pair=True, is_one_way=False):
-    """The hash of a flow with two ports, or what stands in their place, or without."""
+    """The hash of a flow with two ports, or what is in their place, or without."""
     first, second = packed(source), packed(target)
     if (second, there) < (first, here) and not is_one_way:
         first, second, here, there = second, first, there, here

@@ -35,7 +35,7 @@ def rule(number, size):
     return front + b"m" * (size - len(front) - 4) + b'";)\n'
 
 def nested(lines, count):
-    """Some lines cut into so many files, each of which includes the next one."""
+    """Some lines cut into that many files, each of which includes the next one."""
     share, out = -(-len(lines) // count), {}
     for at in range(count):
         name = "conf" if at == 0 else f"part{at}"

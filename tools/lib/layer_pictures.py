@@ -30,7 +30,7 @@ def page():
         return file.read()
 
 def wrapped(text, most):
-    """The lines of a text, of at most so many letters."""
+    """The lines of a text, of at most that many letters."""
     lines = [""]
     for word in text.split():
         if len(lines[-1]) + len(word) >= most:

@@ -4,13 +4,13 @@ What the pages say stays as it is: headings, paragraphs, lists, tables and examp
 link becomes its text, in italics. A table's first column becomes the tags of a list. ./snort is called snort here, and rows
 of tables that are about the launcher of that name, or about what no package has, are left out.
 
-A script's help says in its first sentence what it does. Its lines in front of which blanks stand stay lines, and the first
+A script's help says in its first sentence what it does. Its lines that begin with blanks stay lines, and the first
 such block that begins with the script's name is how it is called. So do lists with columns. What else it says are paragraphs.
 """
 import re, textwrap
 from collections import namedtuple
 
-# The heads of a page, each with the sections below it: a page, and a heading there, "" for what stands in front of the
+# The heads of a page, each with the sections below it: a page, and a heading there, "" for what is in front of the
 # first one. A section has all that is below it.
 WORDS, START, EVE = "docs/manual/command-words.md", "docs/manual/getting-started.md", "docs/manual/snort_eve.md"
 PARTS = (
@@ -82,7 +82,7 @@ def cells(row):
     return [it.strip().replace(r"\|", "|") for it in re.split(r"(?<!\\)\|", row)[1:-1]]
 
 def table(rows):
-    """A list whose tags are the first column. What a column of a value or a message has comes behind the rest."""
+    """A list whose tags are the first column. What a column of a value or a message has comes after the rest."""
     head, *rows = [cells(it) for it in rows if not re.fullmatch(r"\|[-|]+", it) and not any(part in it for part in NOT_HERE)]
     out = []
     for row in rows:
@@ -137,7 +137,7 @@ def requests(kind, lines):
     return paragraph(" ".join(lines))
 
 def synopsis(lines):
-    """The commands of an example that shows them, without what stands behind each."""
+    """The commands of an example that shows them, without what follows each."""
     out = []
     for text in lines:
         words = USAGE.fullmatch(text)[1].replace("[options]", r"[\fIoptions\fR]").split(" ")
@@ -159,7 +159,7 @@ def help_blocks(text):
 def first_sentence(text):
     return re.split(r"(?<=\.) ", text, maxsplit=1)
 
-def script_page(name, text, version, date, behind):
+def script_page(name, text, version, date, after):
     """The man page of a script that is called so, of its help."""
     blocks = [it for it in help_blocks(text) if not it[1][0].startswith("usage:")]
     if not blocks or blocks[0][0]:
@@ -174,12 +174,12 @@ def script_page(name, text, version, date, behind):
     for is_code, lines in [(False, rest), *blocks[1:]]:
         if lines and lines != usage:
             out += example(lines) if is_code else paragraph(" ".join(lines))
-    for head, texts in behind:
+    for head, texts in after:
         out += [f".SH {head}", *(it for text in texts for it in paragraph(text))]
     return joined(out)
 
 def joined(lines):
-    """The page of its lines. A paragraph begins behind a heading by itself."""
+    """The page of its lines. A paragraph begins after a heading by itself."""
     return "\n".join(it for before, it in zip(["", *lines], lines)
                      if not (it == ".PP" and before.startswith((".SH", ".SS")))) + "\n"
 
@@ -188,8 +188,8 @@ def about(top, name):
     with open(f"{top}/{PAGES[name].words}", encoding="utf-8") as file:
         return file.readline().strip().removeprefix(f"# {name}: ")
 
-def page(top, about, version, date, behind, name="snort"):
-    """The man page of a program, of the manual below a folder: what it is about, heads with paragraphs behind the manual's."""
+def page(top, about, version, date, after, name="snort"):
+    """The man page of a program, of the manual below a folder: what it is about, heads with paragraphs after the manual's."""
     part, kind, words, parts = PAGES[name]
     usage = next(lines for kind, lines in blocks(section(top, words, "")) if kind == "example")
     out = [rf'.TH {plain(name.upper())} {part} {date} "{plain(version)}" "{kind}"', ".SH NAME",
@@ -200,6 +200,6 @@ def page(top, about, version, date, behind, name="snort"):
             if heading and len(sections) > 1 and heading.upper() != head:
                 out.append(f".SS {plain(re.sub(r'^[0-9]+[.] ', '', heading))}")
             out += [it for kind, lines in blocks(section(top, file, heading)) if lines != usage for it in requests(kind, lines)]
-    for head, texts in behind:
+    for head, texts in after:
         out += [f".SH {head}", *(it for text in texts for it in paragraph(text))]
     return joined(out)

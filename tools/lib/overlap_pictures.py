@@ -27,13 +27,13 @@ def bounds(segment):
     return Bounds(segment.start, end(segment))
 
 def kept(policy, segments, place):
-    """The number of the segment whose byte stands at a place, in the order of arrival; None where none covers it."""
-    stands = None
+    """The number of the segment whose byte holds a place, in the order of arrival; None where none covers it."""
+    holder = None
     for number, segment in enumerate(segments):
         if segment.start <= place < end(segment):
-            if stands is None or WINS[policy](bounds(segments[stands]), bounds(segment)):
-                stands = number
-    return stands
+            if holder is None or WINS[policy](bounds(segments[holder]), bounds(segment)):
+                holder = number
+    return holder
 
 def pairs():
     """Two segments in the nine ways in which they may lie, and what each policy keeps."""
@@ -47,8 +47,8 @@ def pairs():
     picture.text(left + 15, 51, "came first", "faint")
     picture.bar(left + 84, 42, 10, 10, "s1")
     picture.text(left + 99, 51, "came second", "faint")
-    starts = [(2, "begins before"), (4, "begins with it"), (6, "begins behind")]
-    ends = [(8, "ends before"), (10, "ends with it"), (12, "ends behind")]
+    starts = [(2, "begins before"), (4, "begins with it"), (6, "begins after")]
+    ends = [(8, "ends before"), (10, "ends with it"), (12, "ends after")]
     ways = [(Segment(start, "2" * (stop - start)), f"{begins}, {ending}") for start, begins in starts for stop, ending in ends]
     for number, (new, words) in enumerate(ways):
         y = top + number * row

@@ -1,4 +1,4 @@
-"""What stands ahead of the payload in the bytes of a record, as the program reads it. Used by alerts, eve, report and carve.
+"""What is ahead of the payload in the bytes of a record, as the program reads it. Used by alerts, eve, report and carve.
 
 Ethernet with at most two 802.1Q tags, Linux cooked and raw IP; IPv4, and IPv6 with at most eight extension headers
 (RFC 791, section 3.1; RFC 8200, section 4); ports of TCP and UDP, type and code of ICMP. No checksum is verified, and a packet
@@ -8,7 +8,7 @@ and its lengths agree, as the program wants it of a packet that it reads.
 from collections import namedtuple
 
 # Addresses are bytes. `fragment` is None, or what the parts of a datagram have alike, and the offset; then the payload is all
-# behind the IP header. `pair` is both ports, or type and code of ICMP; None where the record doesn't have them.
+# after the IP header. `pair` is both ports, or type and code of ICMP; None where the record doesn't have them.
 Heads = namedtuple("Heads", "source target protocol fragment pair payload is_whole")
 TCP, UDP, ICMP, ICMP6, FRAGMENT = 6, 17, 1, 58, 44
 WITH_LENGTH = 0, 43, 60  # extension headers that have a length of their own
@@ -38,7 +38,7 @@ def pair_of(protocol, data):
         return data[0], data[1]
     return None
 
-def behind_transport(protocol, data):
+def after_transport(protocol, data):
     """The payload of a packet that is no fragment."""
     if protocol == TCP and len(data) >= 20:
         return data[4 * (data[12] >> 4):] if data[12] >> 4 >= 5 else b""
@@ -49,7 +49,7 @@ def behind_transport(protocol, data):
     return data
 
 def has_transport(protocol, data):
-    """Whether the bytes behind the IP headers have the header of their protocol, and it names no more than these."""
+    """Whether the bytes after the IP headers have the header of their protocol, and it names no more than these."""
     if protocol == TCP:
         return len(data) >= 20 and 20 <= 4 * (data[12] >> 4) <= len(data)
     if protocol == UDP:
@@ -61,7 +61,7 @@ def whole_or_part(source, target, protocol, foreign, part, body, is_there):
     own = None if protocol == foreign else protocol
     if part is None:
         is_whole = is_there and has_transport(own, body)
-        return Heads(source, target, protocol, None, pair_of(own, body), behind_transport(own, body), is_whole)
+        return Heads(source, target, protocol, None, pair_of(own, body), after_transport(own, body), is_whole)
     return Heads(source, target, protocol, part, None if part[1] else pair_of(own, body), body, is_there)
 
 def heads_of_4(data):
@@ -98,7 +98,7 @@ def heads_of_6(data):
     found = whole_or_part(source, target, protocol, ICMP, part, data[at:], is_there)
     if part[1] or protocol not in WITH_LENGTH:
         return found
-    upper, begin, _ = walk(data, protocol, at)  # further headers stand in the first part of a datagram
+    upper, begin, _ = walk(data, protocol, at)  # further headers are in the first part of a datagram
     return found._replace(protocol=upper, pair=pair_of(None if upper == ICMP else upper, data[begin:]))
 
 def heads_of(link, data):

@@ -8,8 +8,8 @@ A packet is a kind, its two ends, fields and a payload; all but the kind may be 
     ip   10.0.0.1 > 10.0.0.2             protocol=17 id=7 offset=8 more "second part"
     udp  [2001:db8::1]:1000 > [2001:db8::2]:53  ttl=3 "over IPv6"
 
-A payload is quoted text with pairs of hex digits between bars, as in a rule's content; `*n` behind it repeats it, and
-several of them stand one behind another. Fields of all kinds: ttl, tos, id, df, reserved, more, offset (in bytes, of a
+A payload is quoted text with pairs of hex digits between bars, as in a rule's content; `*n` after it repeats it, and
+several of them come one after another. Fields of all kinds: ttl, tos, id, df, reserved, more, offset (in bytes, of a
 fragment), protocol (of `ip`), badsum (a wrong checksum). Of `tcp`: flags (letters FSRPAUEC), seq, ack, window. Of `icmp`:
 type, code, icmp_id, icmp_seq. `->` between the ends is the same as `>`.
 """
@@ -22,8 +22,8 @@ NUMBERS = {"ttl": 64, "tos": 0, "id": 1, "offset": 0, "protocol": None, "seq": 0
 MOST = {"ttl": 255, "tos": 255, "id": 2**32 - 1, "offset": 65528, "protocol": 255, "seq": 2**32 - 1, "ack": 2**32 - 1,
         "window": 65535, "type": 255, "code": 255, "icmp_id": 65535, "icmp_seq": 65535}
 MARKS = ("df", "reserved", "more", "badsum")
-HEADS = {"udp": 8, "tcp": 20, "icmp": 8, "ip": 0}  # bytes of the header behind that of IP
-LONGEST = 65535  # bytes behind the IP header of version 6, and with it in version 4
+HEADS = {"udp": 8, "tcp": 20, "icmp": 8, "ip": 0}  # bytes of the header after that of IP
+LONGEST = 65535  # bytes after the IP header of version 6, and with it in version 4
 END = re.compile(r"(?:\[([0-9a-fA-F:.]+)\]|([0-9.]+))(?::(\d+))?\Z")
 PART = re.compile(r'"((?:[^"\\]|\\.)*)"(?:\*(\d+))?|(\S+)')
 
@@ -133,7 +133,7 @@ def repeated(text, times):
     return data * int(times or 1)
 
 def packet(text, data=b""):
-    """The frame of a packet's text, and of a payload behind the one that is written in it."""
+    """The frame of a packet's text, and of a payload after the one that is written in it."""
     source, target = "10.0.0.1:1000", "10.0.0.2:2000"
     kind, rest = [*text.split(None, 1), "", ""][:2]
     if kind not in PROTOCOLS:

@@ -1,6 +1,6 @@
 """Pages of the manual as HTML, by pandoc, else by Python's markdown, and the search of the index. Used by package.
 
-Each page stands beside the one that it was made of, so that links to pictures and files stay as they are; one to a page of the
+Each page is beside the one that it was made of, so that links to pictures and files stay as they are; one to a page of the
 same set leads to its HTML. Headings have the anchors that GitHub gives them, which the links go by.
 """
 import html, os, re, shutil, subprocess
@@ -26,11 +26,11 @@ def pandoc(texts):
 
 def python_markdown(texts):
     import markdown
-    # A list may stand right behind a paragraph, and a bar in code of a table has a backslash, as on GitHub.
-    behind = re.compile(r"^(?!- |\s|$)(.*)\n(?=- )", re.M)
+    # A list may come right after a paragraph, and a bar in code of a table has a backslash, as on GitHub.
+    followed = re.compile(r"^(?!- |\s|$)(.*)\n(?=- )", re.M)
     def one(text):
         parts = re.split(r"(^```.*?^```$)", text, flags=re.M | re.S)
-        text = "".join(it if at % 2 else behind.sub(r"\1\n\n", it) for at, it in enumerate(parts))
+        text = "".join(it if at % 2 else followed.sub(r"\1\n\n", it) for at, it in enumerate(parts))
         out = markdown.markdown(text, extensions=["tables", "fenced_code", "sane_lists"], output_format="html")
         return re.sub(r"<td.*?</td>", lambda it: it[0].replace("\\|", "|"), out, flags=re.S)
     return [one(it) for it in texts]

@@ -1,4 +1,4 @@
-"""The style and the frame of the page that report makes. What stands between @ is put in by report."""
+"""The style and the frame of the page that report makes. What is between @ is put in by report."""
 STYLE = r"""
 @light@
 @media (prefers-color-scheme:dark){@dark@}

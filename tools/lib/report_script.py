@@ -4,7 +4,7 @@ SCRIPT = r"""
 const data = JSON.parse(document.getElementById("data").textContent)
 const [MARK, MSG, CLASS, PRIORITY, TEXT, WHERE] = [0, 1, 2, 3, 4, 5]
 const MOST_SHOWN = 300000  // a browser's page has a greatest height
-const FIRST_ROWS = 5, MOST_ROWS = 200  // of a count: how many stand there, and how many more may be opened
+const FIRST_ROWS = 5, MOST_ROWS = 200  // of a count: how many are there, and how many more may be opened
 const at = id => document.getElementById(id)
 const count = data.time.length, every = Array.from({length: count}, (_, n) => n)
 let found = every, active = -1, clocks = null, sorted = ""  // by a column, with - in front where it goes down
@@ -88,7 +88,7 @@ function moment(text) {
   if (Number.isNaN(ms) || !/^\d{4}-\d\d-\d\d(t|$)/.test(text)) throw "a moment as 2026-01-31 or 2026-01-31T12:00:00"
   return 1000 * (ms - data.first)
 }
-// Whether a cell of the row has this text: what stands once for many rows is looked at once.
+// Whether a cell of the row has this text: what is there once for many rows is looked at once.
 function inCell(text) {
   const has = it => it.toLowerCase().includes(text)
   const tests = [by("rule", data.rules, it => has("[" + it[MARK] + "]") || has(it[MSG]) || has(it[CLASS])),
@@ -149,7 +149,7 @@ function filter() {
   keepAddress()
 }
 
-// --- The filter and the order stand in the page's address
+// --- The filter and the order are in the page's address
 
 let waiting = null
 function keepAddress() {

@@ -1,7 +1,7 @@
 """Which lines and rules of a configuration the program refuses, why, and where in the line. Used by check_rules.
 
 The program ends at the first fault that --skip-refused doesn't skip, so each of these costs a run. Rules are judged by parts:
-each header that there is once; then the options behind a header that is good, up to the first whose name is none, many rules
+each header that there is once; then the options after a header that is good, up to the first whose name is none, many rules
 in a run; at last all that is left together. What a name alone is refused for is asked once for each name.
 """
 import itertools, os, re
@@ -22,8 +22,8 @@ DIRECTIVES = frozenset(
 LIST = re.compile(r"(?:\bbind_to|\bip|\A(?:ip|port)var[ \t]+\w+)[ \t]+(\S)")  # where a list begins in a line that is no rule
 GOOD = "alert ip any any -> any any "
 PLACES = {"unknown action": 0, "outside this profile": 0, "unknown protocol": 1, "bad direction": 4}  # of words of a header
-LATE = ("missing sid", "unknown class", "duplicate sid", "pattern is refused")  # told behind all other faults
-BY_FORM = ("bad option value", "outside this profile", "pattern is refused")  # whatever stands before the option
+LATE = ("missing sid", "unknown class", "duplicate sid", "pattern is refused")  # told after all other faults
+BY_FORM = ("bad option value", "outside this profile", "pattern is refused")  # whatever comes before the option
 BY_VALUE = ("pcre", "flowbits", "byte_test", "byte_jump", "byte_extract", "stream_reassemble")  # outside by some values
 FEWEST, MOST = 16, 256  # rules in a run
 SPARE_SID = 4294967295  # counted down, of rules that are cut off before their own
@@ -57,8 +57,8 @@ class Judge:
         return [(number - 1, text) for _, _, number, text in found if not text.startswith("skipped: ")], status == 0
 
     def each(self, texts, front):
-        """What the program says of each line, behind others: None where it is accepted. It ends at the last line that it names,
-        so then those behind that one are looked at."""
+        """What the program says of each line, after others: None where it is accepted. It ends at the last line that it names,
+        so then those after that one are looked at."""
         answers, begin, accepted = [None] * len(texts), 0, False
         while not accepted:
             found, accepted = self.said([*front, *texts[begin:]])
@@ -179,14 +179,14 @@ class Judge:
             self.judge_layer([it[at] for it in layers.values() if len(it) > at])
 
     def ask_names(self, names):
-        """Which names of options are refused whatever stands behind them."""
+        """Which names of options are refused whatever follows them."""
         names = sorted(names - {""})
         answers = self.alone([f"{GOOD}({name}; sid:1;)" for name in names])
         self.names = {name: text for name, text in zip(names, answers) if text in ("unknown option", "outside this profile")}
 
     def cut(self, line):
-        """A rule behind a good header up to its first option that is refused for its name, that option's number, and the rule's
-        own generator and number if they stand before it."""
+        """A rule with a good header up to its first option that is refused for its name, that option's number, and the rule's
+        own generator and number if they come before it."""
         options = rule_texts.options_of(line.text)
         refused = next((at for at, it in enumerate(options) if name_of(it) in self.names), None)
         if refused is None or not is_closed(line.text):
@@ -214,7 +214,7 @@ class Judge:
             self.refuse(Fault(line, text, *span))
 
     def option_at_fault(self, line, text):
-        """Where the option stands for which a rule is refused."""
+        """Where the option is for which a rule is refused."""
         spans = rule_texts.option_spans(line.text)
         names = [name_of(line.text[begin:end]) for begin, end in spans]
         end = len(line.text) - is_closed(line.text)

@@ -33,7 +33,7 @@ def shown(text):
     return "".join(" " if it == "\t" else "?" if unicodedata.category(it)[0] in "CZM" and it != " " else it for it in text)
 
 def excerpt(file, line, begin):
-    """The line in which a fault stands, or what there is around it, and a caret."""
+    """The line in which a fault is, or what there is around it, and a caret."""
     number, column = place_in(file, line, begin)
     text = shown(file.lines[number - 1])
     first = max(min(column - COLUMNS // 2, len(text) - COLUMNS), 0)
@@ -46,8 +46,8 @@ def similar(word, words):
     found = difflib.get_close_matches(word, words, 1, 0.75 if len(word) > 4 else 0.6)
     return f"did you mean {found[0]}?" if found else None
 
-def has_blank_behind(file, line):
-    """Whether a joined line ends in a backslash with blanks behind it."""
+def has_blank_after(file, line):
+    """Whether a joined line ends in a backslash with blanks after it."""
     return bool(re.search(r"\\[ \t]+\r?\Z", file.lines[line.number + line.count - 2]))
 
 class Hints:
@@ -60,8 +60,8 @@ class Hints:
         """What may have been meant; None where nothing is known."""
         line, text = fault.line, fault.text
         file, word = self.configuration.files[line.place], line.text[fault.begin:fault.end]
-        if has_blank_behind(file, line) and (text == "bad option syntax" or not rule_sets.is_rule(line)):
-            return "a blank stands behind the backslash, so the next line isn't joined to this one"
+        if has_blank_after(file, line) and (text == "bad option syntax" or not rule_sets.is_rule(line)):
+            return "a blank follows the backslash, so the next line isn't joined to this one"
         if line.text.startswith(MARK):
             return "the file begins with a byte order mark: save it without"
         if text == "unknown directive":
@@ -87,7 +87,7 @@ class Hints:
         file = self.configuration.files[line.place]
         before = file.lines[line.number - 2] if line.number > 1 else ""
         if re.search(r"\\[ \t]+\Z", before):
-            return "a blank stands behind the backslash of the line before, so this one isn't joined to it"
+            return "a blank follows the backslash of the line before, so this one isn't joined to it"
         if word.startswith(("\x00", "\udcff\udcfe", "\udcfe\udcff")) or "\x00" in word:
             return "the file isn't text of one byte a letter: save it as UTF-8"
         if word == "%YAML":

@@ -1,8 +1,8 @@
 """What expressions mean else here than in Snort, by docs/manual/pcre.md. Used by check_rules."""
 import re, warnings
 
-def stands_behind_all(text, flags):
-    """Whether an expression holds behind a last line feed, where nothing is left to match."""
+def holds_after_all(text, flags):
+    """Whether an expression holds after a last line feed, where nothing is left to match."""
     some = sum(getattr(re, it.upper()) for it in flags if it in "imsx")
     try:
         with warnings.catch_warnings():
@@ -14,7 +14,7 @@ def stands_behind_all(text, flags):
 OUTSIDE, CLASS, OTHER = range(3)
 
 def pieces(text):
-    """The letters of an expression, or letters behind a backslash, and whether they stand within a class; OTHER is what ends
+    """The letters of an expression, or letters after a backslash, and whether they are within a class; OTHER is what ends
     one, and the name of a class in it."""
     at, begin = 0, None
     while at < len(text):
@@ -66,7 +66,7 @@ def meanings(option):
     if not found:
         return
     text, flags = found[1], found[2]
-    outside, classes = [], ""  # letters, or letters behind a backslash; what stands within the classes, a line each
+    outside, classes = [], ""  # letters, or letters after a backslash; what is within the classes, a line each
     for piece, place in pieces(text):
         if place == CLASS:
             classes += piece
@@ -77,9 +77,9 @@ def meanings(option):
     if "\\<" in outside or "\\>" in outside:
         yield r"\< and \> are the ends of a word; write < and >"
     if "$" in outside and "m" not in flags:
-        yield r"$ is the very end, and doesn't stand before a last line feed; write \n?$"
-    if "m" in flags and "^" in outside and stands_behind_all(text, flags):
-        yield r"^ stands behind a last line feed, too; write \r?\n behind it for an empty line"
+        yield r"$ is the very end, and doesn't match before a last line feed; write \n?$"
+    if "m" in flags and "^" in outside and holds_after_all(text, flags):
+        yield r"^ matches after a last line feed, too; write \r?\n after it for an empty line"
     if re.search(r"\(\?[A-Za-z-]*R", "".join(it if len(it) == 1 else " " for it in outside)):
         yield "(?R) is a flag, and not the expression again"
     if "x" in flags and re.search(r"[ \t#]", plain):

@@ -7,7 +7,7 @@
     tag, logto, session           nothing: they log more packets, and change no alert
     flowbits of several, a&b      one flowbits for each
     no blank before the bracket   a blank
-    in a pcre                     \\<, \\>, [ and && in a class, \\e, \\012, \\x9; $ at the end, where nothing goes on behind it
+    in a pcre                     \\<, \\>, [ and && in a class, \\e, \\012, \\x9; $ at the end, where nothing goes on after it
 """
 import re
 from collections import namedtuple
@@ -15,8 +15,8 @@ from collections import namedtuple
 import rule_meanings, rule_sets, rule_texts
 from rule_faults import mark_of, name_of
 
-# The new text, the lines behind it, what was changed, and what was left though it is one of these.
-Migrated = namedtuple("Migrated", "text behind changed left")
+# The new text, the lines that follow it, what was changed, and what was left though it is one of these.
+Migrated = namedtuple("Migrated", "text following changed left")
 NUMBER = re.compile(r"[1-9]\d{0,9}", re.A)
 KINDS, TRACKS = ("limit", "threshold", "both"), ("by_src", "by_dst")
 LOGS = ("tag", "logto", "session")
@@ -80,11 +80,11 @@ class Migration:
             text, changed = "alert" + rest, [*changed, f"{word}: alert"]
         spans = rule_texts.option_spans(text)
         options = [text[begin:end] for begin, end in spans]
-        behind, left = [], []
+        following, left = [], []
         for at in reversed(range(len(options))):
             try:
                 instead = expression(options, at) if name_of(options[at]) == "pcre" else \
-                    self.instead(options[at], mark_of(options), behind, word == "pass")
+                    self.instead(options[at], mark_of(options), following, word == "pass")
             except Left as why:
                 left.append(f"{options[at]}: {why}")
                 continue
@@ -93,11 +93,11 @@ class Migration:
                 after = text[text.index(";", end) + 1:]
                 kept = "".join(f"{it}; " for it in instead)
                 text = text[:begin] + (kept + after.lstrip(" \t") if kept else after.lstrip(" \t"))
-                changed.append(f"{options[at]}: {'; '.join([*instead, *behind]) or 'left out'}")
-        return Migrated(text, behind, changed, left) if changed or left else None
+                changed.append(f"{options[at]}: {'; '.join([*instead, *following]) or 'left out'}")
+        return Migrated(text, following, changed, left) if changed or left else None
 
-    def instead(self, option, mark, behind, is_pass):
-        """The options that an option is rewritten to, None where it stays; a filter is put behind the rule."""
+    def instead(self, option, mark, following, is_pass):
+        """The options that an option is rewritten to, None where it stays; a filter is put after the rule."""
         name, value = name_of(option), option.partition(":")[2].strip(" \t")
         if name in LOGS:
             return []
@@ -110,12 +110,12 @@ class Migration:
             raise Left("a pass rule has no events")
         if mark[1] is None or not NUMBER.fullmatch(mark[1]):
             raise Left("the rule has no sid")
-        if mark in self.filters or behind:
+        if mark in self.filters or following:
             raise Left("the rule has a filter")
         if len(self.filters) >= MOST_FILTERS:
             raise Left(f"the program has at most {MOST_FILTERS} event filters")
         self.filters.append(mark)
-        behind.append(f"event_filter gen_id {mark[0]}, sig_id {mark[1]}, type {it['type']}, track {it['track']}, "
+        following.append(f"event_filter gen_id {mark[0]}, sig_id {mark[1]}, type {it['type']}, track {it['track']}, "
                       f"count {it['count']}, seconds {it['seconds']}")
         return []
 

@@ -15,14 +15,14 @@ MARK = "\ufeff"  # the byte order mark
 MOST_FILES = 4096
 
 def cut_word(text):
-    """The first word of a line, and what stands behind it."""
+    """The first word of a line, and what follows it."""
     return [*re.split(r"[ \t]+", text, maxsplit=1), ""][:2]
 
 def is_rule(line):
     return cut_word(line.text)[0] in ACTIONS
 
 def in_copy(text):
-    """A line for a copy: behind a backslash or a return at its end a blank keeps the next line apart."""
+    """A line for a copy: after a backslash or a return at its end a blank keeps the next line apart."""
     return text + " " * text.endswith(("\\", "\r"))
 
 def mended(lines):
@@ -39,14 +39,14 @@ def mended(lines):
         elif not goes_on and front == ";":
             text, what = f"#{text}".rstrip("\\"), "a line that begins with ; is a comment"
         elif (goes_on or front != "#") and re.search(r"\\[ \t]+\Z", text):
-            text, what = text.rstrip(" \t"), "a blank behind the backslash is left out"
+            text, what = text.rstrip(" \t"), "a blank after the backslash is left out"
         out.append(text)
         changed += [(number, what)] * (what is not None)
         goes_on = text.endswith("\\")
     return out, changed
 
 class File:
-    """A file of the configuration: its name as it was asked for, its lines as they stand there, and the joined ones."""
+    """A file of the configuration: its name as it was asked for, its lines as they are there, and the joined ones."""
     def __init__(self, name, place, is_mended=False):
         self.name, self.changed = name, []
         with open(name, "rb") as file:

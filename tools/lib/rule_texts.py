@@ -1,4 +1,4 @@
-"""What a configuration says of its rules, for those who read alerts: messages, classes, and the rules as they stand there.
+"""What a configuration says of its rules, for those who read alerts: messages, classes, and the rules as they are there.
 
 Files, includes and variables are read as docs/manual/configuration.md says. Whether a rule is accepted isn't looked at.
 Used by alerts and check_rules.
@@ -40,7 +40,7 @@ class Rules:
 
 @functools.lru_cache(maxsize=16384)
 def word_spans(rule):
-    """Where the seven words of a rule's header begin and end: they stand between blanks outside brackets; the last ones may be
+    """Where the seven words of a rule's header begin and end: they are between blanks outside brackets; the last ones may be
     empty."""
     spans, at = [], 0
     for _ in range(7):
@@ -58,7 +58,7 @@ def word_spans(rule):
     return tuple(spans)
 
 def options_start(rule):
-    """Where what stands behind a rule's header begins."""
+    """Where what follows a rule's header begins."""
     at = word_spans(rule)[6][1]
     return at + len(rule[at:]) - len(rule[at:].lstrip(" \t"))
 
@@ -80,7 +80,7 @@ def options_of(rule):
     return [rule[begin:end] for begin, end in option_spans(rule)]
 
 def unquoted(value):
-    """What a quoted text says: a backslash gives the letter behind it."""
+    """What a quoted text says: a backslash gives the letter after it."""
     return re.sub(r"\\(.)", r"\1", value[1:-1], flags=re.S) if value[:1] == '"' and value[-1:] == '"' else value
 
 def tidy(rule):

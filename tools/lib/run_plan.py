@@ -9,7 +9,7 @@ from run_folder import Wrong, read, sum_of, tell
 
 VALUED = ("-c", "-r", "-S", "-n", "-k", "-A", "--host-table", "--generate", "--seed", "--flush-point", "--lanes",
           "--read-unified2")
-FLAGS = "qTU"  # letters that may stand together before another one
+FLAGS = "qTU"  # letters that may come together before another one
 
 def values_of(words):
     """The values of the detector's words, as docs/manual/command-words.md says how words are written."""
@@ -60,7 +60,7 @@ def check_words(program, words):
         raise Wrong(f"the words are refused: {why}: {' '.join(map(shown, [program, *words]))}")
 
 def proved_commit(plan):
-    """The commit that PROVED.txt names, where it stands beside a package's program and has its SHA-256."""
+    """The commit that PROVED.txt names, where it is beside a package's program and has its SHA-256."""
     folder, digest = os.path.dirname(plan["program"]), plan["files"][plan["program"]]
     for name in (f"{folder}/PROVED.txt", f"{folder}/../share/snort-offline/PROVED.txt"):
         try:

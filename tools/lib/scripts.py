@@ -17,7 +17,7 @@ def eve_program():
     """The program snort_eve, or None where there is none.
 
     It is the one that SNORT_EVE names, none if that is empty; else that of this checkout, if no source is newer; else the one
-    that stands beside the program.
+    that is beside the program.
     """
     named = os.environ.get("SNORT_EVE")
     if named is not None:
@@ -38,7 +38,7 @@ def built_eve():
     return os.path.abspath(path) if path and os.access(path, os.X_OK) else None
 
 def as_called(text):
-    """A text with the names by which scripts are called: that of this one, and of the others that stand beside it.
+    """A text with the names by which scripts are called: that of this one, and of the others that are beside it.
 
     Where this one is called snort-runs, tools/runs is snort-runs, tools/make_capture is snort-make-capture if that is there, and
     ./snort is snort.

@@ -62,7 +62,7 @@ def kill_node(node):
             pass
 
 def run_pages(scripts):
-    """What stands on pages, twice: the second time as the retry of what is left."""
+    """What is on pages, twice: the second time as the retry of what is left."""
     for _ in range(2):
         for script in scripts:
             subprocess.run(["bash", "-e", script], check=True)

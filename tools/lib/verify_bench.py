@@ -99,7 +99,7 @@ class Bench:
         return End(status, b"", errors)
 
     def to_small_file(self, words, most):
-        """A run whose standard output is a file that takes so many bytes."""
+        """A run whose standard output is a file that takes that many bytes."""
         self.note(f"# $SNORT {shlex.join(words)}, whose standard output is a file with room for {most} bytes (RLIMIT_FSIZE)")
         def limit():  # messages go to a file, too, but have room below
             signal.signal(signal.SIGXFSZ, signal.SIG_IGN)
@@ -115,7 +115,7 @@ class Bench:
             return End(status, lines.read(), errors)
 
     def to_reader(self, words, most):
-        """A run whose reader takes so many bytes and goes away."""
+        """A run whose reader takes that many bytes and goes away."""
         self.note(f"$SNORT {shlex.join(words)} | head -c {most}  # standard output is a pipe of {PIPE_BYTES} bytes")
         reader, writer = small_pipe()
         steps = self.ended(words, writer)

@@ -82,7 +82,7 @@ def block_records(file, head):
             yield record(moment, link, body[4:4 + min(wire, snap or wire)], wire)
 
 def read(path, most):
-    """The first records of a file, at most so many; a last one that is cut off is left out."""
+    """The first records of a file, at most that many; a last one that is cut off is left out."""
     out = []
     with open(path, "rb") as file:
         head = file.read(24)
@@ -102,7 +102,7 @@ def read(path, most):
 # --- Writing: a capture's bytes, and where each of its records or blocks ends
 
 def pcap(records, order="<", is_nano=False, is_carried=False, snap=262144):
-    """A classic file. Where `is_carried`, a second of each moment stands in its part below a second, if it has room."""
+    """A classic file. Where `is_carried`, a second of each moment is put into its part below a second, if it has room."""
     out = [struct.pack(order + "IHHiIII", NANO if is_nano else MICRO, 2, 4, 0, 0, snap, records[0].link if records else ETHERNET)]
     for it in records:
         second, part = divmod(it.moment if is_nano else it.moment // 1000, 10**9 if is_nano else 10**6)
@@ -143,7 +143,7 @@ class Blocks:
         self.add(block(order, kind, self.rng.randbytes(4 * self.rng.randint(2, 12))))
 
     def section(self, records, moment):
-        """A section with these records, behind a record of that moment; its form is drawn."""
+        """A section with these records, after a record of that moment; its form is drawn."""
         rng, order = self.rng, self.rng.choice("<>")
         comment = rng.choice((b"", option(order, 1, b"a comment") + option(order, 0, b"")))
         self.add(block(order, SECTION, struct.pack(order + "IHHq", MAGIC, 1, 0, -1) + comment))

@@ -84,7 +84,7 @@ def another_event(number, line, fields, classes):
     return f"the record tells {event}"
 
 def another_packet(number, body, packet, frames):
-    """What is wrong with the packet behind an event, or None: it is a record of the capture, with the event's moment."""
+    """What is wrong with the packet after an event, or None: it is a record of the capture, with the event's moment."""
     sensor, ident, of_event, second, micro, link, size = PACKET_FIELDS.unpack_from(packet)
     data, moment = packet[PACKET_FIELDS.size:], struct.unpack_from(">II", body, 8)
     if (sensor, ident, of_event, size) != (0, number % 2**32, moment[0], len(data)) or (second, micro) != moment:

@@ -1,4 +1,4 @@
-"""Cases that are made: a capture of drawn talks, a configuration, and rules made of what stands in it. Used by verify.
+"""Cases that are made: a capture of drawn talks, a configuration, and rules made of what is in it. Used by verify.
 
 docs/manual/configuration.md, events.md and evasions.md have what the lines mean.
 """

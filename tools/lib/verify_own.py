@@ -55,7 +55,7 @@ def host_lines(name):
         raise Failed(f"cannot read {name}: {fault.strerror}") from None
 
 def parts_of(name, most):
-    """The first records of a capture, at most so many, in a list for each link, since a classic file has one."""
+    """The first records of a capture, at most that many, in a list for each link, since a classic file has one."""
     try:
         records = captures.read(name, most)
     except OSError as fault:

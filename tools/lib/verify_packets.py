@@ -82,7 +82,7 @@ class Talks:
         return self.varied(packets.frame(protocol, source, target, fields, data))
 
     def varied(self, frame):
-        """A frame, some with options of IPv4 or an extension header of IPv6, with tags, with bytes behind the packet."""
+        """A frame, some with options of IPv4 or an extension header of IPv6, with tags, with bytes after the packet."""
         way, kind, packet = self.rng.random(), frame[12:14], frame[14:]
         if way < 0.03 and kind == b"\x08\0":
             size = 4 * self.rng.randint(1, 10)
@@ -184,10 +184,10 @@ class Session:
         self.talks, self.rng = talks, talks.rng
         self.ends = talks.ends("tcp")
         self.first = [self.rng.choice(FIRST_NUMBERS), self.rng.choice(FIRST_NUMBERS)]
-        self.sent, self.out = [0, 0], []  # how many bytes each side has sent, behind its SYN
+        self.sent, self.out = [0, 0], []  # how many bytes each side has sent, after its SYN
 
     def send(self, side, flags, at=None, data=b""):
-        """A segment of a side; `at` is the place of its data behind the SYN, which is that of all that was sent by default."""
+        """A segment of a side; `at` is the place of its data after the SYN, which is that of all that was sent by default."""
         at = self.sent[side] if at is None else at
         given = {"flags": flags, "seq": (self.first[side] + (0 if flags & SYN else 1 + at)) % 2**32,
                  "ack": (self.first[1 - side] + 1 + self.sent[1 - side]) % 2**32 if flags & ACK else 0,
@@ -264,7 +264,7 @@ WAYS = [(Talks.tcp, 5), (Talks.udp, 4), (Talks.fragments, 4), (Talks.icmp, 1), (
         (Talks.repeated, 1)]
 
 def drawn(rng, count):
-    """So many talks as frames in the order in which they come, and the items of all."""
+    """That many talks as frames in the order in which they come, and the items of all."""
     talks = Talks(rng)
     ways, weights = zip(*WAYS)
     live = [frames for way in rng.choices(ways, weights, k=count) if (frames := way(talks))]

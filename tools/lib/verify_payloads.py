@@ -253,7 +253,7 @@ class Payload:
         return rng.choice(ways)
 
     def drawn(self, count):
-        """So many options, as a list with their modifiers."""
+        """That many options, as a list with their modifiers."""
         ways = [self.contents] * 8 + [self.isdataat, self.byte_test, self.byte_test, self.byte_jump, self.pcre, self.pcre]
         out = []
         for _ in range(count):

@@ -34,7 +34,7 @@ UNMADE = [  # and those whose expression is refused, if no rule before them has 
 ]
 
 def counts_of(errors):
-    """The counts at the end of messages, and what stands before them."""
+    """The counts at the end of messages, and what comes before them."""
     lines = errors.splitlines(True)
     counts = {it[1]: int(it[2]) for it in map(COUNT_LINE.fullmatch, map(bytes.rstrip, lines[-COUNTS:])) if it}
     return (counts, b"".join(lines[:-COUNTS])) if len(counts) == COUNTS else ({}, errors)
@@ -68,7 +68,7 @@ def lanes(case, bench, rng):
         yield difference(bench.run([*bench.conf(case), *bench.capture(case), "--stats", "--lanes", str(number)]), base)
 
 def first_records(case, bench, rng):
-    """-n N gives what the capture gives that is cut behind record N, whatever stands behind."""
+    """-n N gives what the capture gives that is cut after record N, whatever follows."""
     if not case.records:
         return
     for _ in range(2):
@@ -185,7 +185,7 @@ def write_faults(case, bench, rng):
     yield difference(bench.to_small_file(words, room), (lost if room < size else base)._replace(alerts=base.alerts[:room]))
     taken = rng.choice((0, 1, rng.randint(0, size)))
     end = bench.to_reader(words, taken)
-    may_pass = size <= taken + PIPE_BYTES  # the rest may stand in the pipe before its reader leaves
+    may_pass = size <= taken + PIPE_BYTES  # the rest may be in the pipe before its reader leaves
     passed = may_pass and end.status == DONE
     yield difference(end, (base if passed else lost)._replace(alerts=base.alerts[:taken]))
     end = bench.to_full_pipe(words)

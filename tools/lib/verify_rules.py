@@ -1,4 +1,4 @@
-"""Rules that are made of what stands in a capture: most of them match, or miss by one. Used by verify.
+"""Rules that are made of what is in a capture: most of them match, or miss by one. Used by verify.
 
 docs/manual/rules.md and the pages below it say what each option means.
 """

@@ -2,7 +2,7 @@
  *
  * STATE SPREAD FACTOR LOW HIGH COUNT [NUMBER LENGTH]..  the write that has the number multiplies FACTOR by STATE joined
  * with SPREAD times the number; how many of the lowest and of the highest bits of the hash are to be 0; how many numbers
- * are wanted, from 0x0b000000 on; and what is written behind it, as the number that the hasher makes of those bytes. The
+ * are wanted, from 0x0b000000 on; and what is written after it, as the number that the hasher makes of those bytes. The
  * numbers are written to standard output, in 4 bytes each.
  */
 #include <stdint.h>

@@ -5,7 +5,7 @@
  * REFUSE_SEEN    a file of sizeof(struct seen) bytes that takes the count and what the call was
  * REFUSE_STOP    if it is there, the call stops the process for a debugger in place of failing
  *
- * Calls count from this library's start on, which is behind the loader's own work and before `main`. The C library's
+ * Calls count from this library's start on, which is after the loader's own work and before `main`. The C library's
  * calls of its own count where they go through the same names, as the memory of a thread does.
  */
 #define _GNU_SOURCE
