@@ -4,3 +4,4 @@ pub mod CacheSteps
 pub mod Numbered
 pub mod Living
 pub mod Guessed
+pub mod Touched

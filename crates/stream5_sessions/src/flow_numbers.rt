@@ -1,13 +1,14 @@
 //! The number of each key's flow, in a tree.
 //!
 //! A tree stays balanced whatever keys a sender chooses.
-ghost use Rattle.std.specs.Prelude.{◌≡◌, None, Some, OnOk, OnErr};
+ghost use Rattle.std.specs.Prelude.{◌≡◌, None, Some, IfOk, IsSome, OnErr};
 ghost use Rattle.stream5_sessions.specs.Trees.{tree_key_of, number_in, HasNone, Puts, KeepsNumbers};
 
 use crate::Key;
 use edge_io::{Addr, NoMemory};
 use std::alloc::Global;
 use std::collections::BTreeMap;
+use std::collections::btree_map::Entry;
 
 /// A key in the order of the tree: what differs between most flows comes first, so that a comparison ends there.
 #[derive(Clone, Copy, PartialEq, Eq, PartialOrd, Ord)]
@@ -50,20 +51,23 @@ impl FlowNumbers {
         }
     }
 
-    /// The number of a key's flow, if it has one.
-    pub fn get(&self, key: &Key) -> Option<u64>
-        ensures { result ≡ number_in self.now key.now }
-    {
-        self.tree.get(&TreeKey::of(key)).copied()
-    }
-
-    /// Gives a key's flow this number. Without memory nothing changes.
-    pub fn insert(&mut self, key: &Key, number: u64) -> Result<(), NoMemory>
-        ensures puts { OnOk result (Puts self.old key.now (Some number) self.new) }
+    /// The number of a key's flow; a key that has none gets this one, and nothing is answered. Without memory nothing
+    /// changes.
+    // One search: a key that begins to live is looked for first.
+    pub fn get_or_insert(&mut self, key: &Key, number: u64) -> Result<Option<u64>, NoMemory>
+        ensures value { IfOk result (λ found. found ≡ number_in self.old key.now) }
+        ensures puts { IfOk result (λ found. found ≡ None → Puts self.old key.now (Some number) self.new) }
+        ensures keeps { IfOk result (λ found. IsSome found → KeepsNumbers self.old self.new) }
+        ensures absent { OnErr result (number_in self.old key.now ≡ None) }
         ensures err { OnErr result (KeepsNumbers self.old self.new) }
     {
-        self.tree.insert(TreeKey::of(key), number)?;
-        Ok(())
+        match self.tree.entry(TreeKey::of(key))? {
+            Entry::Occupied(entry) => Ok(Some(*entry.get())),
+            Entry::Vacant(entry) => {
+                entry.insert(number);
+                Ok(None)
+            }
+        }
     }
 
     /// The key's flow has no number any more.

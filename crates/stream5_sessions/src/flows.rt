@@ -24,23 +24,6 @@ pub struct Touch {
     pub evicted: Option<u64>,
 }
 
-/// Begins the flow with the number `next` of a key that doesn't live.
-// Kept out of the line of packets whose flows live.
-#[inline(never)]
-fn begun(lives: &mut Lives, key: &Key, next: u64) -> Result<Touch, NoMemory>
-    requires { lookup (same_key key.now) lives.old.entries ≡ None }
-    ensures value { IfOk result (λ touch. touch ≡ found_by lives.old.entries lives.old.cap next None) }
-    ensures after { OnOk result (lives.new ≡ lives_with
-        (kept_by lives.old.entries lives.old.cap next key.now None) lives.old.cap) }
-    ensures err { OnErr result (lives.new ≡ lives.old) }
-{
-    Ok(Touch {
-        flow: next,
-        fresh: true,
-        evicted: lives.begin(key, next)?,
-    })
-}
-
 /// Touches a key, whose flow has the number `next` if it begins.
 // In the line of each packet, so that neither the key nor the answer is passed through memory.
 #[inline(always)]
@@ -52,13 +35,13 @@ fn touched(lives: &mut Lives, key: &Key, next: u64) -> Result<Touch, NoMemory>
     ensures err { OnErr result (lives.new ≡ lives.old) }
     ensures known { IsSome (lookup (same_key key.now) lives.old.entries) → IsOk result }
 {
-    match lives.again(key) {
+    match lives.by_guess(key) {
         Some(flow) => Ok(Touch {
             flow,
             fresh: false,
             evicted: None,
         }),
-        None => begun(lives, key, next),
+        None => lives.by_tree(key, next),
     }
 }
 

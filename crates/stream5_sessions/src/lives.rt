@@ -3,18 +3,19 @@
 //! A sender chooses the keys, and could choose many that one hash table keeps in one place. So no key is
 //! hashed: a tree has the number of each key's flow, and the cache hashes that number alone, which counts up. The
 //! cache compares the key too, so a number may be guessed before the tree is asked.
-ghost use Rattle.std.specs.Prelude.{◌≡◌, ◌≤◌, ◌-◌, [], None, Some, slice_get, option_map, if◌then◌else◌};
-ghost use Rattle.std.specs.Prelude.{IfOk, IfSome, MatchOption, OnOk, OnErr};
+ghost use Rattle.std.specs.Prelude.{◌≡◌, ◌≤◌, [], None, Some, option_map, if◌then◌else◌};
+ghost use Rattle.std.specs.Prelude.{IfOk, IfSome, IsOk, IsSome, MatchOption, OnOk, OnErr};
 ghost use Rattle.std.specs.Map.{lookup, values_of};
 ghost use Rattle.lru.specs.LruCache.{promoted};
 ghost use Rattle.stream5_sessions.specs.Keys.{same_key};
-ghost use Rattle.stream5_sessions.specs.Caches.{kept_by};
+ghost use Rattle.stream5_sessions.specs.Caches.{found_by, kept_by};
 ghost use Rattle.stream5_sessions.specs.Indexed.{lives_with, is_gone};
 ghost use Rattle.stream5_sessions.specs.Trees.{number_in};
 ghost use Rattle.stream5_sessions.specs.declared.key.Key.{Key};
 
 use crate::Key;
 use crate::flow_numbers::FlowNumbers;
+use crate::flows::Touch;
 use crate::guesses::Guesses;
 use edge_io::NoMemory;
 use lru::LruCache;
@@ -79,21 +80,9 @@ impl Lives {
         })
     }
 
-    /// The flow of a key that lives, which becomes the latest touched.
+    /// The flow of a key that lives, which becomes the latest touched, where the flow's number is the guess; else nothing.
     #[inline(always)]
-    pub fn again(&mut self, key: &Key) -> Option<u64>
-        ensures value { result ≡ lookup (same_key key.now) self.old.entries }
-        ensures after { self.new ≡ lives_with (promoted (same_key key.now) self.old.entries) self.old.cap }
-    {
-        match self.by_guess(key) {
-            Some(flow) => Some(flow),
-            None => self.by_tree(key),
-        }
-    }
-
-    /// The flow of a key that lives, as `again`, where the flow's number is the guess; else nothing.
-    #[inline(always)]
-    fn by_guess(&mut self, key: &Key) -> Option<u64>
+    pub fn by_guess(&mut self, key: &Key) -> Option<u64>
         ensures value { IfSome result (λ flow. lookup (same_key key.now) self.old.entries ≡ Some flow) }
         ensures after { MatchOption result (self.new ≡ self.old)
             (λ flow. self.new ≡ lives_with (promoted (same_key key.now) self.old.entries) self.old.cap) }
@@ -106,44 +95,48 @@ impl Lives {
         self.cache.get(&entry).copied()
     }
 
-    /// The flow of a key that lives, as `again`, with the number that the tree has. Seldom called, so its code is kept apart.
+    /// Touches a key, which the tree is asked for: the flow of one that lives becomes the latest touched; that of another
+    /// begins, with the number `next`.
+    // Kept out of the line of packets whose flow is the guess.
     #[inline(never)]
-    fn by_tree(&mut self, key: &Key) -> Option<u64>
-        ensures value { result ≡ lookup (same_key key.now) self.old.entries }
-        ensures after { self.new ≡ lives_with (promoted (same_key key.now) self.old.entries) self.old.cap }
-    {
-        match self.numbers.get(key) {
-            Some(number) => {
-                self.guesses.set(key, number);
-                self.cache.get(&Numbered { key: *key, number }).copied()
-            }
-            None => None,
-        }
-    }
-
-    /// Begins the flow with the number `next` of a key that doesn't live; gives the flow whose life that ends.
-    pub fn begin(&mut self, key: &Key, next: u64) -> Result<Option<u64>, NoMemory>
-        requires { lookup (same_key key.now) self.old.entries ≡ None }
-        ensures value { IfOk result (λ evicted.
-            evicted ≡ option_map (λ entry. entry.1) (slice_get self.old.entries (self.old.cap - 1))) }
-        ensures after { OnOk result
-            (self.new ≡ lives_with (kept_by self.old.entries self.old.cap next key.now None) self.old.cap) }
+    pub fn by_tree(&mut self, key: &Key, next: u64) -> Result<Touch, NoMemory>
+        ensures value { IfOk result (λ touch. touch ≡ found_by self.old.entries self.old.cap next
+            (lookup (same_key key.now) self.old.entries)) }
+        ensures after { OnOk result (self.new ≡ lives_with
+            (kept_by self.old.entries self.old.cap next key.now (lookup (same_key key.now) self.old.entries)) self.old.cap) }
         ensures err { OnErr result (self.new ≡ self.old) }
+        ensures known { IsSome (lookup (same_key key.now) self.old.entries) → IsOk result }
     {
         // The cache is never beyond its capacity: a key that isn't among those before its last place is the last.
         let is_within = self.cache.len() <= self.cache.cap().get();
         prove!(is_within);
-        self.numbers.insert(key, next)?;
-        self.guesses.set(key, next);
-        let entry = Numbered {
-            key: *key,
-            number: next,
-        };
-        match self.cache.push(entry, next) {
-            Ok(evicted) => Ok(forget(&mut self.numbers, evicted)),
-            Err(error) => {
-                self.numbers.remove(key);
-                Err(error.into())
+        match self.numbers.get_or_insert(key, next)? {
+            Some(number) => {
+                self.guesses.set(key, number);
+                let flow = self.cache.get(&Numbered { key: *key, number }).copied();
+                Ok(Touch {
+                    flow: flow.unwrap_or(number),
+                    fresh: false,
+                    evicted: None,
+                })
+            }
+            None => {
+                self.guesses.set(key, next);
+                let entry = Numbered {
+                    key: *key,
+                    number: next,
+                };
+                match self.cache.push(entry, next) {
+                    Ok(evicted) => Ok(Touch {
+                        flow: next,
+                        fresh: true,
+                        evicted: forget(&mut self.numbers, evicted),
+                    }),
+                    Err(error) => {
+                        self.numbers.remove(key);
+                        Err(error.into())
+                    }
+                }
             }
         }
     }

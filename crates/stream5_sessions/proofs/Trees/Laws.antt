@@ -1,16 +1,18 @@
 -- Keys are one in the tree exactly where they are one, and what a step of the tree does to each key.
-use Rattle.std.proofs.Common.{◌≡◌, ℕ, Bool, true, false, cond, ◌&&◌, eqb, Option, refl, sym, ap, ◌∙◌}
+use Rattle.std.proofs.Common.{◌≡◌, ℕ, Bool, true, false, cond, ◌&&◌, eqb, List, Option, refl, sym, ap, ◌∙◌}
 use Rattle.std.specs.BTreeMap.{BTreeMap, get, is_at}
+use Rattle.std.specs.Map.{lookup}
 use mathlib.Core.Bool.{beq}
 use Rattle.edge_io.specs.declared.address.Addr.{Addr}
 use Rattle.edge_io.specs.declared.address.Addr.TheVariants.{V4, V6}
 use Rattle.edge_io.specs.Addresses.{same_addr}
 use Rattle.stream5_sessions.specs.contracts.flow_numbers.TreeKeyOrd.TheImpl.Laws.{matches_eq-law}
 use Rattle.stream5_sessions.specs.contracts.flow_numbers.TreeKeyPartialEq.TheImpl.{eq-value}
+use Rattle.stream5_sessions.specs.declared.flow_numbers.FlowNumbers.{FlowNumbers}
 use Rattle.stream5_sessions.specs.declared.flow_numbers.TreeKey.{TreeKey}
 use Rattle.stream5_sessions.specs.declared.key.Key.{Key}
 use Rattle.stream5_sessions.specs.Keys.{is_of, same_key}
-use Rattle.stream5_sessions.specs.Trees.{tree_key_of, tree_cmp}
+use Rattle.stream5_sessions.specs.Trees.{tree_key_of, tree_cmp, number_in, KeepsNumbers, Puts}
 use Rattle.stream5_sessions.proofs.KeyLaws.{bools}
 
 abbrev tree_at : ℕ → ℕ → Bool → Addr → Addr → TreeKey
@@ -66,3 +68,14 @@ tree_puts old new key place number is updates q =
     updates (tree_key_of q)
     ∙ ap (λ (k : TreeKey). cond (is_at (tree_cmp k) (tree_key_of q)) number (get tree_cmp old (tree_key_of q))) is
     ∙ ap (λ (b : Bool). cond b number (get tree_cmp old (tree_key_of q))) (tree_test key q)
+
+-- the same, of the keys' numbers
+pub numbers-put : (old : FlowNumbers) (put : BTreeMap TreeKey ℕ) (key : Key) (place : TreeKey) (number : Option ℕ) → place ≡ tree_key_of key
+    → ((k : TreeKey) → get tree_cmp put k ≡ cond (is_at (tree_cmp place) k) number (get tree_cmp old.tree k)) → Puts old key number (record { tree = put })
+unfolding number_in
+numbers-put old put key place number is updates = tree_puts old.tree put key place number is updates
+
+-- a tree with the same entries gives each key the same number
+pub numbers-kept : (old : FlowNumbers) (tree : BTreeMap TreeKey ℕ) → tree.entries ≡ old.tree.entries → KeepsNumbers old (record { tree = tree })
+unfolding number_in
+numbers-kept old tree same = λ q. ap (λ (l : List (TreeKey × ℕ)). lookup (is_at (tree_cmp (tree_key_of q))) l) same

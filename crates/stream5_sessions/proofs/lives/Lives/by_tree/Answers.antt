@@ -1,55 +1,62 @@
--- The tree has each kept key's number and no other's, so looking up the key with its number is looking up the key
--- (`lookup-plain`), and a key without a number isn't kept (`missing`).
-use Rattle.std.proofs.Common.{◌≡◌, ℕ, Some, sym, ap, subst, ◌∙◌}
+-- A key that has a number in the tree is kept with it, so looking up both is looking up the key (`living-after`); one that
+-- has none isn't kept, so its number and its entry are added alike, and the evicted key leaves both (`begun-indexed`), or,
+-- without memory for the entry, its number is taken back (`undone-indexed`).
+use Rattle.std.proofs.Common.{◌≡◌, ℕ, None, Some, Option, IsSome, IsOk, refl, sym, ap, subst, ◌∙◌}
 use Rattle.std.specs.Map.{lookup}
-use Rattle.lru.specs.LruCache.{LruCache, promoted}
-use Rattle.stream5_sessions.specs.contracts.lives.NumberedPartialEq.TheImpl.{eq-value}
-use Rattle.stream5_sessions.specs.declared.lives.Numbered.{Numbered}
-use Rattle.stream5_sessions.specs.Indexed.{LivesState, lives_with, entries_of, IsIndexed}
 use Rattle.stream5_sessions.specs.Keys.{same_key}
-use Rattle.stream5_sessions.specs.Trees.{number_in}
-use Rattle.stream5_sessions.proofs.Trees.CacheSteps.{promoted-none}
-use Rattle.stream5_sessions.proofs.Trees.Living.{numbered, named, alike, missing, indexed-promoted}
-use Rattle.stream5_sessions.proofs.Trees.Numbered.{lookup-plain, promoted-plain}
+use Rattle.stream5_sessions.proofs.Trees.Touched.{again, living-value, living-after, living-indexed, begun-value, begun-after, begun-indexed, undone-indexed, unkept}
 use Rattle.stream5_sessions.proofs.lives.Lives.by_tree.Goals as goal
+
+-- a key that isn't kept asks nothing
+unasked : (kept : Option ℕ) (P : Type 0) → kept ≡ None → IsSome kept → P
+unasked kept P none some = cc
+
+pub returns-in_err-number-clause-known : goal.returns-in_err-number-clause-known
+returns-in_err-number-clause-known c =
+    unasked (lookup (same_key c.args.key.now) c.args.self.now.entries) (IsOk c.from_residual.result)
+    (unkept c.self.inside.numbers c.args.key.now c.self.inside.cache c.self.invariant c.args.self.now c.self.view_is c.in_err-number.ensures.absent)
+
+pub invariant_of-self-in-Some : goal.invariant_of-self-in-Some
+invariant_of-self-in-Some c =
+    living-indexed c.self.inside.numbers c.args.key.now c.self.inside.cache c.self.invariant c.args.self.now c.self.view_is
+    c.in-Some.number (sym c.in_ok-number.ensures.value ∙ c.in-Some.is) c.args.next c.get_or_insert.new.self _
+    (c.in_ok-number.ensures.keeps (subst (λ (o : Option ℕ). IsSome o) (sym c.in-Some.is) refl)) c.get-in-Some.follows.holds-at-none
 
 pub returns-in-Some-clause-value : goal.returns-in-Some-clause-value
 returns-in-Some-clause-value c =
-    let es = c.self.inside.cache.entries in
-    let key = c.args.key.now in
-    let number = c.in-Some.number in
-    let has : number_in c.self.inside.numbers key ≡ Some number = sym c.in-Some.ensures in
-    c.copied.ensures ∙ c.get-in-Some.ensures.value
-    ∙ lookup-plain named (eq-value.it (numbered key number)) (same_key key) es (alike c.self.inside.numbers key number has es c.self.invariant.found)
-    ∙ ap (λ (l : LivesState). lookup (same_key key) l.entries) c.self.view_is
+    ap again c.unwrap_or.ensures
+    ∙ living-value c.self.inside.numbers c.args.key.now c.self.inside.cache c.self.invariant c.args.self.now c.self.view_is
+    c.in-Some.number (sym c.in_ok-number.ensures.value ∙ c.in-Some.is) c.args.next c.copied-flow.result (c.copied-flow.ensures ∙ c.get-in-Some.ensures.value)
 
 pub returns-in-Some-clause-after : goal.returns-in-Some-clause-after
 returns-in-Some-clause-after c =
-    let es = c.self.inside.cache.entries in
-    let cap = c.self.inside.cache.cap in
-    let key = c.args.key.now in
-    let number = c.in-Some.number in
-    let has : number_in c.self.inside.numbers key ≡ Some number = sym c.in-Some.ensures in
-    ap (λ (x : LruCache Numbered ℕ). lives_with (entries_of x.entries) x.cap) c.get-in-Some.follows.holds-at-none
-    ∙ ap (λ l. lives_with l cap) (promoted-plain named (eq-value.it (numbered key number)) (same_key key) es (alike c.self.inside.numbers key number has es c.self.invariant.found))
-    ∙ ap (λ (l : LivesState). lives_with (promoted (same_key key) l.entries) l.cap) c.self.view_is
+    living-after c.self.inside.numbers c.args.key.now c.self.inside.cache c.self.invariant c.args.self.now c.self.view_is
+    c.in-Some.number (sym c.in_ok-number.ensures.value ∙ c.in-Some.is) c.args.next _ c.get-in-Some.follows.holds-at-none
 
-pub invariant_of-self : goal.invariant_of-self
-invariant_of-self c =
-    let key = c.args.key.now in
-    let number = c.in-Some.number in
-    let has : number_in c.self.inside.numbers key ≡ Some number = sym c.in-Some.ensures in
-    subst (λ (x : LruCache Numbered ℕ). IsIndexed c.self.inside.numbers x.entries) (sym c.get-in-Some.follows.holds-at-none)
-    (indexed-promoted c.self.inside.numbers key number c.self.inside.cache.entries has c.self.invariant)
+pub invariant_of-self-in-Ok : goal.invariant_of-self-in-Ok
+invariant_of-self-in-Ok c =
+    begun-indexed c.self.inside.numbers c.args.key.now c.self.inside.cache c.self.invariant c.args.self.now c.self.view_is
+    (sym c.in_ok-number.ensures.value ∙ c.in-None.is) c.args.next c.get_or_insert.new.self c.forget.new.numbers c.push.new.self c.in-Ok.evicted
+    (c.in_ok-number.ensures.puts c.in-None.is) c.len.ensures.valid.1 c.len.ensures.valid.2 c.in-Ok.ensures.old c.in-Ok.ensures.entries c.forget.ensures.gone
 
-pub returns-in-None-clause-value : goal.returns-in-None-clause-value
-returns-in-None-clause-value c =
-    sym (missing c.self.inside.numbers c.args.key.now (sym c.in-None.ensures) c.self.inside.cache.entries c.self.invariant.found)
-    ∙ ap (λ (l : LivesState). lookup (same_key c.args.key.now) l.entries) c.self.view_is
+pub returns-in-Ok-clause-value : goal.returns-in-Ok-clause-value
+returns-in-Ok-clause-value c =
+    begun-value c.self.inside.numbers c.args.key.now c.self.inside.cache c.self.invariant c.args.self.now c.self.view_is
+    (sym c.in_ok-number.ensures.value ∙ c.in-None.is) c.args.next c.in-Ok.evicted c.forget.result c.in-Ok.ensures.old c.forget.ensures.flow
 
-pub returns-in-None-clause-after : goal.returns-in-None-clause-after
-returns-in-None-clause-after c =
-    let es = entries_of c.self.inside.cache.entries in
-    let none = missing c.self.inside.numbers c.args.key.now (sym c.in-None.ensures) c.self.inside.cache.entries c.self.invariant.found in
-    sym c.self.view_is ∙ sym (ap (λ l. lives_with l c.self.inside.cache.cap) (promoted-none c.args.key.now es none))
-    ∙ ap (λ (l : LivesState). lives_with (promoted (same_key c.args.key.now) l.entries) l.cap) c.self.view_is
+pub returns-in-Ok-clause-after : goal.returns-in-Ok-clause-after
+returns-in-Ok-clause-after c =
+    begun-after c.self.inside.numbers c.args.key.now c.self.inside.cache c.self.invariant c.args.self.now c.self.view_is
+    (sym c.in_ok-number.ensures.value ∙ c.in-None.is) c.args.next c.push.new.self c.in-Ok.ensures.entries
+
+pub invariant_of-self-in-Err : goal.invariant_of-self-in-Err
+invariant_of-self-in-Err c =
+    undone-indexed c.self.inside.numbers c.args.key.now c.self.inside.cache c.self.invariant c.args.self.now c.self.view_is
+    (sym c.in_ok-number.ensures.value ∙ c.in-None.is) c.args.next c.get_or_insert.new.self c.remove.new.self c.push.new.self
+    (c.in_ok-number.ensures.puts c.in-None.is) c.remove.ensures c.in-Err.ensures.err
+
+pub returns-in-Err-clause-known : goal.returns-in-Err-clause-known
+returns-in-Err-clause-known c =
+    unasked (lookup (same_key c.args.key.now) c.args.self.now.entries) _
+    (unkept c.self.inside.numbers c.args.key.now c.self.inside.cache c.self.invariant c.args.self.now c.self.view_is
+    (sym c.in_ok-number.ensures.value ∙ c.in-None.is))
