@@ -32,6 +32,10 @@ use Rattle.record_jobs.specs.Way.{LinkedRecord, Way}
 abbrev pub read_item : Moment → Placed → List ℕ → Item
 read_item moment read payload = item_of kind.Packet moment (record { ip = read.ip; body = read.body; payload = payload })
 
+-- nothing
+abbrev pub no_content : RecordContent
+no_content = record { fragment = None; packet = None; skip = None; rebuilt = false }
+
 -- a packet that is no fragment
 abbrev pub packet_content : Moment → Fields → RecordContent
 packet_content moment fields = record {

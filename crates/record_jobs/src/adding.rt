@@ -14,28 +14,37 @@ use crate::time::Time;
 use edge_io::{Moment, NoMemory};
 use flow_lanes::{Job, Payload, Work};
 use packet_decode::{Body, ItemKind, Placed};
+use std::mem;
 use stream5_sessions::Touch;
 
-/// An item by itself.
-fn alone(item: Item<'_>) -> Work<'_>
-    ensures { result ≡ alone item.entry }
+/// The payload of an item, which has none then.
+fn payload_of<'a>(item: &mut Item<'a>) -> Payload<'a>
+    ensures { result ≡ item.old.payload }
 {
-    let Item { head, payload } = item;
-    Work::Alone { head, payload }
+    mem::replace(&mut item.payload, Payload::lent(&[]))
 }
 
-/// A packet of a flow.
-#[tactic(auto, unfolding(crate::specs::Jobs::flow_packet))]
-fn flow_packet<'a>(by: &FrontConfig<'_>, time: Time, item: Item<'a>, flow: u64) -> Work<'a>
-    requires { length by.now.config.now.stream.engines ≤ 1024 }
-    ensures { result ≡ flow_packet (way_of by.now) time item.entry flow }
+/// An item by itself. Its payload goes with it.
+fn alone<'a>(item: &mut Item<'a>) -> Work<'a>
+    ensures { result ≡ alone item.old }
 {
-    let Item { head, payload } = item;
-    let (to_dst, to_src) = towards(by, is_tcp(head.body), time, &head.ip);
+    Work::Alone {
+        head: item.head,
+        payload: payload_of(item),
+    }
+}
+
+/// A packet of a flow. Its payload goes with it.
+#[tactic(auto, unfolding(crate::specs::Jobs::flow_packet))]
+fn flow_packet<'a>(by: &FrontConfig<'_>, time: Time, item: &mut Item<'a>, flow: u64) -> Work<'a>
+    requires { length by.now.config.now.stream.engines ≤ 1024 }
+    ensures { result ≡ flow_packet (way_of by.now) time item.old flow }
+{
+    let (to_dst, to_src) = towards(by, is_tcp(item.head.body), time, &item.head.ip);
     Work::Packet {
         flow,
-        head,
-        payload,
+        head: item.head,
+        payload: payload_of(item),
         to_dst,
         to_src,
     }
@@ -56,10 +65,10 @@ fn packet_work<'a>(
     by: &FrontConfig<'_>,
     time: Time,
     touch: Option<Touch>,
-    item: Item<'a>,
+    item: &mut Item<'a>,
 ) -> Work<'a>
     requires { length by.now.config.now.stream.engines ≤ 1024 }
-    ensures { result ≡ packet_work (way_of by.now) time touch item.entry }
+    ensures { result ≡ packet_work (way_of by.now) time touch item.old }
 {
     match touch {
         Some(touch) => flow_packet(by, time, item, touch.flow),
@@ -154,12 +163,12 @@ fn add_fragment<'a>(
     out: &mut Vec<Job<'a>>,
     number: u64,
     moment: Moment,
-    fragment: Option<Item<'a>>,
+    fragment: &mut Option<Item<'a>>,
 ) -> Result<u64, NoMemory>
     requires { number + 1 < 2 ^ 64 }
-    ensures next { IfOk result (λ next. next ≡ number + length (option_to_list (option_map alone fragment.entry))) }
+    ensures next { IfOk result (λ next. next ≡ number + length (option_to_list (option_map alone fragment.old))) }
     ensures added { OnOk result (out.new.items
-        ≡ out.old.items ++ numbered number moment (option_to_list (option_map alone fragment.entry))) }
+        ≡ out.old.items ++ numbered number moment (option_to_list (option_map alone fragment.old))) }
     ensures err { OnErr result (out.new.items ≡ out.old.items) }
 {
     match fragment {
@@ -174,15 +183,15 @@ fn add_item<'a>(
     by: &FrontConfig<'_>,
     time: Time,
     touch: Option<Touch>,
-    packet: Option<Item<'a>>,
+    packet: &mut Option<Item<'a>>,
     number: u64,
 ) -> Result<u64, NoMemory>
     requires engines { length by.now.config.now.stream.engines ≤ 1024 }
     requires room { number + 1 < 2 ^ 64 }
     ensures next { IfOk result
-        (λ next. next ≡ number + length (option_to_list (option_map (packet_work (way_of by.now) time touch) packet.entry))) }
+        (λ next. next ≡ number + length (option_to_list (option_map (packet_work (way_of by.now) time touch) packet.old))) }
     ensures added { OnOk result (out.new.items ≡ out.old.items
-        ++ numbered number time.now (option_to_list (option_map (packet_work (way_of by.now) time touch) packet.entry))) }
+        ++ numbered number time.now (option_to_list (option_map (packet_work (way_of by.now) time touch) packet.old))) }
     ensures err { OnErr result (out.new.items ≡ out.old.items) }
 {
     match packet {
@@ -191,30 +200,26 @@ fn add_item<'a>(
     }
 }
 
-/// Adds what is done for a record, where its touch found this, and gives the number of the next job.
+/// Adds what is done for a record, where its touch found this, and gives the number of the next job. The jobs take the
+/// payloads of what the record brought.
 pub(crate) fn add_works<'a>(
     out: &mut Vec<Job<'a>>,
     by: &FrontConfig<'_>,
     time: Time,
     touch: Option<Touch>,
-    content: RecordContent<'a>,
+    content: &mut RecordContent<'a>,
     number: u64,
 ) -> Result<u64, NoMemory>
     requires engines { length by.now.config.now.stream.engines ≤ 1024 }
     requires room { number + 3 < 2 ^ 64 }
     ensures added { IfOk result (λ next. Adds number time.now
-        (works_by (way_of by.now) time touch content.entry.fragment content.entry.packet) out.old.items next out.new.items) }
+        (works_by (way_of by.now) time touch content.old.fragment content.old.packet) out.old.items next out.new.items) }
     ensures few { IfOk result (λ next. next ≤ number + 3) }
     ensures err { OnErr result (take (length out.old.items) out.new.items ≡ out.old.items) }
 {
-    let RecordContent {
-        fragment,
-        packet,
-        ..
-    } = content;
     let number = add_evicted(out, number, time.now, evicted(touch))?;
-    let number = add_fragment(out, number, time.now, fragment)?;
-    let next = add_item(out, by, time, touch, packet, number)?;
+    let number = add_fragment(out, number, time.now, &mut content.fragment)?;
+    let next = add_item(out, by, time, touch, &mut content.packet, number)?;
     Ok(next)
 }
 

@@ -3,7 +3,7 @@ ghost use Rattle.std.specs.Prelude.{◌≡◌, ◌≤◌, length, IfOk, IfSome, 
 ghost use Rattle.packet_decode.specs.Decoding.{fields_of};
 ghost use Rattle.ipv6_decode.specs.Versions.{IsReadAsFour};
 ghost use Rattle.record_jobs.specs.Packets.{completed_datagram, datagram_from, datagram_item, datagram_of_fragment, datagram_skip, is_fragment, item_of, said_by};
-ghost use Rattle.record_jobs.specs.Steps.{content_from, fragment_content, packet_content, record_content, waiting_after, waiting_after_fragment, waiting_from, HasShortPacket, IsShortDatagram, IsShortItem};
+ghost use Rattle.record_jobs.specs.Steps.{content_from, fragment_content, no_content, packet_content, record_content, waiting_after, waiting_after_fragment, waiting_from, HasShortPacket, IsShortDatagram};
 ghost use Rattle.record_jobs.specs.Way.{linked, way_of};
 
 use crate::config::FrontConfig;
@@ -18,6 +18,8 @@ use pcap_input::Record;
 use std::alloc::Global;
 
 /// What a record brings.
+///
+/// It is written in its place: answered, it would be moved from call to call.
 #[derive(Debug, Drop)]
 pub(crate) struct RecordContent<'a> {
     /// The record's fragment, where it is one.
@@ -28,6 +30,19 @@ pub(crate) struct RecordContent<'a> {
     pub skip: Option<Skip>,
     /// Whether the record's fragment completed a datagram.
     pub rebuilt: bool,
+}
+
+/// Nothing yet.
+#[inline(always)]
+pub(crate) fn no_content<'a>() -> RecordContent<'a>
+    ensures { result ≡ no_content }
+{
+    RecordContent {
+        fragment: None,
+        packet: None,
+        skip: None,
+        rebuilt: false,
+    }
 }
 
 /// Whether a packet is a fragment.
@@ -50,16 +65,12 @@ fn item_of<'a>(kind: ItemKind, moment: Moment, packet: &Packet<'a>) -> Item<'a>
     }
 }
 
-/// What a packet brings that is no fragment.
-fn packet_content<'a>(moment: Moment, packet: &Packet<'a>) -> RecordContent<'a>
-    ensures { result ≡ packet_content moment (fields_of packet.now) }
+/// Writes what a packet brings that is no fragment.
+fn packet_content<'a>(moment: Moment, packet: &Packet<'a>, content: &mut RecordContent<'a>)
+    requires { content.old ≡ no_content }
+    ensures { content.new ≡ packet_content moment (fields_of packet.now) }
 {
-    RecordContent {
-        fragment: None,
-        packet: Some(item_of(ItemKind::Packet, moment, packet)),
-        skip: None,
-        rebuilt: false,
-    }
+    content.packet = Some(item_of(ItemKind::Packet, moment, packet));
 }
 
 /// What is inspected of a packet of a datagram, its payload copied: the datagram is done with before its job is.
@@ -77,24 +88,26 @@ fn rebuilt_item<'a>(
     })
 }
 
-/// What is inspected of a datagram, or why it is skipped.
-fn datagram_item<'a>(
+/// Writes what is inspected of a datagram, or why it is skipped.
+fn datagram_item(
     alloc: Global,
     checks: Checks,
     moment: Moment,
     datagram: &Datagram,
-) -> Result<(Option<Item<'a>>, Option<Skip>), NoMemory>
-    ensures item { IfOk result (λ said. said.0 ≡ datagram_item checks moment (Some datagram.now)) }
-    ensures skip { IfOk result (λ said. said.1 ≡ datagram_skip checks (Some datagram.now)) }
-    ensures short { IsShortDatagram datagram.now → IfOk result (λ said. IfSome said.0 IsShortItem) }
+    content: &mut RecordContent<'_>,
+) -> Result<(), NoMemory>
+    requires { content.old ≡ no_content }
+    ensures said { OnOk result (content.new ≡ record no_content {
+      packet = datagram_item checks moment (Some datagram.now);
+      skip = datagram_skip checks (Some datagram.now);
+    }) }
+    ensures short { IsShortDatagram datagram.now → OnOk result (HasShortPacket content.new) }
 {
     match packet_of_datagram(datagram.ip, datagram.bytes.bytes(), checks) {
-        Ok(packet) => {
-            let item = rebuilt_item(alloc, moment, &packet)?;
-            Ok((Some(item), None))
-        }
-        Err(skip) => Ok((None, Some(skip))),
+        Ok(packet) => content.packet = Some(rebuilt_item(alloc, moment, &packet)?),
+        Err(skip) => content.skip = Some(skip),
     }
+    Ok(())
 }
 
 /// The datagram, where a fragment completed one.
@@ -131,7 +144,7 @@ fn accept_fragment(
     }
 }
 
-/// What a fragment brings that completed this datagram.
+/// Writes what a fragment brings that completed this datagram.
 // Kept out of the line of the other fragments, which otherwise pay for its moves.
 #[inline(never)]
 fn completing_content<'a>(
@@ -140,21 +153,20 @@ fn completing_content<'a>(
     moment: Moment,
     packet: &Packet<'a>,
     datagram: &Datagram,
-) -> Result<RecordContent<'a>, NoMemory>
-    ensures content { IfOk result (λ content.
-        content ≡ fragment_content checks moment (fields_of packet.now) (Some datagram.now)) }
-    ensures short { IsShortDatagram datagram.now → IfOk result HasShortPacket }
+    content: &mut RecordContent<'a>,
+) -> Result<(), NoMemory>
+    requires { content.old ≡ no_content }
+    ensures content { OnOk result
+        (content.new ≡ fragment_content checks moment (fields_of packet.now) (Some datagram.now)) }
+    ensures short { IsShortDatagram datagram.now → OnOk result (HasShortPacket content.new) }
 {
-    let (item, skip) = datagram_item(alloc, checks, moment, datagram)?;
-    Ok(RecordContent {
-        fragment: Some(item_of(ItemKind::Fragment, moment, packet)),
-        packet: item,
-        skip,
-        rebuilt: true,
-    })
+    datagram_item(alloc, checks, moment, datagram, content)?;
+    content.fragment = Some(item_of(ItemKind::Fragment, moment, packet));
+    content.rebuilt = true;
+    Ok(())
 }
 
-/// What a fragment brings: itself, and the datagram that it completes.
+/// Writes what a fragment brings: itself, and the datagram that it completes.
 // Kept out of the line of other packets, which otherwise pay for its moves.
 #[inline(never)]
 fn fragment_content<'a>(
@@ -163,26 +175,26 @@ fn fragment_content<'a>(
     frag3: &mut Option<Frag3>,
     moment: Moment,
     packet: &Packet<'a>,
-) -> Result<RecordContent<'a>, NoMemory>
-    ensures content { IfOk result (λ content. content ≡ fragment_content by.now.checks moment (fields_of packet.now)
+    content: &mut RecordContent<'a>,
+) -> Result<(), NoMemory>
+    requires { content.old ≡ no_content }
+    ensures content { OnOk result (content.new ≡ fragment_content by.now.checks moment (fields_of packet.now)
         (datagram_of_fragment (way_of by.now) frag3.old moment (fields_of packet.now))) }
     ensures after { OnOk result
         (frag3.new ≡ waiting_after_fragment (way_of by.now) frag3.old moment (fields_of packet.now)) }
     ensures short { IfSome (datagram_of_fragment (way_of by.now) frag3.old moment (fields_of packet.now)) IsShortDatagram
-        → IfOk result HasShortPacket }
+        → OnOk result (HasShortPacket content.new) }
 {
     match accept_fragment(alloc, by, frag3, moment, packet)? {
-        None => Ok(RecordContent {
-            fragment: Some(item_of(ItemKind::Fragment, moment, packet)),
-            packet: None,
-            skip: None,
-            rebuilt: false,
-        }),
-        Some(datagram) => completing_content(alloc, by.checks, moment, packet, &datagram),
+        None => {
+            content.fragment = Some(item_of(ItemKind::Fragment, moment, packet));
+            Ok(())
+        }
+        Some(datagram) => completing_content(alloc, by.checks, moment, packet, &datagram, content),
     }
 }
 
-/// What a packet brings: its fragment, or itself.
+/// Writes what a packet brings: its fragment, or itself.
 #[tactic(auto, using(crate::proofs::Fronts::Contents::contents))]
 fn content_of<'a>(
     alloc: Global,
@@ -190,21 +202,24 @@ fn content_of<'a>(
     frag3: &mut Option<Frag3>,
     moment: Moment,
     packet: &Packet<'a>,
-) -> Result<RecordContent<'a>, NoMemory>
-    requires { length packet.now.payload.now ≤ 65535 }
-    ensures content { IfOk result (λ content.
-        content ≡ content_from (way_of by.now) frag3.old moment (Ok (fields_of packet.now))) }
+    content: &mut RecordContent<'a>,
+) -> Result<(), NoMemory>
+    requires small { length packet.now.payload.now ≤ 65535 }
+    requires none { content.old ≡ no_content }
+    ensures content { OnOk result
+        (content.new ≡ content_from (way_of by.now) frag3.old moment (Ok (fields_of packet.now))) }
     ensures after { OnOk result (frag3.new ≡ waiting_from (way_of by.now) frag3.old moment (Ok (fields_of packet.now))) }
     ensures short { IfSome (datagram_from (way_of by.now) frag3.old moment (Ok (fields_of packet.now))) IsShortDatagram
-        → IfOk result HasShortPacket }
+        → OnOk result (HasShortPacket content.new) }
 {
     if is_fragment(packet.body) {
-        return fragment_content(alloc, by, frag3, moment, packet);
+        return fragment_content(alloc, by, frag3, moment, packet, content);
     }
-    Ok(packet_content(moment, packet))
+    packet_content(moment, packet, content);
+    Ok(())
 }
 
-/// What a record brings, whose bytes begin with this link layer; `four` is what was read of it as version 4.
+/// Writes what a record brings, whose bytes begin with this link layer; `four` is what was read of it as version 4.
 #[tactic(auto, using(crate::proofs::Fronts::Contents::contents), unfolding(crate::specs::Steps::record_content, crate::specs::Steps::waiting_after, crate::specs::Packets::said_by))]
 pub(crate) fn read_record<'a>(
     alloc: Global,
@@ -213,21 +228,21 @@ pub(crate) fn read_record<'a>(
     link: Link,
     captured: &'a Record,
     four: Result<&Placed, Skip>,
-) -> Result<RecordContent<'a>, NoMemory>
-    requires { IsReadAsFour link captured.now.bytes by.now.checks four }
-    ensures content { IfOk result (λ content. content ≡ record_content (way_of by.now) frag3.old (linked link captured.now)) }
+    content: &mut RecordContent<'a>,
+) -> Result<(), NoMemory>
+    requires four { IsReadAsFour link captured.now.bytes by.now.checks four }
+    requires none { content.old ≡ no_content }
+    ensures content { OnOk result (content.new ≡ record_content (way_of by.now) frag3.old (linked link captured.now)) }
     ensures after { OnOk result (frag3.new ≡ waiting_after (way_of by.now) frag3.old (linked link captured.now)) }
     ensures short { IfSome (datagram_from (way_of by.now) frag3.old captured.now.moment
         (said_by (way_of by.now) (linked link captured.now))) IsShortDatagram
-        → IfOk result HasShortPacket }
+        → OnOk result (HasShortPacket content.new) }
 {
     match packet_of_record(four, link, captured.bytes.bytes(), by.checks) {
-        Ok(packet) => content_of(alloc, by, frag3, captured.moment, &packet),
-        Err(skip) => Ok(RecordContent {
-            fragment: None,
-            packet: None,
-            skip: Some(skip),
-            rebuilt: false,
-        }),
+        Ok(packet) => content_of(alloc, by, frag3, captured.moment, &packet, content),
+        Err(skip) => {
+            content.skip = Some(skip);
+            Ok(())
+        }
     }
 }

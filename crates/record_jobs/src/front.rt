@@ -8,7 +8,7 @@ ghost use Rattle.record_jobs.specs.Way.{linked, way_of};
 
 use crate::adding::{add_finishes, add_packet, add_works};
 use crate::config::FrontConfig;
-use crate::content::{is_fragment, read_record};
+use crate::content::{is_fragment, no_content, read_record};
 use crate::counts::{RecordCounts, is_fresh};
 use crate::time::Time;
 use crate::touches::{content_key, touch_key, tracked_key};
@@ -181,11 +181,20 @@ impl Front {
         self.counts.records += 1;
         self.begin = Some(time.first);
         self.last = time.now;
-        let content = read_record(alloc, by, &mut self.frag3, link, captured, four)?;
+        let mut content = no_content();
+        read_record(
+            alloc,
+            by,
+            &mut self.frag3,
+            link,
+            captured,
+            four,
+            &mut content,
+        )?;
         let key = content_key(by, &content);
         let touch = touch_key(&mut self.flows, key)?;
         self.counts = counts.with_record(&content, touch);
-        self.next = add_works(out, by, time, touch, content, self.next)?;
+        self.next = add_works(out, by, time, touch, &mut content, self.next)?;
         Ok(())
     }
 

@@ -16,7 +16,7 @@ returns-clause-steps c =
     let way = way_of c.args.by.now in
     let r = linked c.args.link c.args.captured.now in
     let flows = c.self.inside.flows in
-    let content = c.in_ok-content.content in
+    let content = c.read_record.new.content in
     let touch = c.in_ok-touch.touch in
     let items = c.args.out.now.items in
     let next = c.in_ok-self-inside.field-0 in
@@ -30,14 +30,14 @@ returns-clause-steps c =
     } in
     subst (λ (front : FrontState). Steps way front r new items c.add_works.new.out.items) c.self.view_is
     (by_content way (front_of c.self.inside) new r content touch items c.add_works.new.out.items
-    c.in_ok-content.ensures.content
+    c.in_ok-read_record.ensures.content
     (subst (λ (key : Option Key). FindsTouch flows key touch) c.content_key-key.ensures c.in_ok-touch.ensures.found)
     (subst (λ (key : Option Key). SeesKey flows key c.touch_key.new.flows) c.content_key-key.ensures c.in_ok-touch.ensures.sees)
     c.in_ok-touch.ensures.most
-    c.in_ok-content.ensures.after
+    c.in_ok-read_record.ensures.after
     (ap (λ (time : Time). Some time.first) c.of-time.ensures)
     (ap (λ (time : Time). time.now) c.of-time.ensures)
     c.with_record-self-inside.ensures.value
     (subst (λ (time : Time). Adds c.self.inside.next time.now (works_by way time touch content.fragment content.packet) items next
     c.add_works.new.out.items) c.of-time.ensures c.in_ok-self-inside.ensures.added)
-    c.in_ok-content.ensures.short)
+    c.in_ok-read_record.ensures.short)
