@@ -4,6 +4,7 @@ pub mod Fronts
 pub mod Numbers
 pub mod Cuts
 pub mod Drafts
+pub mod Steps
 pub mod Lists
 pub mod Addresses
 pub mod Membership

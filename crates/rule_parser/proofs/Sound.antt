@@ -1,5 +1,4 @@
 -- A rule that is read is sound, option by option.
-pub mod Steps
 pub mod Drafts
 pub mod Values
 pub mod Texts

@@ -1,17 +1,17 @@
 -- The frag3 lines keep a sound draft.
-use Rattle.std.proofs.Common.{◌≡◌, ℕ, ◌≤◌, false, List, [], ◌∷◌, ◌++◌, length, Option, Some, None, Ok, arith}
-use Rattle.std.specs.Prelude.{IfSome, All, nat_le, unwrap_or}
+use Rattle.std.proofs.Common.{ℕ, ◌≤◌, List, ◌∷◌, length, Option, Some, None, arith, []}
+use Rattle.std.specs.Prelude.{IfSome, All, unwrap_or, is_none, ◌&&◌}
 use Rattle.std.proofs.lemmas.List.Elements.{All-push, All-nil}
 use Rattle.net_lists.specs.Variables.{Variables}
+use Rattle.net_lists.proofs.Steps.{Holds, given, refused, unless, chained, after_any, ranged, steps}
 use Rattle.conf_types.specs.declared.config.FragEngine.{FragEngine}
 use Rattle.conf_parser.specs.declared.draft.FragDraft.{FragDraft}
-use Rattle.conf_parser.specs.Options.{settings_after}
 use Rattle.conf_parser.specs.Values.{setting_text}
 use Rattle.conf_types.specs.Defaults.{default_frag_engine}
-use Rattle.conf_parser.specs.Frag3.{global_setting, with_max_frags, frag3_global, is_alone, engine_setting, with_engine, frag3_engine}
+use Rattle.conf_parser.specs.Frag3.{global_setting, with_max_frags, frag3_global, is_alone, engine_setting, with_engine, frag3_engine, has_default}
 use Rattle.conf_types.specs.Sound.{IsWithin, IsFragEngine, IsFragConfig}
 use Rattle.conf_parser.specs.Settings.{frag_of}
-use Rattle.conf_parser.proofs.Sound.Steps.{Holds, Any, anything, given, refused, choice, unless, same, free, chained, ranged, numbered, set, pushed-few}
+use Rattle.conf_parser.proofs.Sound.Steps.{free, numbered, set, pushed-few}
 
 -- what the frag3 lines read so far say
 pub record IsFragDraft (draft : FragDraft) : Type 0 where
@@ -21,23 +21,21 @@ pub record IsFragDraft (draft : FragDraft) : Type 0 where
 
 global_setting-within : (frags : ℕ) (name : List ℕ) (value : Option (List ℕ)) → IsWithin 1 1048576 frags → Holds (IsWithin 1 1048576) (global_setting frags name value)
 unfolding global_setting
-global_setting-within frags name None within = search refused
-global_setting-within frags name (Some value) within = search (choice, refused, same, ranged, within) depth 9
+global_setting-within frags name None within = refused
+global_setting-within frags name (Some value) within = search (steps, free, ranged, within) depth 9
 
 pub frag3_global-sound : (draft : FragDraft) (rest : List ℕ) → IsFragDraft draft → Holds IsFragDraft (frag3_global draft rest)
 unfolding frag3_global with_max_frags
 frag3_global-sound draft rest sound =
-    chained Any IsFragDraft (setting_text rest) _ (anything (setting_text rest)) (λ text any.
-    chained (IsWithin 1 1048576) IsFragDraft (settings_after (λ name. false) global_setting 8192 text) _
-    (set (IsWithin 1 1048576) (λ name. false) global_setting global_setting-within 8192 text (omega arith, omega arith))
-    (λ frags within. search (choice, given, refused, sound, within) depth 9))
+    after_any (setting_text rest) (λ text.
+    chained (set _ global_setting-within 8192 text (omega arith, omega arith)) (λ frags within. search (steps, sound, within) depth 9))
 
 -- an engine
 module _ (variables : Variables) where
   engine_setting-sound : (engine : FragEngine) (name : List ℕ) (value : Option (List ℕ)) → IsFragEngine engine → Holds IsFragEngine (engine_setting variables engine name value)
   unfolding engine_setting
-  engine_setting-sound engine name None sound = search (choice, given, refused, sound) depth 9
-  engine_setting-sound engine name (Some value) sound = search (choice, numbered, free, refused, sound) depth 12
+  engine_setting-sound engine name None sound = search (steps, sound) depth 9
+  engine_setting-sound engine name (Some value) sound = search (steps, numbered, free, sound) depth 12
 
   first-sound : IsFragEngine default_frag_engine
   first-sound = record { timeout = (omega arith, omega arith); min_ttl = (omega arith, omega arith) }
@@ -45,22 +43,18 @@ module _ (variables : Variables) where
   with_engine-sound : (draft : FragDraft) (engine : FragEngine) → IsFragDraft draft → IsFragEngine engine → Holds IsFragDraft (with_engine draft engine)
   unfolding with_engine
   with_engine-sound draft engine sound one =
-      let kept : nat_le 1024 (length draft.engines) ≡ false
-      → Holds IsFragDraft (Ok (record draft { engines = draft.engines ++ engine ∷ [] })) =
-      λ few. given IsFragDraft (record draft { engines = draft.engines ++ engine ∷ [] }) (record {
+      unless (is_none engine.bind && has_default draft.engines) _ (λ _.
+      unless _ _ (λ few. given (record {
         max_frags = sound.max_frags;
         count = pushed-few draft.engines engine few;
         engines = All-push IsFragEngine draft.engines engine sound.engines one;
-      }) in
-      search (choice, unless, refused, kept) depth 9
+      })))
 
   pub frag3_engine-sound : (draft : FragDraft) (rest : List ℕ) → IsFragDraft draft → Holds IsFragDraft (frag3_engine variables draft rest)
   unfolding frag3_engine
   frag3_engine-sound draft rest sound =
-      chained Any IsFragDraft (setting_text rest) _ (anything (setting_text rest)) (λ text any.
-      chained IsFragEngine IsFragDraft (settings_after is_alone (engine_setting variables) default_frag_engine text) _
-      (set IsFragEngine is_alone (engine_setting variables) engine_setting-sound default_frag_engine text first-sound)
-      (λ engine one. with_engine-sound draft engine sound one))
+      after_any (setting_text rest) (λ text.
+      chained (set is_alone engine_setting-sound default_frag_engine text first-sound) (λ engine one. with_engine-sound draft engine sound one))
 
 -- before the first line
 pub first_frag-sound : IsFragDraft (record { max_frags = None; engines = [] })

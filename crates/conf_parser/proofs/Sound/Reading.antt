@@ -3,6 +3,7 @@ use Rattle.std.proofs.Common.{◌≡◌, ℕ, List, Result, Ok, Err, sym, ap, su
 use Rattle.std.specs.Prelude.{Option, OnOk}
 use Rattle.edge_io.specs.Files.{Files}
 use Rattle.net_lists.specs.Variables.{Variables}
+use Rattle.net_lists.proofs.Steps.{Holds}
 use Rattle.conf_parser.specs.declared.draft.Settings.{Settings}
 use Rattle.conf_parser.specs.declared.given.Onward.{Onward}
 use Rattle.conf_parser.specs.declared.line.ConfKind.{ConfKind}
@@ -14,7 +15,6 @@ use Rattle.conf_parser.specs.Reading.{Contents, Whole, read_files}
 use Rattle.conf_parser.specs.Settings.{config_of}
 use Rattle.conf_types.specs.Sound.{IsSound}
 use Rattle.conf_parser.proofs.Readings.Keeping.{LinesKeep, whole-keeps}
-use Rattle.conf_parser.proofs.Sound.Steps.{Holds}
 use Rattle.conf_parser.proofs.Sound.Lines.{IsSoundDraft, Kept, first_draft-sound, config_of-sound, conf_line-sound}
 
 -- settings whose draft is sound

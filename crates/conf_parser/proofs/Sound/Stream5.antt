@@ -1,15 +1,16 @@
 -- The stream5 lines keep a sound draft.
-use Rattle.std.proofs.Common.{◌≡◌, ℕ, ◌≤◌, ◌==◌, Bool, true, false, ◌&&◌, cond, List, [], ◌∷◌, ◌++◌, length, Option, Some, None, Result, Ok, Err, refl, arith}
-use Rattle.std.specs.Prelude.{IfSome, All, nat_le, unwrap_or, codes}
+use Rattle.std.proofs.Common.{◌≡◌, ℕ, ◌≤◌, ◌==◌, Bool, true, false, cond, List, length, Option, Some, None, Result, refl, arith, ◌&&◌, []}
+use Rattle.std.specs.Prelude.{IfSome, All, nat_le, unwrap_or, codes, is_none}
 use Rattle.std.specs.Option.{option_and_then}
 use Rattle.std.proofs.lemmas.Bool.Decides.{nat_tests}
 use Rattle.std.proofs.lemmas.List.Elements.{All-push, All-nil}
-use Rattle.net_lists.specs.Cutting.{first_word, after_word}
+use Rattle.net_lists.specs.Cutting.{after_word, first_word}
 use Rattle.net_lists.specs.Folds.{draft_after}
 use Rattle.net_lists.specs.Numbers.{number_in}
 use Rattle.net_lists.specs.Variables.{Variables}
 use Rattle.net_lists.specs.declared.part.Part.{Part as PortPart}
 use Rattle.net_lists.specs.declared.part.Bounds.{Bounds}
+use Rattle.net_lists.proofs.Steps.{Holds, given, refused, tested, unless, kinded, chained, after_any, folded, ranged, number_in-within, steps}
 use Rattle.conf_types.specs.declared.config.StreamEngine.{StreamEngine}
 use Rattle.conf_parser.specs.declared.draft.StreamDraft.{StreamDraft}
 use Rattle.conf_parser.specs.declared.draft.StreamGlobal.{StreamGlobal}
@@ -26,13 +27,13 @@ use Rattle.conf_parser.specs.declared.stream5.TcpName.TheVariants as tcp
 use Rattle.conf_parser.specs.Settings.{stream_of, default_global}
 use Rattle.conf_types.specs.Sound.{IsWithin, IsStreamEngine, IsStreamConfig}
 use Rattle.conf_types.specs.Defaults.{default_stream_engine}
-use Rattle.conf_parser.specs.Stream5.{complete, lacking, onward, whole, stream_parts, global_name, global_value, wants_value}
+use Rattle.conf_parser.specs.Stream5.{complete, onward, whole, stream_parts, global_value, global_name, wants_value, tcp_name, lacks_value, has_default}
 use Rattle.conf_parser.specs.Stream5.{named_global, global_part, global_values, with_global, stream5_global, udp_part}
-use Rattle.conf_parser.specs.Stream5.{udp_timeout, with_udp, stream5_udp, tcp_name, limit_from, queue_limit, handshake_seconds}
-use Rattle.conf_parser.specs.Stream5.{side, port_words, with_ports, ports_value, engine_value, tcp_value, lacks_value, named_tcp}
+use Rattle.conf_parser.specs.Stream5.{udp_timeout, with_udp, stream5_udp, limit_from, queue_limit, handshake_seconds}
+use Rattle.conf_parser.specs.Stream5.{side, with_ports, ports_value, engine_value, tcp_value, named_tcp}
 use Rattle.conf_parser.specs.Stream5.{tcp_part, first_tcp, engine_of, tcp_settings, with_engine, stream5_tcp}
-use Rattle.conf_parser.specs.Values.{◌>>=◌, or_kind, mapped, is_empty, is_word, setting_text}
-use Rattle.conf_parser.proofs.Sound.Steps.{Holds, Any, anything, given, refused, choice, unless, same, free, kinded, chained, changed, folded, ranged, numbered, number-within, pushed-few}
+use Rattle.conf_parser.specs.Values.{◌>>=◌, mapped, is_empty, or_kind, is_word, setting_text}
+use Rattle.conf_parser.proofs.Sound.Steps.{changed, free, numbered, pushed-few}
 
 -- the values of the global line
 pub record IsStreamGlobal (values : StreamGlobal) : Type 0 where
@@ -52,82 +53,68 @@ module _ {D : Type 0} (P : D → Type 0) where
   abbrev pub Part : Partial D → Type 0
   Part partial = P partial.draft
 
-  pub onward-sound : (partial : Partial D) (read : Result D ConfKind) → Holds P read → Holds Part (onward partial read)
-  onward-sound partial read p = changed P Part (λ draft. record partial { draft = draft }) read p (λ draft q. q)
-
-  pub lacking-sound : (partial : Partial D) → P partial.draft → Holds Part (Ok (lacking partial))
-  lacking-sound partial p = record { holds = p }
+  pub onward-sound : (partial : Partial D) {read : Result D ConfKind} → Holds P read → Holds Part (onward partial read)
+  onward-sound partial p = changed _ p (λ draft q. q)
 
   pub whole-sound : (partial : Partial D) → P partial.draft → Holds P (whole partial)
-  whole-sound partial p = choice P partial.lacks (Err BadValue) (Ok partial.draft) (refused P BadValue) (given P partial.draft p)
+  whole-sound partial p = unless _ _ (λ _. given p)
 
   -- all settings of a text
-  pub parts-sound : (step : Partial D → List ℕ → Result (Partial D) ConfKind)
+  pub parts-sound : {step : Partial D → List ℕ → Result (Partial D) ConfKind}
       → ((partial : Partial D) (part : List ℕ) → P partial.draft → Holds Part (step partial part))
       → (first : D)
       → P first
       → (parts : List (List ℕ))
       → Holds P (draft_after step (complete first) parts >>= whole)
-  parts-sound step keeps first p parts = chained Part P (draft_after step (complete first) parts) whole (folded Part step keeps (complete first) parts p) whole-sound
+  parts-sound keeps first p parts = chained (folded keeps (complete first) parts p) whole-sound
 
 -- ---- stream5_global
 
 global_value-sound : (values : StreamGlobal) (name : GlobalName) (value : List ℕ) → IsStreamGlobal values → Holds IsStreamGlobal (global_value values name value)
 global_value-sound values global.TrackTcp value sound = search (free, sound)
 global_value-sound values global.TrackUdp value sound = search (free, sound)
-global_value-sound values global.TrackIcmp value sound = search (same, sound)
+global_value-sound values global.TrackIcmp value sound = search (free, sound)
 global_value-sound values global.MaxTcp value sound = search (numbered, sound)
 global_value-sound values global.MaxUdp value sound = search (numbered, sound)
-global_value-sound values global.Unread value sound = search (given, sound)
+global_value-sound values global.Unread value sound = given sound
 
 named_global-sound : (partial : Partial StreamGlobal) (name : GlobalName) (value : List ℕ) → IsStreamGlobal partial.draft → Holds (Part IsStreamGlobal) (named_global partial name value)
 unfolding named_global
 named_global-sound partial name value sound =
-    choice (Part IsStreamGlobal) (wants_value name && is_empty value) (Ok (lacking partial)) (onward partial (global_value partial.draft name value))
-    (lacking-sound IsStreamGlobal partial sound) (onward-sound IsStreamGlobal partial (global_value partial.draft name value) (global_value-sound partial.draft name value sound))
+    tested (wants_value name && is_empty value) (λ _. given sound) (λ _. onward-sound IsStreamGlobal partial (global_value-sound partial.draft name value sound))
 
 global_part-sound : (partial : Partial StreamGlobal) (part : List ℕ) → IsStreamGlobal partial.draft → Holds (Part IsStreamGlobal) (global_part partial part)
 unfolding global_part
-global_part-sound partial part sound =
-    chained Any (Part IsStreamGlobal) (or_kind BadValue (global_name (first_word part))) _
-    (anything _)
-    (λ name any. named_global-sound partial name (after_word part) sound)
+global_part-sound partial part sound = after_any (or_kind BadValue (global_name (first_word part))) (λ name. named_global-sound partial name (after_word part) sound)
 
 default-sound : IsStreamGlobal default_global
 default-sound = record { max_tcp = (omega arith, omega arith); max_udp = (omega arith, omega arith) }
 
 global_values-sound : (text : List ℕ) → Holds IsStreamGlobal (global_values text)
 unfolding global_values
-global_values-sound text = parts-sound IsStreamGlobal global_part global_part-sound default_global default-sound (stream_parts text)
+global_values-sound text = parts-sound IsStreamGlobal global_part-sound default_global default-sound (stream_parts text)
 
 pub stream5_global-sound : (draft : StreamDraft) (rest : List ℕ) → IsStreamDraft draft → Holds IsStreamDraft (stream5_global draft rest)
 unfolding stream5_global with_global
-stream5_global-sound draft rest sound =
-    chained Any IsStreamDraft (setting_text rest) _ (anything (setting_text rest)) (λ text any.
-    chained IsStreamGlobal IsStreamDraft (global_values text) _ (global_values-sound text) (λ values within. search (choice, given, refused, sound, within) depth 9))
+stream5_global-sound draft rest sound = after_any (setting_text rest) (λ text. chained (global_values-sound text) (λ values within. search (steps, sound, within) depth 9))
 
 -- ---- stream5_udp
 
 udp_part-sound : (partial : Partial ℕ) (part : List ℕ) → IsWithin 1 86400 partial.draft → Holds (Part (IsWithin 1 86400)) (udp_part partial part)
 unfolding udp_part
 udp_part-sound partial part within =
-    let Q : Partial ℕ → Type 0 = Part (IsWithin 1 86400) in
-    let read = onward-sound (IsWithin 1 86400) partial (or_kind BadValue (number_in 1 86400 (after_word part))) (ranged BadValue 1 86400 (after_word part)) in
-    let lacks = lacking-sound (IsWithin 1 86400) partial within in
-    let valued = choice Q (is_empty (after_word part)) (Ok (lacking partial)) (onward partial (or_kind BadValue (number_in 1 86400 (after_word part)))) lacks read in
-    let named = choice Q (is_word (first_word part) (codes "timeout")) _ (Err BadValue) valued (refused Q BadValue) in
-    let alone = choice Q (is_empty (after_word part)) (Ok partial) (Err BadValue) (given Q partial within) (refused Q BadValue) in
-    choice Q (is_word (first_word part) (codes "ignore_any_rules")) _ _ alone named
+    tested (is_word (first_word part) (codes "ignore_any_rules")) (λ _. tested (is_empty (after_word part)) (λ _. given within) (λ _. refused)) (λ _.
+    tested (is_word (first_word part) (codes "timeout")) (λ _.
+    tested (is_empty (after_word part)) (λ _. given within) (λ _. onward-sound (IsWithin 1 86400) partial (ranged BadValue 1 86400 (after_word part))))
+    (λ _. refused))
 
 udp_timeout-sound : (text : List ℕ) → Holds (IsWithin 1 86400) (udp_timeout text)
 unfolding udp_timeout
-udp_timeout-sound text = parts-sound (IsWithin 1 86400) udp_part udp_part-sound 30 (omega arith, omega arith) (stream_parts text)
+udp_timeout-sound text = parts-sound (IsWithin 1 86400) udp_part-sound 30 (omega arith, omega arith) (stream_parts text)
 
 pub stream5_udp-sound : (draft : StreamDraft) (rest : List ℕ) → IsStreamDraft draft → Holds IsStreamDraft (stream5_udp draft rest)
 unfolding stream5_udp with_udp
-stream5_udp-sound draft rest sound =
-    chained Any IsStreamDraft (setting_text rest) _ (anything (setting_text rest)) (λ text any.
-    chained (IsWithin 1 86400) IsStreamDraft (udp_timeout text) _ (udp_timeout-sound text) (λ timeout within. search (choice, given, refused, sound, within) depth 9))
+stream5_udp-sound draft rest sound = after_any (setting_text rest) (λ text. chained (udp_timeout-sound text) (λ timeout within. search (steps, sound, within) depth 9))
 
 -- ---- stream5_tcp
 
@@ -146,11 +133,11 @@ queue_limit-within : (least : ℕ) → least ≤ 1073741824 → (value : List �
 unfolding queue_limit
 queue_limit-within least fits value =
     then-within (IsWithin 0 1073741824) (IsWithin least 1073741824) (number_in 0 1073741824 value) (limit_from least)
-    (number-within 0 1073741824 value) (limit-within least fits)
+    (number_in-within 0 1073741824 value) (limit-within least fits)
 
 handshake-within : (value : List ℕ) → IfSome (handshake_seconds value) (IsWithin 0 86400)
 unfolding handshake_seconds
-handshake-within value = by (is_empty value) (number_in 0 86400 value) (number-within 0 86400 value) where
+handshake-within value = by (is_empty value) (number_in 0 86400 value) (number_in-within 0 86400 value) where
   by : (none : Bool) (read : Option ℕ) → IfSome read (IsWithin 0 86400) → IfSome (cond none (Some 0) read) (IsWithin 0 86400)
   by true read p = (omega arith, omega arith)
   by false read p = p
@@ -160,23 +147,11 @@ module _ (variables : Variables) where
   engine_value-sound engine tcp.Policy value sound = search (free, sound)
   engine_value-sound engine tcp.Timeout value sound = search (numbered, sound)
   engine_value-sound engine tcp.BindTo value sound = search (free, sound)
-  engine_value-sound engine tcp.Handshake value sound =
-      changed (IsWithin 0 86400) IsStreamEngine _ (or_kind BadValue (handshake_seconds value))
-      (kinded (IsWithin 0 86400) BadValue (handshake_seconds value) (handshake-within value))
-      (λ n within.
-      record { timeout = sound.timeout; handshake = within; bytes_limit = sound.bytes_limit; segs_limit = sound.segs_limit })
-  engine_value-sound engine tcp.QueuedBytes value sound =
-      changed (IsWithin 1024 1073741824) IsStreamEngine _ (or_kind BadValue (queue_limit 1024 value))
-      (kinded (IsWithin 1024 1073741824) BadValue (queue_limit 1024 value) (queue_limit-within 1024 (omega arith) value))
-      (λ n within.
-      record { timeout = sound.timeout; handshake = sound.handshake; bytes_limit = within; segs_limit = sound.segs_limit })
-  engine_value-sound engine tcp.QueuedSegs value sound =
-      changed (IsWithin 2 1073741824) IsStreamEngine _ (or_kind BadValue (queue_limit 2 value))
-      (kinded (IsWithin 2 1073741824) BadValue (queue_limit 2 value) (queue_limit-within 2 (omega arith) value))
-      (λ n within.
-      record { timeout = sound.timeout; handshake = sound.handshake; bytes_limit = sound.bytes_limit; segs_limit = within })
-  engine_value-sound engine tcp.Ports value sound = search (given, sound)
-  engine_value-sound engine tcp.Unread value sound = search (given, sound)
+  engine_value-sound engine tcp.Handshake value sound = changed _ (kinded BadValue (handshake_seconds value) (handshake-within value)) (λ n within. search (within, sound))
+  engine_value-sound engine tcp.QueuedBytes value sound = changed _ (kinded BadValue (queue_limit 1024 value) (queue_limit-within 1024 (omega arith) value)) (λ n within. search (within, sound))
+  engine_value-sound engine tcp.QueuedSegs value sound = changed _ (kinded BadValue (queue_limit 2 value) (queue_limit-within 2 (omega arith) value)) (λ n within. search (within, sound))
+  engine_value-sound engine tcp.Ports value sound = given sound
+  engine_value-sound engine tcp.Unread value sound = given sound
 
   -- an engine with its ports
   abbrev Tcp : TcpDraft → Type 0
@@ -184,9 +159,7 @@ module _ (variables : Variables) where
 
   ports_value-sound : (draft : TcpDraft) (value : List ℕ) → Tcp draft → Holds Tcp (ports_value draft value)
   unfolding ports_value
-  ports_value-sound draft value sound =
-      chained Any Tcp (or_kind BadValue (side (first_word value))) _ (anything _) (λ side any.
-      chained Any Tcp (port_words (after_word value)) _ (anything _) (λ ports any. given Tcp (with_ports draft side ports) (kept side ports)))
+  ports_value-sound draft value sound = after_any (or_kind BadValue (side (first_word value))) (λ side. after_any _ (λ ports. given (kept side ports)))
     where
       kept : (side : Side) (ports : Option (List (PortPart (Bounds ℕ)))) → Tcp (with_ports draft side ports)
       kept Client ports = sound
@@ -194,11 +167,7 @@ module _ (variables : Variables) where
       kept Both ports = sound
 
   valued : (draft : TcpDraft) (name : TcpName) (value : List ℕ) → Tcp draft → Holds Tcp (mapped (λ engine. record draft { engine = engine }) (engine_value variables draft.engine name value))
-  valued draft name value sound =
-      changed IsStreamEngine Tcp (λ engine. record draft { engine = engine })
-      (engine_value variables draft.engine name value)
-      (engine_value-sound draft.engine name value sound)
-      (λ engine one. one)
+  valued draft name value sound = changed _ (engine_value-sound draft.engine name value sound) (λ engine one. one)
 
   tcp_value-sound : (draft : TcpDraft) (name : TcpName) (value : List ℕ) → Tcp draft → Holds Tcp (tcp_value variables draft name value)
   tcp_value-sound draft tcp.Ports value sound = ports_value-sound draft value sound
@@ -212,13 +181,11 @@ module _ (variables : Variables) where
 
   named_tcp-sound : (partial : Partial TcpDraft) (name : TcpName) (value : List ℕ) → Tcp partial.draft → Holds (Part Tcp) (named_tcp variables partial name value)
   unfolding named_tcp
-  named_tcp-sound partial name value sound =
-      choice (Part Tcp) (lacks_value name value) (Ok (lacking partial)) (onward partial (tcp_value variables partial.draft name value))
-      (lacking-sound Tcp partial sound) (onward-sound Tcp partial (tcp_value variables partial.draft name value) (tcp_value-sound partial.draft name value sound))
+  named_tcp-sound partial name value sound = tested (lacks_value name value) (λ _. given sound) (λ _. onward-sound Tcp partial (tcp_value-sound partial.draft name value sound))
 
   tcp_part-sound : (partial : Partial TcpDraft) (part : List ℕ) → Tcp partial.draft → Holds (Part Tcp) (tcp_part variables partial part)
   unfolding tcp_part
-  tcp_part-sound partial part sound = chained Any (Part Tcp) (or_kind BadValue (tcp_name (first_word part))) _ (anything _) (λ name any. named_tcp-sound partial name (after_word part) sound)
+  tcp_part-sound partial part sound = after_any (or_kind BadValue (tcp_name (first_word part))) (λ name. named_tcp-sound partial name (after_word part) sound)
 
   first-sound : Tcp first_tcp
   unfolding default_stream_engine
@@ -226,7 +193,7 @@ module _ (variables : Variables) where
 
   tcp_settings-sound : (text : List ℕ) → Holds Tcp (tcp_settings variables text)
   unfolding tcp_settings
-  tcp_settings-sound text = parts-sound Tcp (tcp_part variables) tcp_part-sound first_tcp first-sound (stream_parts text)
+  tcp_settings-sound text = parts-sound Tcp tcp_part-sound first_tcp first-sound (stream_parts text)
 
   engine_of-sound : (draft : TcpDraft) → Tcp draft → IsStreamEngine (engine_of draft)
   unfolding engine_of
@@ -235,21 +202,18 @@ module _ (variables : Variables) where
   with_engine-sound : (draft : StreamDraft) (engine : StreamEngine) → IsStreamDraft draft → IsStreamEngine engine → Holds IsStreamDraft (with_engine draft engine)
   unfolding with_engine
   with_engine-sound draft engine sound one =
-      let kept : nat_le 1024 (length draft.engines) ≡ false
-      → Holds IsStreamDraft (Ok (record draft { engines = draft.engines ++ engine ∷ [] })) =
-      λ few. given IsStreamDraft (record draft { engines = draft.engines ++ engine ∷ [] }) (record {
+      unless (is_none engine.bind && has_default draft.engines) _ (λ _.
+      unless _ _ (λ few. given (record {
         global = sound.global;
         udp_timeout = sound.udp_timeout;
         count = pushed-few draft.engines engine few;
         engines = All-push IsStreamEngine draft.engines engine sound.engines one;
-      }) in
-      search (choice, unless, refused, kept) depth 9
+      })))
 
   pub stream5_tcp-sound : (draft : StreamDraft) (rest : List ℕ) → IsStreamDraft draft → Holds IsStreamDraft (stream5_tcp variables draft rest)
   unfolding stream5_tcp
   stream5_tcp-sound draft rest sound =
-      chained Any IsStreamDraft (setting_text rest) _ (anything (setting_text rest)) (λ text any.
-      chained Tcp IsStreamDraft (tcp_settings variables text) _ (tcp_settings-sound text) (λ tcp one. with_engine-sound draft (engine_of tcp) sound (engine_of-sound tcp one)))
+      after_any (setting_text rest) (λ text. chained (tcp_settings-sound text) (λ tcp one. with_engine-sound draft (engine_of tcp) sound (engine_of-sound tcp one)))
 
 -- ---- before the first line and after the last
 

@@ -36,7 +36,7 @@ pub options-class : (classes : List Class) (names later : List (List ℕ)) (draf
     → IsClassOf (length classes) draft.class
 options-class classes names later draft inside few read =
     let sound = rule_options-sound classes (option_texts outside inside) names empty_draft (length inside + 1) few (empty-sound (length classes)) in
-    known-there (length classes) draft.class (rw read at sound).0.class
+    known-there (length classes) draft.class (rw read at sound.holds).0.class
 
 -- after a header that is right, and at one that is wrong
 pub line-body : (variables : Variables) (classes : List Class) (names later : List (List ℕ)) (line : List ℕ) (header : Header) (answer : Result Rule (Stop Fault))
@@ -103,5 +103,5 @@ pub line-sound : (variables : Variables) (classes : List Class) (names later : L
 unfolding IsRuleLine
 line-sound variables classes names later line rule few (inl (header, is, read)) =
     let sound = rule_body-sound classes names header (after_header line) (header-short variables line header is) few in
-    (rw (sym read) at sound).0
+    (rw (sym read) at sound.holds).0
 line-sound variables classes names later line rule few (inr (why, is, never)) = cc

@@ -1,7 +1,7 @@
 -- Contents and their modifiers keep a rule sound.
-use Rattle.std.proofs.Common.{◌≡◌, ℕ, ◌+◌, ◌≤◌, ◌==◌, ◌&&◌, ◌||◌, Bool, true, false, not, cond, ℤ, pos, negsuc, ◌≤ℤ◌, Option}
-use Rattle.std.proofs.Common.{Some, None, Result, Ok, Err, List, [], ◌∷◌, length, take, nat_le, is_some, bytes_eq, codes, refl}
-use Rattle.std.proofs.Common.{sym, ap, subst, ◌∙◌, arith, IfSome, IfOk, count_by, length-take}
+use Rattle.std.proofs.Common.{◌≡◌, ℕ, ◌+◌, ◌≤◌, ◌==◌, ◌&&◌, ◌||◌, Bool, true, false, not, cond, ℤ, pos, negsuc, ◌≤ℤ◌, Option, [], bytes_eq, codes}
+use Rattle.std.proofs.Common.{Some, None, Result, Ok, Err, List, ◌∷◌, length, take, nat_le, is_some, refl}
+use Rattle.std.proofs.Common.{sym, ap, subst, ◌∙◌, arith, IfSome, count_by, length-take}
 use Rattle.std.proofs.lemmas.Bool.Decides.{nat_tests}
 use Rattle.std.proofs.lemmas.Int.{ints}
 use Rattle.std.proofs.lemmas.List.{take_all}
@@ -9,10 +9,12 @@ use Rattle.edge_io.specs.OnResult.{◌>>=◌}
 use Rattle.net_lists.specs.Cutting.{comma_parts}
 use Rattle.net_lists.specs.Numbers.{number_in}
 use Rattle.net_lists.specs.Stops.{or_kind}
+use Rattle.net_lists.proofs.Steps.{Holds, given, refused, tested, unless, chained, after_any, ranged, number_in-within}
+use Rattle.conf_types.specs.Sound.{IsWithin}
 use Rattle.rule_parser.specs.declared.draft.Draft.{Draft}
 use Rattle.rule_parser.specs.declared.draft.Held.{Held}
 use Rattle.rule_parser.specs.declared.fault.Fault.{Fault}
-use Rattle.rule_parser.specs.declared.fault.Fault.TheVariants.{OptionValue, Misplaced, Limit}
+use Rattle.rule_parser.specs.declared.fault.Fault.TheVariants.{Misplaced, OptionValue}
 use Rattle.rule_parser.specs.declared.names.Modifier.{Modifier}
 use Rattle.rule_types.specs.declared.option.Content.{Content}
 use Rattle.rule_types.specs.declared.option.FastMode.{FastMode}
@@ -22,18 +24,16 @@ use Rattle.rule_types.specs.declared.option.Num.TheVariants as num
 use Rattle.rule_types.specs.declared.option.Opt.{Opt}
 use Rattle.rule_parser.specs.declared.quoted.Style.TheVariants.{Bytes}
 use Rattle.rule_parser.specs.declared.quoted.Place.TheVariants.{Plain}
-use Rattle.rule_parser.specs.Contents.{negation, plain_content, with_content, with_bytes, content_option, apart, with_last}
+use Rattle.rule_parser.specs.Contents.{negation, plain_content, with_bytes, content_option, apart, with_last}
 use Rattle.rule_parser.specs.Contents.{nocase, nocase_option, rawbytes, rawbytes_option, is_relative, bars_from, bars_room}
 use Rattle.rule_parser.specs.Contents.{place_text, known_before, with_from, from_option, room_of, with_room, room_option}
 use Rattle.rule_parser.specs.Contents.{fast_part, fast_mode, is_only, fast_on, has_room, bars_fast, fast_pattern_option}
 use Rattle.rule_parser.specs.Drafts.{kept_count, settled}
-use Rattle.rule_parser.specs.Names.{signed_or_named}
 use Rattle.rule_parser.specs.Quotes.{meaning}
 use Rattle.rule_types.specs.Sound.{IsFast, IsContent, is_chosen, is_fast}
 use Rattle.rule_parser.specs.Texts.{quoted_whole}
 use Rattle.rule_parser.proofs.Sound.Drafts.{AreNamed, AreKept, IsHeld, IsSoundDraft, names_after, fast_held, count_held, settled-options, settled-names, settled-length, settled-fast}
-use Rattle.rule_parser.proofs.Sound.Steps.{then_ok, any_ok, kind_ok, if_ok}
-use Rattle.rule_parser.proofs.Sound.Values.{IsIn, IsNumBelow, number_in-within, signed_or_named-below, named-below, num-named}
+use Rattle.rule_parser.proofs.Sound.Values.{IsNumBelow, signed_or_named-below, named-below, num-named}
 
 -- a new content comes after all options that there are
 held-new : (classes : ℕ) (draft : Draft) (content : Content)
@@ -81,17 +81,14 @@ kept-new classes draft content sound is_content plain room =
     same counted all held most true e plain h = cc
     same counted all held most false e plain h = omega arith
 
-with_bytes-sound : (classes : ℕ) (draft : Draft) → IsSoundDraft classes draft → (negated : Bool) (bytes : List ℕ) → IfOk (with_bytes draft negated bytes) (IsSoundDraft classes)
+with_bytes-sound : (classes : ℕ) (draft : Draft) → IsSoundDraft classes draft → (negated : Bool) (bytes : List ℕ) → Holds (IsSoundDraft classes) (with_bytes draft negated bytes)
 with_bytes-sound classes draft sound negated bytes =
-    if_ok (IsSoundDraft classes) (length bytes == 0) _ _ (λ _. tt) (λ some.
-    if_ok (IsSoundDraft classes) (nat_le (length bytes) 2048 && not (nat_le 64 (kept_count draft))) (Ok (with_content draft (plain_content negated bytes))) (Err Limit) (λ room. record {
-      kept = kept-new classes draft (plain_content negated bytes) sound (λ names. (sized (length bytes) (kept_count draft) some room, tt, tt, tt)) refl (free (length bytes) (kept_count draft) room);
-      msg = sound.msg;
-      gid = sound.gid;
-      sid = sound.sid;
-      class = sound.class;
-      period = sound.period;
-    }) (λ _. tt))
+    unless (length bytes == 0) _ (λ some.
+    tested _ (λ room.
+    let new =
+    kept-new classes draft (plain_content negated bytes) sound (λ names. (sized (length bytes) (kept_count draft) some room, tt, tt, tt)) refl
+    (free (length bytes) (kept_count draft) room) in
+    given (search (new, sound))) (λ _. refused))
   where
     sized : (len count : ℕ) → (len == 0) ≡ false → (nat_le len 2048 && not (nat_le 64 count)) ≡ true → (1 ≤ len) × (len ≤ 2048)
     sized len count some room = (grind (arith, nat_tests), grind (arith, nat_tests))
@@ -99,24 +96,23 @@ with_bytes-sound classes draft sound negated bytes =
     free : (len count : ℕ) → (nat_le len 2048 && not (nat_le 64 count)) ≡ true → nat_le 64 count ≡ false
     free len count room = grind (arith, nat_tests)
 
-pub content-sound : (classes : ℕ) (draft : Draft) → IsSoundDraft classes draft → (value : List ℕ) → IfOk (content_option draft value) (IsSoundDraft classes)
+pub content-sound : (classes : ℕ) (draft : Draft) → IsSoundDraft classes draft → (value : List ℕ) → Holds (IsSoundDraft classes) (content_option draft value)
 unfolding content_option
 content-sound classes draft sound value =
-    then_ok (λ _. Unit {0}) (IsSoundDraft classes) (quoted_whole (negation value).1) _ (any_ok (quoted_whole (negation value).1)) (λ inside _.
-    then_ok (λ _. Unit {0}) (IsSoundDraft classes) (or_kind OptionValue (meaning Bytes Plain inside)) _ (any_ok (or_kind OptionValue (meaning Bytes Plain inside))) (λ bytes _.
-    with_bytes-sound classes draft sound (negation value).0 bytes))
+    after_any (quoted_whole (negation value).1) (λ inside.
+    after_any (or_kind OptionValue (meaning Bytes Plain inside)) (λ bytes. with_bytes-sound classes draft sound (negation value).0 bytes))
 
 -- the last content, and the draft without it
 abbrev IsApart : Draft → Held × Draft → Type 0
 IsApart draft parts = (draft.held ≡ Some parts.0) × (parts.1 ≡ record draft { held = None })
 
-apart_ok : (draft : Draft) → IfOk (apart draft) (IsApart draft)
+apart_ok : (draft : Draft) → Holds (IsApart draft) (apart draft)
 unfolding apart
-apart_ok draft = then_ok (λ held. draft.held ≡ Some held) (IsApart draft) (or_kind Misplaced draft.held) _ (go draft.held) (λ held e. (e, refl))
+apart_ok draft = chained (go draft.held) (λ held e. given (e, refl))
   where
-    go : (o : Option Held) → IfOk (or_kind Misplaced o) (λ held. o ≡ Some held)
-    go None = tt
-    go (Some held) = refl
+    go : (o : Option Held) → Holds (λ held. o ≡ Some held) (or_kind Misplaced o)
+    go None = refused
+    go (Some held) = given refl
 
 -- what a modifier makes of the last content is held as that is, and is a fast pattern where that is one
 record IsModified (opts : List Opt) (held next : Held) : Type 0 where
@@ -134,21 +130,15 @@ last-sound classes draft rest held next sound e r modified =
     let Kept : Option Held → Type 0 = λ o. AreKept draft.opts o draft.names draft.fast in
     let Sound : Draft → Type 0 = λ d. IsSoundDraft classes (with_last d next) in
     let before : AreKept draft.opts (Some held) draft.names draft.fast = subst Kept e sound.kept in
-    subst Sound (sym r) (record {
-      kept = record {
-        options = before.options;
-        named = before.named;
-        few = before.few;
-        held = modified.keeps before.held;
-        count = before.count;
-        chosen = as_many (count_by is_fast draft.opts) (is_chosen next.content.fast) (is_chosen held.content.fast) (cond draft.fast 1 0) modified.same before.chosen;
-      };
-      msg = sound.msg;
-      gid = sound.gid;
-      sid = sound.sid;
-      class = sound.class;
-      period = sound.period;
-    })
+    let kept : Kept (Some next) = record {
+      options = before.options;
+      named = before.named;
+      few = before.few;
+      held = modified.keeps before.held;
+      count = before.count;
+      chosen = as_many (count_by is_fast draft.opts) (is_chosen next.content.fast) (is_chosen held.content.fast) (cond draft.fast 1 0) modified.same before.chosen;
+    } in
+    subst Sound (sym r) (search (kept, sound))
   where
     as_many : (count : ℕ) (b before : Bool) (most : ℕ) → b ≡ before → count + cond before 1 0 ≤ most → count + cond b 1 0 ≤ most
     as_many count b before most e h = let number : Bool → ℕ = λ b. cond b 1 0 in omega (arith, ap number e)
@@ -157,28 +147,23 @@ last-sound classes draft rest held next sound e r modified =
 modified-sound : (classes : ℕ) (draft : Draft)
     → IsSoundDraft classes draft
     → (modify : Held → List (List ℕ) → Result Held Fault)
-    → ((held : Held) → IfOk (modify held draft.names) (IsModified draft.opts held))
-    → IfOk (apart draft >>= λ parts. modify parts.0 parts.1.names >>= λ held. Ok (with_last parts.1 held)) (IsSoundDraft classes)
+    → ((held : Held) → Holds (IsModified draft.opts held) (modify held draft.names))
+    → Holds (IsSoundDraft classes) (apart draft >>= λ parts. modify parts.0 parts.1.names >>= λ held. Ok (with_last parts.1 held))
 modified-sound classes draft sound modify h =
-    then_ok (IsApart draft) (IsSoundDraft classes) (apart draft) _ (apart_ok draft) (λ parts e.
-    let names : Draft → List (List ℕ) = λ d. d.names in
-    let Modifies : List (List ℕ) → Type 0 = λ names. IfOk (modify parts.0 names) (IsModified draft.opts parts.0) in
-    then_ok (IsModified draft.opts parts.0) (IsSoundDraft classes) (modify parts.0 parts.1.names) _ (subst Modifies (sym (ap names e.1)) (h parts.0)) (λ next modified.
-    last-sound classes draft parts.1 parts.0 next sound e.0 e.1 modified))
+    chained (apart_ok draft) (λ parts e.
+    let Modifies : List (List ℕ) → Type 0 = λ names. Holds (IsModified draft.opts parts.0) (modify parts.0 names) in
+    chained (subst Modifies (sym (ap (λ (d : Draft). d.names) e.1)) (h parts.0)) (λ next modified.
+    given (last-sound classes draft parts.1 parts.0 next sound e.0 e.1 modified)))
 
-pub nocase-sound : (classes : ℕ) (draft : Draft) → IsSoundDraft classes draft → (value : Option (List ℕ)) → IfOk (nocase_option draft value) (IsSoundDraft classes)
+pub nocase-sound : (classes : ℕ) (draft : Draft) → IsSoundDraft classes draft → (value : Option (List ℕ)) → Holds (IsSoundDraft classes) (nocase_option draft value)
 unfolding nocase_option nocase
 nocase-sound classes draft sound value = modified-sound classes draft sound (λ held names. nocase held value) (λ held.
-    if_ok (IsModified draft.opts held) held.content.nocase _ _ (λ _. tt) (λ _.
-    if_ok (IsModified draft.opts held) (is_some value) (Err OptionValue) _ (λ _. tt) (λ _.
-    record { keeps = λ h. record { place = h.place; known = h.known; content = h.content; placeless = h.placeless }; same = refl })))
+    unless held.content.nocase _ (λ _. unless (is_some value) _ (λ _. given (record { keeps = λ h. search (h.placeless, h); same = refl }))))
 
-pub rawbytes-sound : (classes : ℕ) (draft : Draft) → IsSoundDraft classes draft → (value : Option (List ℕ)) → IfOk (rawbytes_option draft value) (IsSoundDraft classes)
+pub rawbytes-sound : (classes : ℕ) (draft : Draft) → IsSoundDraft classes draft → (value : Option (List ℕ)) → Holds (IsSoundDraft classes) (rawbytes_option draft value)
 unfolding rawbytes_option rawbytes
 rawbytes-sound classes draft sound value = modified-sound classes draft sound (λ held names. rawbytes held value) (λ held.
-    if_ok (IsModified draft.opts held) held.raw _ _ (λ _. tt) (λ _.
-    if_ok (IsModified draft.opts held) (is_some value) (Err OptionValue) _ (λ _. tt) (λ _.
-    record { keeps = λ h. record { place = h.place; known = h.known; content = h.content; placeless = h.placeless }; same = refl })))
+    unless held.raw _ (λ _. unless (is_some value) _ (λ _. given (record { keeps = λ h. search (h.placeless, h); same = refl }))))
 
 -- a place goes with any fast pattern but `only`
 fast-placed : (content : Content) (relative : Bool) (from room : Option Num) (mode : FastMode)
@@ -194,32 +179,25 @@ fast-placed content relative from room fast.Only other h = absurd (true≢ other
 fast-placed content relative from room (fast.Part start len) other h = h
 
 -- the value of a modifier that tells a place is read only where a fast pattern excludes none
-place_text-ok : (bars placeless : Bool) (value : Option (List ℕ)) → IfOk (place_text bars placeless value) (λ _. placeless ≡ false)
-place_text-ok true placeless value = tt
-place_text-ok false true value = tt
-place_text-ok false false None = tt
-place_text-ok false false (Some text) = refl
+place_text-ok : (bars placeless : Bool) (value : Option (List ℕ)) → Holds (λ _. placeless ≡ false) (place_text bars placeless value)
+place_text-ok true placeless value = refused
+place_text-ok false true value = refused
+place_text-ok false false None = refused
+place_text-ok false false (Some text) = given refl
 
 -- a name among the first ones is among those before the content
 below-known : (known : List (List ℕ)) (count : ℕ) (least most : ℤ) (number : Num) → IsNumBelow (length (take count known)) least most number → IsNumBelow count least most number
 below-known known count least most (num.Value number) h = h
 below-known known count least most (num.Name place) h = omega (arith, length-take count known)
 
-pub from-sound : (classes : ℕ) (name : Modifier) (draft : Draft) → IsSoundDraft classes draft → (left : ℕ) (value : Option (List ℕ)) → IfOk (from_option name draft left value) (IsSoundDraft classes)
+pub from-sound : (classes : ℕ) (name : Modifier) (draft : Draft) → IsSoundDraft classes draft → (left : ℕ) (value : Option (List ℕ)) → Holds (IsSoundDraft classes) (from_option name draft left value)
 unfolding from_option with_from
 from-sound classes name draft sound left value =
     modified-sound classes draft sound (λ held names. with_from name held names left value) (λ held.
-    then_ok (λ _. held.placeless ≡ false) (IsModified draft.opts held)
-    (place_text (bars_from name held.content) held.placeless value) _
-    (place_text-ok (bars_from name held.content) held.placeless value)
-    (λ text placed.
-    then_ok (IsNumBelow (length (known_before draft.names held)) (negsuc 65534) (pos 65535))
-    (IsModified draft.opts held)
-    (signed_or_named (negsuc 65534) (pos 65535) (known_before draft.names held) left text) _
-    (signed_or_named-below (negsuc 65534) (pos 65535) (known_before draft.names held) left text)
-    (λ from below.
+    chained (place_text-ok (bars_from name held.content) held.placeless value) (λ text placed.
+    chained (signed_or_named-below (negsuc 65534) (pos 65535) (known_before draft.names held) left text) (λ from below.
     let names = names_after [] (take held.place draft.opts) in
-    record {
+    given (record {
       keeps = λ h. record {
         place = h.place;
         known = h.known;
@@ -234,35 +212,26 @@ from-sound classes name draft sound left value =
         placeless = h.placeless;
       };
       same = refl;
-    })))
+    }))))
 
 room_of-below : (size : ℕ) (known : List (List ℕ)) (left : ℕ) (text : List ℕ) (o : Option ℕ)
-    → IfSome o (IsIn 0 65535)
-    → IfOk (room_of size known left text o) (IsNumBelow (length known) (pos size) (pos 65535))
+    → IfSome o (IsWithin 0 65535)
+    → Holds (IsNumBelow (length known) (pos size) (pos 65535)) (room_of size known left text o)
 room_of-below size known left text None h = named-below (pos size) (pos 65535) known left text
-room_of-below size known left text (Some number) h =
-    if_ok (IsNumBelow (length known) (pos size) (pos 65535))
-    (nat_le size number) (Ok (num.Value (pos number))) (Err OptionValue) (λ e. (least e, omega (arith, ints))) (λ _. tt)
+room_of-below size known left text (Some number) h = tested (nat_le size number) (λ e. given (least e, omega (arith, ints))) (λ _. refused)
   where
     least : nat_le size number ≡ true → pos size ≤ℤ pos number
     least e = let le : size ≤ number = grind (arith, nat_tests) in omega (arith, ints)
 
-pub room-sound : (classes : ℕ) (name : Modifier) (draft : Draft) → IsSoundDraft classes draft → (left : ℕ) (value : Option (List ℕ)) → IfOk (room_option name draft left value) (IsSoundDraft classes)
+pub room-sound : (classes : ℕ) (name : Modifier) (draft : Draft) → IsSoundDraft classes draft → (left : ℕ) (value : Option (List ℕ)) → Holds (IsSoundDraft classes) (room_option name draft left value)
 unfolding room_option with_room
 room-sound classes name draft sound left value =
     modified-sound classes draft sound (λ held names. with_room name held names left value) (λ held.
-    then_ok (λ _. held.placeless ≡ false) (IsModified draft.opts held)
-    (place_text (bars_room name held.content) held.placeless value) _
-    (place_text-ok (bars_room name held.content) held.placeless value)
-    (λ text placed.
     let size = length held.content.bytes in
-    then_ok (IsNumBelow (length (known_before draft.names held)) (pos size) (pos 65535))
-    (IsModified draft.opts held)
-    (room_of size (known_before draft.names held) left text (number_in 0 65535 text)) _
-    (room_of-below size (known_before draft.names held) left text (number_in 0 65535 text) (number_in-within 0 65535 text))
-    (λ room below.
+    chained (place_text-ok (bars_room name held.content) held.placeless value) (λ text placed.
+    chained (room_of-below size (known_before draft.names held) left text (number_in 0 65535 text) (number_in-within 0 65535 text)) (λ room below.
     let names = names_after [] (take held.place draft.opts) in
-    record {
+    given (record {
       keeps = λ h. record {
         place = h.place;
         known = h.known;
@@ -277,7 +246,7 @@ room-sound classes name draft sound left value =
         placeless = h.placeless;
       };
       same = refl;
-    })))
+    }))))
 
 -- a form of fast pattern for a content of `size` bytes: its part lies within them
 abbrev IsMode : ℕ → FastMode → Type 0
@@ -286,23 +255,23 @@ IsMode size fast.Yes = Unit {0}
 IsMode size fast.Only = Unit {0}
 IsMode size (fast.Part from len) = (1 ≤ len) × (from + len ≤ size)
 
-fast_part-ok : (size : ℕ) (parts : List (List ℕ)) → IfOk (fast_part size parts) (IsMode size)
+fast_part-ok : (size : ℕ) (parts : List (List ℕ)) → Holds (IsMode size) (fast_part size parts)
 unfolding fast_part
-fast_part-ok size [] = tt
-fast_part-ok size (only ∷ []) = tt
+fast_part-ok size [] = refused
+fast_part-ok size (only ∷ []) = refused
 fast_part-ok size (first ∷ second ∷ []) =
-    then_ok (IsIn 0 2048) (IsMode size) (or_kind OptionValue (number_in 0 2048 first)) _ (kind_ok (IsIn 0 2048) OptionValue (number_in 0 2048 first) (number_in-within 0 2048 first)) (λ from _.
-    then_ok (IsIn 1 2048) (IsMode size) (or_kind OptionValue (number_in 1 2048 second)) _ (kind_ok (IsIn 1 2048) OptionValue (number_in 1 2048 second) (number_in-within 1 2048 second)) (λ len within.
-    if_ok (IsMode size) (nat_le (from + len) size) (Ok (fast.Part from len)) (Err OptionValue) (λ fits. (within.0, below (from + len) fits)) (λ _. tt)))
+    after_any (or_kind OptionValue (number_in 0 2048 first)) (λ from.
+    chained (ranged _ 1 2048 second) (λ len within.
+    tested (nat_le (from + len) size) (λ fits. given (within.0, below (from + len) fits)) (λ _. refused)))
   where
     below : (end : ℕ) → nat_le end size ≡ true → end ≤ size
     below end fits = grind (arith, nat_tests)
-fast_part-ok size (first ∷ second ∷ third ∷ more) = tt
+fast_part-ok size (first ∷ second ∷ third ∷ more) = refused
 
-fast_mode-ok : (size : ℕ) (value : Option (List ℕ)) → IfOk (fast_mode size value) (IsMode size)
+fast_mode-ok : (size : ℕ) (value : Option (List ℕ)) → Holds (IsMode size) (fast_mode size value)
 unfolding fast_mode
-fast_mode-ok size None = tt
-fast_mode-ok size (Some value) = if_ok (IsMode size) (bytes_eq value (codes "only")) (Ok fast.Only) (fast_part size (comma_parts value)) (λ _. tt) (λ _. fast_part-ok size (comma_parts value))
+fast_mode-ok size None = given tt
+fast_mode-ok size (Some value) = tested (bytes_eq value (codes "only")) (λ _. given tt) (λ _. fast_part-ok size (comma_parts value))
 
 -- neither a place nor a room is told
 unplaced : (from room : Option Num) → (is_some from || is_some room) ≡ false → (from ≡ None) × (room ≡ None)
@@ -332,20 +301,15 @@ only-on fast.Yes false e = refl
 only-on fast.Only false e = e
 only-on (fast.Part from len) false e = refl
 
-pub fast_pattern-sound : (classes : ℕ) (draft : Draft) → IsSoundDraft classes draft → (value : Option (List ℕ)) → IfOk (fast_pattern_option draft value) (IsSoundDraft classes)
+pub fast_pattern-sound : (classes : ℕ) (draft : Draft) → IsSoundDraft classes draft → (value : Option (List ℕ)) → Holds (IsSoundDraft classes) (fast_pattern_option draft value)
 unfolding fast_pattern_option
 fast_pattern-sound classes draft sound value =
-    then_ok (λ held. (draft.fast ≡ false) × (draft.held ≡ Some held))
-    (IsSoundDraft classes)
-    (cond draft.fast (Err Misplaced) (or_kind Misplaced draft.held)) _
-    (first draft.fast draft.held) (λ held found.
-    then_ok (IsMode (length held.content.bytes)) (IsSoundDraft classes) (fast_mode (length held.content.bytes) value) _
-    (fast_mode-ok (length held.content.bytes) value)
-    (λ mode fits.
-    if_ok (IsSoundDraft classes) (bars_fast mode held.content) (Err OptionValue) _ (λ _. tt) (λ is_given.
+    chained (first draft.fast draft.held) (λ held found.
+    chained (fast_mode-ok (length held.content.bytes) value) (λ mode fits.
+    unless (bars_fast mode held.content) _ (λ is_given.
     let Kept : Option Held → Type 0 = λ o. AreKept draft.opts o draft.names draft.fast in
     let before : AreKept draft.opts (Some held) draft.names draft.fast = subst Kept found.1 sound.kept in
-    record {
+    given (record {
       kept = record {
         options = before.options;
         named = before.named;
@@ -371,12 +335,12 @@ fast_pattern-sound classes draft sound value =
       sid = sound.sid;
       class = sound.class;
       period = sound.period;
-    })))
+    }))))
   where
-    first : (is_given : Bool) (o : Option Held) → IfOk (cond is_given (Err Misplaced) (or_kind Misplaced o)) (λ held. (is_given ≡ false) × (o ≡ Some held))
-    first true o = tt
-    first false None = tt
-    first false (Some held) = (refl, refl)
+    first : (is_given : Bool) (o : Option Held) → Holds (λ held. (is_given ≡ false) × (o ≡ Some held)) (cond is_given (Err Misplaced) (or_kind Misplaced o))
+    first true o = refused
+    first false None = refused
+    first false (Some held) = given (refl, refl)
 
     one : (count : ℕ) (before after is_given : Bool) → is_given ≡ false → count + cond before 1 0 ≤ cond is_given 1 0 → count + cond after 1 0 ≤ 1
     one count before true is_given e h = let number : Bool → ℕ = λ b. cond b 1 0 in omega (arith, ap number e)

@@ -1,23 +1,22 @@
 -- A rule that is sound as far as its options are read.
-use Rattle.std.proofs.Common.{◌≡◌, ℕ, zero, suc, ◌+◌, ◌<◌, ◌≤◌, Bool, false, cond, Option, Some, None, Ok, Err, List, [], ◌∷◌}
-use Rattle.std.proofs.Common.{◌++◌, length, take, insert, refl, sym, ap, subst, arith, IfSome, IfOk, Contains, count_by, nat_le}
+use Rattle.std.proofs.Common.{◌≡◌, ℕ, zero, suc, ◌+◌, ◌<◌, ◌≤◌, Bool, false, cond, Option, Some, None, List, ◌∷◌, []}
+use Rattle.std.proofs.Common.{◌++◌, length, take, insert, refl, sym, ap, subst, arith, IfSome, Contains, count_by, nat_le}
 use Rattle.std.proofs.Common.{is_some}
 use Rattle.std.proofs.lemmas.List.{take-append-le}
 use Rattle.std.proofs.lemmas.List.Edits.{length-insert}
 use Rattle.std.proofs.lemmas.List.Sums.{sum_by-append, sum_by-insert}
 use Rattle.std.proofs.lemmas.Bool.Decides.{nat_tests}
 use Rattle.std.proofs.lemmas.Grind.{common_steps}
+use Rattle.net_lists.proofs.Steps.{Holds, given, unless}
 use Rattle.rule_parser.specs.declared.draft.ClassName.{ClassName}
 use Rattle.rule_parser.specs.declared.draft.ClassName.TheVariants as class
 use Rattle.rule_parser.specs.declared.draft.Draft.{Draft}
 use Rattle.rule_parser.specs.declared.draft.Held.{Held}
-use Rattle.rule_parser.specs.declared.fault.Fault.TheVariants.{Limit}
 use Rattle.rule_types.specs.declared.option.Content.{Content}
 use Rattle.rule_types.specs.declared.option.Opt.{Opt}
 use Rattle.rule_types.specs.declared.option.Opt.TheVariants as opt
-use Rattle.rule_parser.proofs.Sound.Steps.{if_ok}
 use Rattle.rule_parser.specs.Contents.{is_only}
-use Rattle.rule_parser.specs.Drafts.{empty_draft, kept_count, kept, with_held}
+use Rattle.rule_parser.specs.Drafts.{empty_draft, kept, with_held, kept_count}
 use Rattle.rule_types.specs.Sound.{IsContent, IsOption, AreOptions, names_after_one, is_chosen, is_fast}
 
 -- the names that are extracted after these options
@@ -159,23 +158,15 @@ pub kept-sound : (classes : ℕ) (draft : Draft) (option : Opt)
     → IsSoundDraft classes draft
     → IsOption (names_after [] draft.opts) option
     → IsPlain option
-    → IfOk (kept draft option) (IsSoundDraft classes)
+    → Holds (IsSoundDraft classes) (kept draft option)
 unfolding kept
 kept-sound classes draft option sound is_option plain =
-    if_ok (IsSoundDraft classes) (nat_le 64 (kept_count draft)) (Err Limit)
-    (Ok (record draft { opts = draft.opts ++ option ∷ [] }))
-    (λ _. tt)
-    (λ room. record {
-      kept =
-          kept-more draft.opts draft.held draft.names draft.names draft.fast option sound.kept is_option plain.0
-          (subst At (sym (plain.1 (names_after [] draft.opts))) sound.kept.named)
-          sound.kept.few room;
-      msg = sound.msg;
-      gid = sound.gid;
-      sid = sound.sid;
-      class = sound.class;
-      period = sound.period;
-    })
+    unless (nat_le 64 (kept_count draft)) _ (λ room.
+    let more =
+    kept-more draft.opts draft.held draft.names draft.names draft.fast option sound.kept is_option plain.0
+    (subst At (sym (plain.1 (names_after [] draft.opts))) sound.kept.named)
+    sound.kept.few room in
+    given (search (more, sound)))
   where
     At : List ℕ → Type 0
     At found = AreNamed found (length draft.names)

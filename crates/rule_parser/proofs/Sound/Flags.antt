@@ -1,18 +1,16 @@
 -- Options on a session, on flags, on bits and on streams keep a rule sound.
-use Rattle.std.proofs.Common.{◌≡◌, ℕ, ◌^◌, ◌<◌, ◌≤◌, ◌==◌, ◌||◌, ◌++◌, Bool, true, false, cond, Option, Some, None, Result, Ok}
-use Rattle.std.proofs.Common.{Err, List, [], ◌∷◌, length, nat_le, is_some, bytes_eq, codes, refl, arith, IfSome, IfOk, IsTrue}
+use Rattle.std.proofs.Common.{◌≡◌, ℕ, ◌^◌, ◌<◌, ◌≤◌, ◌==◌, ◌||◌, ◌++◌, Bool, true, false, cond, Option, Some, None, Result, [], bytes_eq, codes}
+use Rattle.std.proofs.Common.{List, ◌∷◌, length, nat_le, is_some, refl, arith, IfSome, IsTrue}
 use Rattle.std.specs.Option.{unwrap_or}
 use Rattle.std.proofs.lemmas.Bool.Decides.{nat_tests}
 use Rattle.std.proofs.lemmas.Grind.{common_steps}
 use Rattle.std.proofs.lemmas.Nat.{or_lt}
-use Rattle.edge_io.specs.OnResult.{◌>>=◌}
 use Rattle.net_lists.specs.Cutting.{comma_parts}
 use Rattle.net_lists.specs.Folds.{draft_after}
-use Rattle.net_lists.specs.Numbers.{number_in}
-use Rattle.net_lists.specs.Stops.{or_kind}
+use Rattle.net_lists.proofs.Steps.{Holds, given, refused, tested, unless, kinded, chained, after_any, ranged, steps}
 use Rattle.rule_parser.specs.declared.draft.Draft.{Draft}
 use Rattle.rule_parser.specs.declared.fault.Fault.{Fault}
-use Rattle.rule_parser.specs.declared.fault.Fault.TheVariants.{OptionValue, Limit}
+use Rattle.rule_parser.specs.declared.fault.Fault.TheVariants.{OptionValue}
 use Rattle.rule_parser.specs.declared.flags.Letters.{Letters}
 use Rattle.rule_parser.specs.declared.flowbits.BitWord.{BitWord}
 use Rattle.rule_parser.specs.declared.flowbits.BitWord.TheVariants as word
@@ -22,29 +20,22 @@ use Rattle.rule_types.specs.declared.option.Opt.TheVariants as opt
 use Rattle.rule_types.specs.declared.option.Side.{Side}
 use Rattle.rule_parser.specs.ByteOptions.{Part, first_part, next_part}
 use Rattle.rule_parser.specs.Drafts.{kept}
-use Rattle.rule_parser.specs.Flags.{no_flow, flow_word, flow_option, no_letters, mode_of, flag_bit, frag_bit, with_bit, with_mode}
+use Rattle.rule_parser.specs.Flags.{flow_option, no_letters, mode_of, flag_bit, frag_bit, with_bit, with_mode, no_flow, flow_word}
 use Rattle.rule_parser.specs.Flags.{if_any, flag_step, frag_step, flag_letters, frag_letters, frag_signed, mask_of, flags_parts}
 use Rattle.rule_parser.specs.Flags.{flags_of, flags_option, fragbits_option}
-use Rattle.rule_parser.specs.Flowbits.{bit_option, bit_word, numbered, with_names, last_name, bit_parts, noalert, flowbits_parts, flowbits_option}
+use Rattle.rule_parser.specs.Flowbits.{bit_option, numbered, with_names, bit_parts, noalert, flowbits_parts, flowbits_option, bit_word}
 use Rattle.rule_parser.specs.Names.{place_among}
 use Rattle.rule_types.specs.Sound.{is_order, is_named_side}
-use Rattle.rule_parser.specs.Steering.{side_of, sized_side, size_cmp, size_parts, stream_size_option, switched, quiet, reassemble_parts, stream_reassemble_option}
+use Rattle.rule_parser.specs.Steering.{side_of, size_cmp, size_parts, stream_size_option, reassemble_parts, stream_reassemble_option, sized_side, switched}
 use Rattle.rule_parser.proofs.Sound.Drafts.{IsSoundDraft, kept-sound}
 use Rattle.rule_parser.proofs.Sound.Fields.{IsAnywhere, anywhere, anywhere-sound}
-use Rattle.rule_parser.proofs.Sound.Steps.{then_ok, any_ok, kind_ok, if_ok}
-use Rattle.rule_parser.proofs.Sound.Values.{IsIn, number_in-within, place_among-below}
+use Rattle.rule_parser.proofs.Sound.Values.{place_among-below}
 
-pub flow-sound : (classes : ℕ) (draft : Draft) → IsSoundDraft classes draft → (value : List ℕ) → IfOk (flow_option draft value) (IsSoundDraft classes)
+pub flow-sound : (classes : ℕ) (draft : Draft) → IsSoundDraft classes draft → (value : List ℕ) → Holds (IsSoundDraft classes) (flow_option draft value)
 unfolding flow_option
 flow-sound classes draft sound value =
-    then_ok (λ _. Unit {0}) (IsSoundDraft classes) (draft_after flow_word no_flow (comma_parts value)) _
-    (any_ok (draft_after flow_word no_flow (comma_parts value)))
-    (λ flow _.
-    if_ok (IsSoundDraft classes) draft.flow (Err OptionValue) (kept (record draft { flow = true }) (opt.Flow flow))
-    (λ _. tt) (λ _.
-    kept-sound classes (record draft { flow = true }) (opt.Flow flow)
-    (record { kept = sound.kept; msg = sound.msg; gid = sound.gid; sid = sound.sid; class = sound.class; period = sound.period })
-    tt (refl, λ names. refl)))
+    after_any (draft_after flow_word no_flow (comma_parts value)) (λ flow.
+    unless _ _ (λ _. kept-sound classes (record draft { flow = true }) (opt.Flow flow) (search sound) tt (refl, λ names. refl)))
 
 -- letters whose bits are below a power of two
 abbrev AreBelow : ℕ → Letters → Type 0
@@ -108,29 +99,21 @@ frag_letters-below (byte ∷ rest) letters h = go (frag_step (length rest == 0) 
     go None h more = tt
     go (Some next) h more = more next h
 
-mask_of-below : (rest : List (List ℕ)) → IfOk (mask_of rest) (λ mask. mask < 2 ^ 8)
-mask_of-below [] = omega arith
-mask_of-below (mask ∷ []) =
-    then_ok (AreBelow 8) (λ mask. mask < 2 ^ 8) (or_kind OptionValue (flag_letters false no_letters mask)) _
-    (kind_ok (AreBelow 8) OptionValue (flag_letters false no_letters mask)
-    (flag_letters-below false mask no_letters (omega arith)))
-    (λ letters h. h)
-mask_of-below (mask ∷ more ∷ rest) = tt
+mask_of-below : (rest : List (List ℕ)) → Holds (λ mask. mask < 2 ^ 8) (mask_of rest)
+mask_of-below [] = given (omega arith)
+mask_of-below (mask ∷ []) = chained (kinded OptionValue (flag_letters false no_letters mask) (flag_letters-below false mask no_letters (omega arith))) (λ letters h. given h)
+mask_of-below (mask ∷ more ∷ rest) = refused
 
-flags_parts-anywhere : (parts : List (List ℕ)) → IfOk (flags_parts parts) IsAnywhere
-flags_parts-anywhere [] = tt
+flags_parts-anywhere : (parts : List (List ℕ)) → Holds IsAnywhere (flags_parts parts)
+flags_parts-anywhere [] = refused
 flags_parts-anywhere (first ∷ rest) =
-    then_ok (AreBelow 8) IsAnywhere (or_kind OptionValue (flag_letters true no_letters first)) _
-    (kind_ok (AreBelow 8) OptionValue (flag_letters true no_letters first)
-    (flag_letters-below true first no_letters (omega arith)))
-    (λ letters h.
-    then_ok (λ mask. mask < 2 ^ 8) IsAnywhere (mask_of rest) _ (mask_of-below rest) (λ mask k.
-    anywhere (opt.Flags (unwrap_or letters.mode mode.Exact) letters.bits mask) (λ names. (h, k)) (refl, λ names. refl)))
+    chained (kinded OptionValue (flag_letters true no_letters first) (flag_letters-below true first no_letters (omega arith))) (λ letters h.
+    chained (mask_of-below rest) (λ mask k.
+    given (anywhere (opt.Flags (unwrap_or letters.mode mode.Exact) letters.bits mask) (λ names. (h, k)) (refl, λ names. refl))))
 
-pub flags-sound : (classes : ℕ) (draft : Draft) → IsSoundDraft classes draft → (value : List ℕ) → IfOk (flags_option draft value) (IsSoundDraft classes)
+pub flags-sound : (classes : ℕ) (draft : Draft) → IsSoundDraft classes draft → (value : List ℕ) → Holds (IsSoundDraft classes) (flags_option draft value)
 unfolding flags_option flags_of
-flags-sound classes draft sound value =
-    then_ok IsAnywhere (IsSoundDraft classes) (flags_of value) (kept draft) (flags_parts-anywhere (comma_parts value)) (λ option h. anywhere-sound classes draft option sound h)
+flags-sound classes draft sound value = chained (flags_parts-anywhere (comma_parts value)) (anywhere-sound classes draft sound)
 
 frag_signed-below : (text : List ℕ) → IfSome (frag_signed text) (AreBelow 3)
 frag_signed-below [] = tt
@@ -144,14 +127,14 @@ frag_signed-below (byte ∷ rest) = go (mode_of byte)
     go None = frag_letters-below (byte ∷ rest) no_letters (omega arith)
     go (Some sign) = frag_letters-below rest (record no_letters { mode = Some sign }) (omega arith)
 
-pub fragbits-sound : (classes : ℕ) (draft : Draft) → IsSoundDraft classes draft → (value : List ℕ) → IfOk (fragbits_option draft value) (IsSoundDraft classes)
+pub fragbits-sound : (classes : ℕ) (draft : Draft) → IsSoundDraft classes draft → (value : List ℕ) → Holds (IsSoundDraft classes) (fragbits_option draft value)
 unfolding fragbits_option
 fragbits-sound classes draft sound value =
-    then_ok (AreBelow 3) (IsSoundDraft classes) (or_kind OptionValue (frag_signed value)) _ (kind_ok (AreBelow 3) OptionValue (frag_signed value) (frag_signed-below value)) (λ letters h.
+    chained (kinded _ (frag_signed value) (frag_signed-below value)) (λ letters h.
     kept-sound classes draft (opt.FragBits (unwrap_or letters.mode mode.Exact) letters.bits) sound h (refl, λ names. refl))
 
 -- flowbits: a number below 1024, and at most 1024 names
-bit-sound : (classes : ℕ) (draft : Draft) → IsSoundDraft classes draft → (bit : BitWord) (place : ℕ) → place < 1024 → IfOk (kept draft (bit_option bit place)) (IsSoundDraft classes)
+bit-sound : (classes : ℕ) (draft : Draft) → IsSoundDraft classes draft → (bit : BitWord) (place : ℕ) → place < 1024 → Holds (IsSoundDraft classes) (kept draft (bit_option bit place))
 bit-sound classes draft sound word.Set place h = kept-sound classes draft (bit_option word.Set place) sound h (refl, λ names. refl)
 bit-sound classes draft sound word.Unset place h = kept-sound classes draft (bit_option word.Unset place) sound h (refl, λ names. refl)
 bit-sound classes draft sound word.Toggle place h = kept-sound classes draft (bit_option word.Toggle place) sound h (refl, λ names. refl)
@@ -162,22 +145,18 @@ bit-sound classes draft sound word.IsNotSet place h = kept-sound classes draft (
 abbrev pub IsSoundBeside : ℕ → Draft × List (List ℕ) → Type 0
 IsSoundBeside classes after = IsSoundDraft classes after.0 × (length after.1 ≤ 1024)
 
-pub beside-sound : (classes : ℕ) (names : List (List ℕ)) (result : Result Draft Fault)
+pub beside-sound : {classes : ℕ} (names : List (List ℕ)) {result : Result Draft Fault}
     → length names ≤ 1024
-    → IfOk result (IsSoundDraft classes)
-    → IfOk (with_names names result) (IsSoundBeside classes)
-beside-sound classes names (Ok draft) few h = (h, few)
-beside-sound classes names (Err why) few h = tt
+    → Holds (IsSoundDraft classes) result
+    → Holds (IsSoundBeside classes) (with_names names result)
+beside-sound names few h = chained h (λ draft sound. given (sound, few))
 
 numbered-below : (names : List (List ℕ)) (name : List ℕ) (place : Option ℕ)
     → length names ≤ 1024
     → IfSome place (λ place. place < length names)
-    → IfOk (numbered names name place) (λ found. (length found.0 ≤ 1024) × (found.1 < 1024))
-numbered-below names name (Some place) few h = (few, omega arith)
-numbered-below names name None few h =
-    if_ok (λ found. (length found.0 ≤ 1024) × (found.1 < 1024))
-    (nat_le 1024 (length names)) (Err Limit) (Ok (names ++ name ∷ [], length names)) (λ _. tt)
-    (λ room. (longer names name (below (length names) room), below (length names) room))
+    → Holds (λ found. (length found.0 ≤ 1024) × (found.1 < 1024)) (numbered names name place)
+numbered-below names name (Some place) few h = given (few, omega arith)
+numbered-below names name None few h = unless (nat_le 1024 (length names)) _ (λ room. given (longer names name (below (length names) room), below (length names) room))
   where
     below : (count : ℕ) → nat_le 1024 count ≡ false → count < 1024
     below count room = grind (arith, nat_tests)
@@ -189,85 +168,64 @@ bit_parts-sound : (classes : ℕ) (names : List (List ℕ)) (draft : Draft)
     → length names ≤ 1024
     → IsSoundDraft classes draft
     → (first : Part) (bit : BitWord)
-    → IfOk (bit_parts names draft first bit) (IsSoundBeside classes)
+    → Holds (IsSoundBeside classes) (bit_parts names draft first bit)
 unfolding bit_parts
 bit_parts-sound classes names draft few sound first bit =
-    then_ok (λ _. Unit {0}) (IsSoundBeside classes) (next_part first) _ (any_ok (next_part first)) (λ part _.
-    then_ok (λ _. Unit {0}) (IsSoundBeside classes) (last_name part) _ (any_ok (last_name part)) (λ name _.
-    then_ok (λ found. (length found.0 ≤ 1024) × (found.1 < 1024))
-    (IsSoundBeside classes)
-    (numbered names name (place_among name names)) _
-    (numbered-below names name (place_among name names) few (place_among-below name names))
-    (λ numbering h.
-    beside-sound classes numbering.0 (kept draft (bit_option bit numbering.1))
-    h.0
-    (bit-sound classes draft sound bit numbering.1 h.1))))
+    after_any (next_part first) (λ part.
+    after_any _ (λ name.
+    chained (numbered-below names name (place_among name names) few (place_among-below name names)) (λ numbering h.
+    beside-sound numbering.0 h.0 (bit-sound classes draft sound bit numbering.1 h.1))))
 
 pub flowbits-sound : (classes : ℕ) (names : List (List ℕ)) (draft : Draft)
     → length names ≤ 1024
     → IsSoundDraft classes draft
     → (value : List ℕ)
-    → IfOk (flowbits_option names draft value) (IsSoundBeside classes)
+    → Holds (IsSoundBeside classes) (flowbits_option names draft value)
 unfolding flowbits_option flowbits_parts
 flowbits-sound classes names draft few sound value =
-    let first = first_part 0 value in
-    if_ok (IsSoundBeside classes) (bytes_eq first.text (codes "noalert")) (with_names names (noalert draft first))
-    (bit_word first.text >>= bit_parts names draft first)
-    (λ _. beside-sound classes names (noalert draft first) few
-    (if_ok (IsSoundDraft classes) (is_some first.after) (Err OptionValue) (Ok (record draft { noalert = true })) (λ _. tt)
-    (λ _.
-    record { kept = sound.kept; msg = sound.msg; gid = sound.gid; sid = sound.sid; class = sound.class; period = sound.period })))
-    (λ _. then_ok (λ _. Unit {0}) (IsSoundBeside classes) (bit_word first.text) (bit_parts names draft first)
-    (any_ok (bit_word first.text)) (λ bit _. bit_parts-sound classes names draft few sound first bit))
+    tested (bytes_eq (first_part 0 value).text (codes "noalert")) (λ _. beside-sound names few (unless (is_some (first_part 0 value).after) _ (λ _. given (search sound))))
+    (λ _. after_any (bit_word (first_part 0 value).text) (bit_parts-sound classes names draft few sound (first_part 0 value)))
 
 -- streams
-size_cmp-order : (text : List ℕ) → IfOk (size_cmp text) (λ how. IsTrue (is_order how))
+size_cmp-order : (text : List ℕ) → Holds (λ how. IsTrue (is_order how)) (size_cmp text)
 unfolding size_cmp
-size_cmp-order text = grind arith
+size_cmp-order text = search steps depth 12
 
-side_of-named : (text : List ℕ) → IfOk (side_of text) (λ side. IsTrue (is_named_side side))
+side_of-named : (text : List ℕ) → Holds (λ side. IsTrue (is_named_side side)) (side_of text)
 unfolding side_of
-side_of-named text = grind arith
+side_of-named text = search steps depth 12
 
-size_parts-anywhere : (parts : List (List ℕ)) → IfOk (size_parts parts) IsAnywhere
+size_parts-anywhere : (parts : List (List ℕ)) → Holds IsAnywhere (size_parts parts)
 unfolding size_parts
-size_parts-anywhere [] = tt
-size_parts-anywhere (first ∷ []) = tt
-size_parts-anywhere (first ∷ second ∷ []) = tt
+size_parts-anywhere [] = refused
+size_parts-anywhere (first ∷ []) = refused
+size_parts-anywhere (first ∷ second ∷ []) = refused
 size_parts-anywhere (first ∷ second ∷ third ∷ []) =
-    then_ok (λ _. Unit {0}) IsAnywhere (sized_side first) _ (any_ok (sized_side first)) (λ side _.
-    then_ok (λ how. IsTrue (is_order how)) IsAnywhere (size_cmp second) _ (size_cmp-order second) (λ how order.
-    then_ok (IsIn 0 4294967295) IsAnywhere (or_kind OptionValue (number_in 0 4294967295 third)) _
-    (kind_ok (IsIn 0 4294967295) OptionValue (number_in 0 4294967295 third) (number_in-within 0 4294967295 third))
-    (λ number within.
-    anywhere (opt.StreamSize side how number) (λ names. (order, within.1)) (refl, λ names. refl))))
-size_parts-anywhere (first ∷ second ∷ third ∷ fourth ∷ more) = tt
+    after_any (sized_side first) (λ side.
+    chained (size_cmp-order second) (λ how order.
+    chained (ranged _ 0 4294967295 third) (λ number within.
+    given (anywhere (opt.StreamSize side how number) (λ names. (order, within.1)) (refl, λ names. refl)))))
+size_parts-anywhere (first ∷ second ∷ third ∷ fourth ∷ more) = refused
 
-pub stream_size-sound : (classes : ℕ) (draft : Draft) → IsSoundDraft classes draft → (value : List ℕ) → IfOk (stream_size_option draft value) (IsSoundDraft classes)
+pub stream_size-sound : (classes : ℕ) (draft : Draft) → IsSoundDraft classes draft → (value : List ℕ) → Holds (IsSoundDraft classes) (stream_size_option draft value)
 unfolding stream_size_option
-stream_size-sound classes draft sound value =
-    then_ok IsAnywhere (IsSoundDraft classes) (size_parts (comma_parts value)) (kept draft) (size_parts-anywhere (comma_parts value)) (λ option h. anywhere-sound classes draft option sound h)
+stream_size-sound classes draft sound value = chained (size_parts-anywhere (comma_parts value)) (anywhere-sound classes draft sound)
 
 -- a reassembly of a side that has a name
 abbrev IsNamedSide : Bool × Side × Bool → Type 0
 IsNamedSide said = IsTrue (is_named_side said.1)
 
-reassemble_parts-named : (parts : List (List ℕ)) → IfOk (reassemble_parts parts) IsNamedSide
+reassemble_parts-named : (parts : List (List ℕ)) → Holds IsNamedSide (reassemble_parts parts)
 unfolding reassemble_parts
-reassemble_parts-named [] = tt
-reassemble_parts-named (first ∷ []) = then_ok (λ _. Unit {0}) IsNamedSide (switched first) _ (any_ok (switched first)) (λ on _. tt)
+reassemble_parts-named [] = refused
+reassemble_parts-named (first ∷ []) = after_any (switched first) (λ on. refused)
 reassemble_parts-named (first ∷ second ∷ rest) =
-    then_ok (λ _. Unit {0}) IsNamedSide (switched first) _ (any_ok (switched first)) (λ on _.
-    then_ok (λ side. IsTrue (is_named_side side)) IsNamedSide (side_of second) _ (side_of-named second) (λ side named.
-    then_ok (λ _. Unit {0}) IsNamedSide (quiet rest) _ (any_ok (quiet rest)) (λ noalert _. named)))
+    after_any (switched first) (λ on.
+    chained (side_of-named second) (λ side named.
+    after_any _ (λ noalert. given named)))
 
-pub stream_reassemble-sound : (classes : ℕ) (draft : Draft) → IsSoundDraft classes draft → (value : List ℕ) → IfOk (stream_reassemble_option draft value) (IsSoundDraft classes)
+pub stream_reassemble-sound : (classes : ℕ) (draft : Draft) → IsSoundDraft classes draft → (value : List ℕ) → Holds (IsSoundDraft classes) (stream_reassemble_option draft value)
 unfolding stream_reassemble_option
 stream_reassemble-sound classes draft sound value =
-    then_ok IsNamedSide (IsSoundDraft classes) (reassemble_parts (comma_parts value)) _
-    (reassemble_parts-named (comma_parts value))
-    (λ said named.
-    kept-sound classes (record draft { noalert = draft.noalert || said.2 })
-    (opt.Reassemble said.0 said.1)
-    (record { kept = sound.kept; msg = sound.msg; gid = sound.gid; sid = sound.sid; class = sound.class; period = sound.period })
-    named (refl, λ names. refl))
+    chained (reassemble_parts-named (comma_parts value)) (λ said named.
+    kept-sound classes (record draft { noalert = draft.noalert || said.2 }) (opt.Reassemble said.0 said.1) (search sound) named (refl, λ names. refl))

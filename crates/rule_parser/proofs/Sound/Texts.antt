@@ -1,75 +1,61 @@
 -- Options that name a rule keep it sound, and so do detection filters.
-use Rattle.std.proofs.Common.{◌≡◌, ℕ, ◌<◌, ◌≤◌, ◌==◌, ◌||◌, Bool, true, Option, Some, None, Ok, Err, List, [], ◌∷◌, length, nat_le, is_some, codes, arith, IfSome, IfOk}
+use Rattle.std.proofs.Common.{◌≡◌, ℕ, ◌<◌, ◌≤◌, Bool, true, Option, Some, None, List, ◌∷◌, length, nat_le, is_some, codes, arith, IfSome, [], ◌==◌, ◌||◌}
 use Rattle.std.proofs.lemmas.Bool.Decides.{nat_tests}
 use Rattle.net_lists.specs.Cutting.{comma_parts}
-use Rattle.net_lists.specs.Numbers.{number_in}
 use Rattle.net_lists.specs.Stops.{or_kind}
+use Rattle.net_lists.proofs.Steps.{Holds, given, refused, tested, unless, weaker, chained, after_any, ranged}
 use Rattle.rule_parser.specs.declared.draft.Draft.{Draft}
-use Rattle.rule_parser.specs.declared.fault.Fault.TheVariants.{OptionValue, Limit}
+use Rattle.rule_parser.specs.declared.fault.Fault.TheVariants.{OptionValue}
 use Rattle.rule_parser.specs.declared.quoted.Style.TheVariants.{Message}
 use Rattle.rule_parser.specs.declared.quoted.Place.TheVariants.{Plain}
 use Rattle.rule_types.specs.declared.rule.Period.{Period}
-use Rattle.rule_parser.specs.Periods.{after_key, tracked, counted, period_parts, detection_filter_option}
+use Rattle.rule_parser.specs.Periods.{counted, period_parts, detection_filter_option, after_key}
 use Rattle.rule_parser.specs.Quotes.{meaning}
-use Rattle.rule_parser.specs.Texts.{once, gid_option, sid_option, rev_option, priority_option, quoted_whole, message, msg_option, class_named, classtype_option}
+use Rattle.rule_parser.specs.Texts.{once, gid_option, sid_option, rev_option, priority_option, message, msg_option, class_named, classtype_option, quoted_whole}
 use Rattle.rule_parser.proofs.Sound.Drafts.{IsKnown, IsSoundDraft}
-use Rattle.rule_parser.proofs.Sound.Steps.{then_ok, any_ok, kind_ok, if_ok, some_weaken}
-use Rattle.rule_parser.proofs.Sound.Values.{IsIn, number_in-within}
 
-once-least : (before : Option ℕ) (least : ℕ) (value : List ℕ) → IfOk (once before least value) (λ number. least ≤ number)
+once-least : (before : Option ℕ) (least : ℕ) (value : List ℕ) → Holds (λ number. least ≤ number) (once before least value)
 unfolding once
-once-least before least value =
-    then_ok (IsIn least 4294967295) (λ number. least ≤ number) (or_kind OptionValue (number_in least 4294967295 value)) _
-    (kind_ok (IsIn least 4294967295) OptionValue (number_in least 4294967295 value) (number_in-within least 4294967295 value))
-    (λ number within. if_ok (λ number. least ≤ number) (is_some before) (Err OptionValue) (Ok number) (λ _. tt) (λ _. within.0))
+once-least before least value = chained (ranged _ least 4294967295 value) (λ number within. unless _ _ (λ _. given within.0))
 
 module _ (classes : ℕ) (draft : Draft) (sound : IsSoundDraft classes draft) where
-  pub gid-sound : (value : List ℕ) → IfOk (gid_option draft value) (IsSoundDraft classes)
+  pub gid-sound : (value : List ℕ) → Holds (IsSoundDraft classes) (gid_option draft value)
   unfolding gid_option
-  gid-sound value = then_ok (λ gid. 1 ≤ gid) (IsSoundDraft classes) (once draft.gid 1 value) _ (once-least draft.gid 1 value)
-      (λ gid least. record { kept = sound.kept; msg = sound.msg; gid = least; sid = sound.sid; class = sound.class; period = sound.period })
+  gid-sound value = chained (once-least draft.gid 1 value) (λ gid least. given (search (least, sound)))
 
-  pub sid-sound : (value : List ℕ) → IfOk (sid_option draft value) (IsSoundDraft classes)
+  pub sid-sound : (value : List ℕ) → Holds (IsSoundDraft classes) (sid_option draft value)
   unfolding sid_option
-  sid-sound value = then_ok (λ sid. 1 ≤ sid) (IsSoundDraft classes) (once draft.sid 1 value) _ (once-least draft.sid 1 value)
-      (λ sid least. record { kept = sound.kept; msg = sound.msg; gid = sound.gid; sid = least; class = sound.class; period = sound.period })
+  sid-sound value = chained (once-least draft.sid 1 value) (λ sid least. given (search (least, sound)))
 
-  pub rev-sound : (value : List ℕ) → IfOk (rev_option draft value) (IsSoundDraft classes)
+  pub rev-sound : (value : List ℕ) → Holds (IsSoundDraft classes) (rev_option draft value)
   unfolding rev_option
-  rev-sound value = then_ok (λ rev. 0 ≤ rev) (IsSoundDraft classes) (once draft.rev 0 value) _ (once-least draft.rev 0 value)
-      (λ rev least. record { kept = sound.kept; msg = sound.msg; gid = sound.gid; sid = sound.sid; class = sound.class; period = sound.period })
+  rev-sound value = after_any (once draft.rev 0 value) (λ rev. given (search sound))
 
-  pub priority-sound : (value : List ℕ) → IfOk (priority_option draft value) (IsSoundDraft classes)
+  pub priority-sound : (value : List ℕ) → Holds (IsSoundDraft classes) (priority_option draft value)
   unfolding priority_option
-  priority-sound value = then_ok (λ rev. 0 ≤ rev) (IsSoundDraft classes) (once draft.priority 0 value) _ (once-least draft.priority 0 value)
-      (λ rev least. record { kept = sound.kept; msg = sound.msg; gid = sound.gid; sid = sound.sid; class = sound.class; period = sound.period })
+  priority-sound value = after_any (once draft.priority 0 value) (λ priority. given (search sound))
 
-  message-short : (is_given : Bool) (value : List ℕ) → IfOk (message is_given value) (λ msg. length msg ≤ 1024)
+  message-short : (is_given : Bool) (value : List ℕ) → Holds (λ msg. length msg ≤ 1024) (message is_given value)
   unfolding message
   message-short is_given value =
-      let IsShort : List ℕ → Type 0 = λ msg. length msg ≤ 1024 in
-      then_ok (λ _. Unit {0}) IsShort (quoted_whole value) _ (any_ok (quoted_whole value)) (λ inside _.
-      then_ok (λ _. Unit {0}) IsShort (or_kind OptionValue (meaning Message Plain inside)) _ (any_ok (or_kind OptionValue (meaning Message Plain inside))) (λ msg _.
-      if_ok IsShort is_given _ _ (λ _. tt) (λ _.
-      if_ok IsShort (nat_le (length msg) 1024) (Ok msg) (Err Limit) (λ short. fits (length msg) short) (λ _. tt))))
+      after_any (quoted_whole value) (λ inside.
+      after_any (or_kind OptionValue (meaning Message Plain inside)) (λ msg.
+      unless is_given _ (λ _.
+      tested (nat_le (length msg) 1024) (λ short. given (fits (length msg) short)) (λ _. refused))))
     where
       fits : (len : ℕ) → nat_le len 1024 ≡ true → len ≤ 1024
       fits len short = grind (arith, nat_tests)
 
-  pub msg-sound : (value : List ℕ) → IfOk (msg_option draft value) (IsSoundDraft classes)
+  pub msg-sound : (value : List ℕ) → Holds (IsSoundDraft classes) (msg_option draft value)
   unfolding msg_option
-  msg-sound value =
-      then_ok (λ msg. length msg ≤ 1024) (IsSoundDraft classes) (message (is_some draft.msg) value) _ (message-short (is_some draft.msg) value)
-      (λ msg short. record { kept = sound.kept; msg = short; gid = sound.gid; sid = sound.sid; class = sound.class; period = sound.period })
+  msg-sound value = chained (message-short (is_some draft.msg) value) (λ msg short. given (search (short, sound)))
 
   pub classtype-sound : (find : List ℕ → Option ℕ)
       → ((name : List ℕ) → IfSome (find name) (λ place. place < classes))
       → (value : List ℕ)
-      → IfOk (classtype_option find draft value) (IsSoundDraft classes)
+      → Holds (IsSoundDraft classes) (classtype_option find draft value)
   unfolding classtype_option
-  classtype-sound find found value =
-      if_ok (IsSoundDraft classes) (length value == 0 || is_some draft.class) (Err OptionValue) (Ok (record draft { class = Some (class_named (find value)) })) (λ _. tt)
-      (λ _. record { kept = sound.kept; msg = sound.msg; gid = sound.gid; sid = sound.sid; class = known (find value) (found value); period = sound.period })
+  classtype-sound find found value = unless (length value == 0 || is_some draft.class) _ (λ _. let there = known (find value) (found value) in given (search (there, sound)))
     where
       known : (o : Option ℕ) → IfSome o (λ place. place < classes) → IsKnown classes (class_named o)
       known None h = tt
@@ -79,28 +65,22 @@ module _ (classes : ℕ) (draft : Draft) (sound : IsSoundDraft classes draft) wh
   abbrev IsPeriod : Period → Type 0
   IsPeriod period = (1 ≤ period.count) × (1 ≤ period.seconds)
 
-  counted-least : (key part : List ℕ) → IfOk (counted key part) (λ number. 1 ≤ number)
+  counted-least : (key part : List ℕ) → Holds (λ number. 1 ≤ number) (counted key part)
   unfolding counted
-  counted-least key part =
-      then_ok (λ _. Unit {0}) (λ number. 1 ≤ number) (after_key key part) _ (any_ok (after_key key part)) (λ number _.
-      kind_ok (λ number. 1 ≤ number) OptionValue (number_in 1 4294967295 number)
-      (some_weaken (IsIn 1 4294967295) (λ number. 1 ≤ number) (number_in 1 4294967295 number) (λ _ within. within.0)
-      (number_in-within 1 4294967295 number)))
+  counted-least key part = after_any (after_key key part) (λ number. weaker (ranged _ 1 4294967295 number) (λ _ within. within.0))
 
-  period_parts-least : (parts : List (List ℕ)) → IfOk (period_parts parts) IsPeriod
+  period_parts-least : (parts : List (List ℕ)) → Holds IsPeriod (period_parts parts)
   unfolding period_parts
-  period_parts-least [] = tt
-  period_parts-least (first ∷ []) = tt
-  period_parts-least (first ∷ second ∷ []) = tt
+  period_parts-least [] = refused
+  period_parts-least (first ∷ []) = refused
+  period_parts-least (first ∷ second ∷ []) = refused
   period_parts-least (first ∷ second ∷ third ∷ []) =
-      then_ok (λ _. Unit {0}) IsPeriod (after_key (codes "track") first) _ (any_ok (after_key (codes "track") first)) (λ side _.
-      then_ok (λ _. Unit {0}) IsPeriod (tracked side) _ (any_ok (tracked side)) (λ by_src _.
-      then_ok (λ count. 1 ≤ count) IsPeriod (counted (codes "count") second) _ (counted-least (codes "count") second) (λ count least.
-      then_ok (λ seconds. 1 ≤ seconds) IsPeriod (counted (codes "seconds") third) _ (counted-least (codes "seconds") third) (λ seconds least_seconds. (least, least_seconds)))))
-  period_parts-least (first ∷ second ∷ third ∷ fourth ∷ more) = tt
+      after_any (after_key (codes "track") first) (λ side.
+      after_any _ (λ by_src.
+      chained (counted-least (codes "count") second) (λ count least.
+      chained (counted-least (codes "seconds") third) (λ seconds least_seconds. given (least, least_seconds)))))
+  period_parts-least (first ∷ second ∷ third ∷ fourth ∷ more) = refused
 
-  pub detection_filter-sound : (value : List ℕ) → IfOk (detection_filter_option draft value) (IsSoundDraft classes)
+  pub detection_filter-sound : (value : List ℕ) → Holds (IsSoundDraft classes) (detection_filter_option draft value)
   unfolding detection_filter_option
-  detection_filter-sound value = then_ok IsPeriod (IsSoundDraft classes) (period_parts (comma_parts value)) _ (period_parts-least (comma_parts value)) (λ period least.
-      if_ok (IsSoundDraft classes) (is_some draft.period) (Err OptionValue) (Ok (record draft { period = Some period })) (λ _. tt)
-      (λ _. record { kept = sound.kept; msg = sound.msg; gid = sound.gid; sid = sound.sid; class = sound.class; period = least }))
+  detection_filter-sound value = chained (period_parts-least (comma_parts value)) (λ period least. unless (is_some draft.period) _ (λ _. given (search (least, sound))))
