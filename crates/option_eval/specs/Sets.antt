@@ -1,5 +1,6 @@
 -- Sets of places, as lists that rise, and what an option leads to from them.
 use Rattle.std.specs.Prelude.{◌≡◌, ℕ, ◌+◌, ◌<◌, ◌≤◌, ℤ, pos, ◌+ℤ◌, ◌≤ℤ◌, Bool, ◌&&◌, ◌||◌, not, ◌⊎◌, List, [], ◌∷◌, ◌++◌, length, Contains, Option, Some, None, IfSome, MatchBool, unwrap_or, if◌then◌else◌}
+use Rattle.std.specs.Coded.{×_prop, le_prop}
 use Rattle.memchr.specs.Find.{OccursAt}
 use Rattle.edge_io.specs.Matching.{folded}
 use Rattle.rule_types.specs.declared.option.Content.{Content}
@@ -12,6 +13,11 @@ use Rattle.option_eval.specs.declared.reach.Reach.{Reach}
 abbrev pub IsRising : ℕ → List ℕ → ℕ → Type 0
 IsRising low [] high = low ≤ high
 IsRising low (place ∷ places) high = (low ≤ place) × IsRising (place + 1) places high
+
+-- a type can have it as a fact
+pub IsRising-prop : (low : ℕ) (places : List ℕ) (high : ℕ) → IsProp (IsRising low places high)
+IsRising-prop low [] high = le_prop
+IsRising-prop low (place ∷ places) high = ×_prop le_prop (IsRising-prop (place + 1) places high)
 
 -- a place is in the set, where every place is wanted; else some place is
 abbrev pub IsGot : Bool → List ℕ → ℕ → Type 0

@@ -3,15 +3,17 @@
 -- To try it on: of `content:"a"; byte_extract:1,0,n,relative; content:"b"; offset:n;` n is read at no more than 100 places of
 -- 100 bytes, so few points follow its extraction, and each payload option is visited at no more than 101 places for
 -- each list of values.
-use Rattle.std.specs.Prelude.{ℕ, ◌≤◌, Bool, MatchBool, List, map, length, Option, Some, None}
+use Rattle.std.specs.Prelude.{◌≡◌, ℕ, ◌+◌, ◌≤◌, Bool, false, MatchBool, List, map, length, Option, Some, None}
 use Rattle.std.specs.List.{AllZip}
 use Rattle.edge_io.specs.declared.pattern.Span.{Span}
 use Rattle.rule_types.specs.declared.option.Opt.{Opt}
 use Rattle.rule_types.specs.declared.rule.Rule.{Rule}
+use Rattle.option_eval.specs.declared.asked.Asked.{Asked}
 use Rattle.option_eval.specs.declared.made.Made.{Made}
 use Rattle.option_eval.specs.declared.next.Next.{Next}
 use Rattle.option_eval.specs.declared.states.States.{States}
-use Rattle.option_eval.specs.Next.{next_set}
+use Rattle.option_eval.specs.Kinds.{is_relative}
+use Rattle.option_eval.specs.Next.{next_set, IsForAll, RisesTo}
 use Rattle.option_eval.specs.Numbers.{Point}
 use Rattle.option_eval.specs.Places.{Means}
 use Rattle.option_eval.specs.Ready.{pattern_of}
@@ -73,6 +75,14 @@ IsPartPassed means payload options old new passed =
     (MatchesFromSome means payload options old → MatchesFromSome means payload options new)
 
 -- an option leads to these places; where only some place is needed, to one of them
-abbrev pub LeadsTo : Means → Opt → Bool → Beginning → Next → Type 0
+abbrev pub LeadsTo : Means → Opt → Bool → Asked → Next → Type 0
 LeadsTo means option every at next =
-    Gathers every (IsLedTo (LeadsFrom means at.payload at.values option) at.places) (next_set next at.places)
+    Gathers every (IsLedTo (LeadsFrom means at.payload.now at.values.now option) at.places.now) (next_set next at.places.now)
+
+-- the places after an option: it leads to them, whatever is meant, if what was made of it finds that; they rise, and none is
+-- past the payload's end; where it counts from the payload's start they tell nothing of those before it
+pub record IsNext {P : Type 0} (finds : P → List ℕ → Option Span) (option : Opt) (made : Made P) (at : Asked) (every : Bool)
+    (next : Next) : Type 0 where
+  pub found : OfMadeOne finds option made (λ means. LeadsTo means option every at next)
+  pub rising : RisesTo (length at.payload.now + 1) next
+  pub apart : is_relative option ≡ false → IsForAll option next

@@ -5,13 +5,13 @@ ghost use Rattle.option_eval.specs.Absent.{IsReached, SeesOn};
 ghost use Rattle.option_eval.specs.Sets.{IsRising, Occurs};
 
 use crate::Steps;
+use crate::asked::Asked;
 use crate::needle::Needle;
 use crate::next::with_place;
 use crate::reach::Reach;
 use crate::sweep::Places;
 use edge_io::NoMemory;
 use smallvec::SmallVec;
-use std::alloc::Global;
 use std::sync::ledger::Ledger;
 
 /// What was seen of a payload, from left to right.
@@ -26,33 +26,30 @@ struct Seen {
 /// The places of the set within whose reach the bytes occur nowhere. Each place is asked with the occurrence
 /// that was seen last, so no place of the payload is compared twice. A visit is a place that is asked.
 pub(crate) fn places_without<L: Ledger>(
-    alloc: Global,
     needle: &Needle,
     reach: &Reach,
-    payload: &[u8],
-    places: &[usize],
+    at: &Asked,
     visits: &mut Steps<L>,
 ) -> Result<Places, NoMemory>
     requires same { needle.now.finder.now ≡ needle.now.bytes.now }
     requires some { 1 ≤ length needle.now.bytes.now }
-    requires fits { length needle.now.bytes.now ≤ length payload.now }
-    requires rising { IsRising 0 places.now (length payload.now + 1) }
+    requires fits { length needle.now.bytes.now ≤ length at.now.payload.now }
     ensures found { IfOk result (λ next. (q : ℕ) → Contains next.items q
-        ↔ (Contains places.now q × ¬ IsReached needle.now.nocase payload.now needle.now.bytes.now reach.now q)) }
-    ensures rising { IfOk result (λ next. IsRising 0 next.items (length payload.now + 1)) }
-    ensures bounded { visits.new ≤ visits.old + length places.now }
+        ↔ (Contains at.now.places.now q × ¬ IsReached needle.now.nocase at.now.payload.now needle.now.bytes.now reach.now q)) }
+    ensures rising { IfOk result (λ next. IsRising 0 next.items (length at.now.payload.now + 1)) }
+    ensures bounded { visits.new ≤ visits.old + length at.now.places.now }
 {
     let size = needle.bytes.len();
-    let bound = payload.len() - size + 1;
-    let mut next = SmallVec::new(alloc);
+    let bound = at.payload.len() - size + 1;
+    let mut next = SmallVec::new(at.alloc);
     let mut seen = Seen { done: 0, last: 0 };
     let mut asked = 0;
-    let mut rest = places;
+    let mut rest = at.places;
     while let [place, later @ ..] = rest {
         visits.tick();
         let end = reach.end(*place, size, bound);
         let low = reach.low(*place, bound);
-        seen = seen_in(needle, payload, low, end, seen);
+        seen = seen_in(needle, at.payload, low, end, seen);
         next = with_place(next, seen.last <= low, *place)?;
         asked = *place + 1;
         rest = later;

@@ -6,10 +6,13 @@ ghost use Rattle.std.specs.Option.{ForSome};
 ghost use Rattle.option_eval.specs.Numbers.{number_if};
 ghost use Rattle.option_eval.specs.Places.{Means, is_only};
 ghost use Rattle.option_eval.specs.Ranges.{IsSmall};
-ghost use Rattle.option_eval.specs.Sets.{IsRising, Gathers, IsHitFrom, IsLedTo, LeadsFrom, IsWithin, Occurs, IsFoundFrom, reach_from, reach_room, folds_case, content_origin};
+ghost use Rattle.option_eval.specs.Sets.{IsRising, IsWithin, Occurs, IsFoundFrom, reach_from, reach_room, folds_case, content_origin};
+ghost use Rattle.option_eval.specs.Trying.{LeadsTo};
+ghost use Rattle.option_eval.specs.declared.next.Next.TheVariants as next;
 
 use crate::Steps;
 use crate::absent::places_without;
+use crate::asked::Asked;
 use crate::fetch::{Values, number};
 use crate::needle::Needle;
 use crate::reach::Reach;
@@ -18,42 +21,36 @@ use edge_io::NoMemory;
 use memchr::memmem::Finder;
 use rule_types::{Content, FastMode, Num};
 use smallvec::SmallVec;
-use std::alloc::Global;
 use std::sync::ledger::Ledger;
 
 // ---- content
 
 /// Where a `content` leads from a set of places: to the ends of the bytes in its windows.
 pub(crate) fn places_after_content<L: Ledger>(
-    alloc: Global,
     content: &Content,
     finder: &Finder<'static>,
-    payload: &[u8],
-    places: &[usize],
-    values: &Values,
+    at: &Asked,
     every: bool,
     visits: &mut Steps<L>,
 ) -> Result<Places, NoMemory>
     requires same { finder.now ≡ content.now.bytes }
     requires some { 1 ≤ length content.now.bytes }
     requires plain { (content.now.negated ≡ false) × (is_only content.now.fast ≡ false) }
-    requires asked { 0 < length places.now }
-    requires rising { IsRising 0 places.now (length payload.now + 1) }
-    ensures found { (means : Means) → IfOk result (λ next.
-        Gathers every (IsLedTo (LeadsFrom means payload.now values.now (content_option content.now)) places.now) next.items) }
-    ensures rising { IfOk result (λ next. IsRising 0 next.items (length payload.now + 1)) }
-    ensures bounded { visits.new ≤ visits.old + (length payload.now + 1) }
+    ensures found { (means : Means) → IfOk result (λ places.
+        LeadsTo means (content_option content.now) every at.now (next.To places)) }
+    ensures rising { IfOk result (λ places. IsRising 0 places.items (length at.now.payload.now + 1)) }
+    ensures bounded { visits.new ≤ visits.old + (length at.now.payload.now + 1) }
 {
     let needle = needle(content, finder);
-    if needle.bytes.len() > payload.len() {
-        return Ok(SmallVec::new(alloc));
+    if needle.bytes.len() > at.payload.len() {
+        return Ok(SmallVec::new(at.alloc));
     }
-    let asked = asked_from(content.relative, places);
+    let asked = asked_from(content.relative, at.places);
     sweep(
-        alloc,
+        at.alloc,
         &needle,
-        &reach(content, values),
-        payload,
+        &reach(content, at.values),
+        at.payload,
         asked,
         every,
         visits,
@@ -62,31 +59,25 @@ pub(crate) fn places_after_content<L: Ledger>(
 
 /// The places of the set from which a `content:!` holds that counts from them, by `distance` or `within`.
 pub(crate) fn places_after_negated_content<L: Ledger>(
-    alloc: Global,
     content: &Content,
     finder: &Finder<'static>,
-    payload: &[u8],
-    places: &[usize],
-    values: &Values,
+    at: &Asked,
     visits: &mut Steps<L>,
 ) -> Result<Places, NoMemory>
     requires same { finder.now ≡ content.now.bytes }
     requires some { 1 ≤ length content.now.bytes }
-    requires fits { length content.now.bytes ≤ length payload.now }
+    requires fits { length content.now.bytes ≤ length at.now.payload.now }
     requires negated { content.now.negated ≡ true }
     requires relative { (not (is_only content.now.fast) && content.now.relative) ≡ true }
-    requires rising { IsRising 0 places.now (length payload.now + 1) }
-    ensures found { (means : Means) → (every : Bool) → IfOk result (λ next.
-        Gathers every (IsLedTo (LeadsFrom means payload.now values.now (content_option content.now)) places.now) next.items) }
-    ensures rising { IfOk result (λ next. IsRising 0 next.items (length payload.now + 1)) }
-    ensures bounded { visits.new ≤ visits.old + length places.now }
+    ensures found { (means : Means) → (every : Bool) → IfOk result (λ places.
+        LeadsTo means (content_option content.now) every at.now (next.To places)) }
+    ensures rising { IfOk result (λ places. IsRising 0 places.items (length at.now.payload.now + 1)) }
+    ensures bounded { visits.new ≤ visits.old + length at.now.places.now }
 {
     places_without(
-        alloc,
         &needle(content, finder),
-        &reach(content, values),
-        payload,
-        places,
+        &reach(content, at.values),
+        at,
         visits,
     )
 }

@@ -6,10 +6,10 @@ ghost use Rattle.option_eval.specs.Extractions.{extract_option};
 ghost use Rattle.option_eval.specs.Kept.{names_read};
 ghost use Rattle.option_eval.specs.Places.{Means};
 ghost use Rattle.option_eval.specs.Ready.{IsInRange};
-ghost use Rattle.option_eval.specs.Sets.{IsRising};
 ghost use Rattle.option_eval.specs.States.{AreWithin, Leaves};
 
 use crate::Steps;
+use crate::asked::Asked;
 use crate::fetch::{Values, fetched_number, rounded_up};
 use crate::kept::{Read, kept_values};
 use crate::next::asked_of;
@@ -34,24 +34,22 @@ impl Extraction {
     /// unless the extraction is relative. Of the values after it those are kept that the later options read.
     pub fn extract<L: Ledger>(
         &self,
-        payload: &[u8],
-        places: &[usize],
-        values: &Values,
+        at: &Asked,
         states: &mut States,
         visits: &mut Steps<L>,
     ) -> Result<(), NoMemory>
         requires in_range { IsInRange (extract_option self.now) }
-        requires asked { 0 < length places.now }
-        requires rising { IsRising 0 places.now (length payload.now + 1) }
         ensures right { (means : Means) → (later : List Opt) → self.now.read ≡ names_read later → OnOk result
-            (Leaves means payload.now (extract_option self.now ∷ later) values.now places.now states.old states.new) }
-        ensures inside { AreWithin (length payload.now) states.old → OnOk result (AreWithin (length payload.now) states.new) }
-        ensures bounded { visits.new ≤ visits.old + (length payload.now + 1) }
+            (Leaves means at.now.payload.now (extract_option self.now ∷ later) at.now.values.now at.now.places.now
+            states.old states.new) }
+        ensures inside { AreWithin (length at.now.payload.now) states.old
+            → OnOk result (AreWithin (length at.now.payload.now) states.new) }
+        ensures bounded { visits.new ≤ visits.old + (length at.now.payload.now + 1) }
     {
         self.extract_each(
-            payload,
-            asked_of(self.fetch.relative, places),
-            values,
+            at.payload,
+            asked_of(self.fetch.relative, at.places),
+            at.values,
             states,
             visits,
         )

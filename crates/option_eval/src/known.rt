@@ -9,8 +9,7 @@ ghost use Rattle.option_eval.specs.Known.{known_at, is_free, IsKnown, LeadsAlike
 ghost use Rattle.option_eval.specs.Next.{RisesTo};
 ghost use Rattle.option_eval.specs.Places.{is_payload_option, is_extract};
 ghost use Rattle.option_eval.specs.Ready.{IsReady};
-ghost use Rattle.option_eval.specs.Sets.{IsRising};
-ghost use Rattle.option_eval.specs.Trying.{OfMadeOne, LeadsTo, beginning};
+ghost use Rattle.option_eval.specs.Trying.{OfMadeOne, LeadsTo};
 
 use crate::Steps;
 use crate::asked::Asked;
@@ -101,7 +100,6 @@ impl Known {
 
 /// Where an option other than an extraction leads from a set of places: asked, unless that is known.
 pub(crate) fn next_known<P: Pattern, L: Ledger>(
-    alloc: Global,
     option: &Opt,
     made: &Made<P>,
     later: &[Opt],
@@ -111,12 +109,10 @@ pub(crate) fn next_known<P: Pattern, L: Ledger>(
 ) -> Result<Next, NoMemory>
     requires ready { IsReady option.now made.now }
     requires plain { is_extract option.now ≡ false }
-    requires rising { IsRising 0 at.now.places.now (length at.now.payload.now + 1) }
     requires known_rising { AreRising (length at.now.payload.now + 1) known.old }
     ensures found { OfMadeOne P.finds option.now made.now (λ means.
         IsKnown means at.now.payload.now option.now (needs_place later.now) (known_at known.old (length later.now))
-        → IfOk result (LeadsTo means option.now (needs_place later.now)
-        (beginning at.now.payload.now at.now.values.now at.now.places.now))) }
+        → IfOk result (LeadsTo means option.now (needs_place later.now) at.now)) }
     ensures alike { OfMadeOne P.finds option.now made.now (λ means.
         IsKnown means at.now.payload.now option.now (needs_place later.now) (known_at known.old (length later.now))
         → is_free option.now ≡ true → IfOk result (LeadsAlike means at.now.payload.now option.now (needs_place later.now))) }
@@ -127,15 +123,6 @@ pub(crate) fn next_known<P: Pattern, L: Ledger>(
     if let Some(next) = known.take(later.len()) {
         return Ok(next);
     }
-    let next = next_places(
-        alloc,
-        option,
-        made,
-        at.payload,
-        at.places,
-        at.values,
-        needs_place(later),
-        visits,
-    )?;
+    let next = next_places(option, made, at, needs_place(later), visits)?;
     Ok(next)
 }

@@ -1,17 +1,17 @@
 //! Where an option leads from a set of places.
 
-ghost use Rattle.std.specs.Prelude.{◌≡◌, ℕ, ◌+◌, ◌<◌, ◌≤◌, ◌++◌, ◌∷◌, [], Bool, true, false, ◌↔◌, ◌^◌, Contains, take, length, IfOk, MatchBool, if◌then◌else◌};
+ghost use Rattle.std.specs.Prelude.{◌≡◌, ℕ, ◌+◌, ◌<◌, ◌≤◌, ◌++◌, ◌∷◌, [], Bool, true, false, ◌↔◌, ◌^◌, Contains, take, length, IfOk, if◌then◌else◌};
 ghost use Rattle.std.specs.List.Sorted.{IsPermutation, IsNonDecreasing};
 ghost use Rattle.option_eval.specs.Kinds.{is_relative, is_test, IsJump};
-ghost use Rattle.option_eval.specs.Next.{next_set, IsForAll};
-ghost use Rattle.option_eval.specs.Places.{Means, is_payload_option, is_extract};
-ghost use Rattle.option_eval.specs.Ready.{IsReady, pattern_of};
-ghost use Rattle.option_eval.specs.RuleSet.{IsMade};
+ghost use Rattle.option_eval.specs.Places.{is_payload_option, is_extract};
+ghost use Rattle.option_eval.specs.Ready.{IsReady};
 ghost use Rattle.option_eval.specs.Sets.{IsRising, Gathers, IsLedTo, LeadsFrom, with_if};
+ghost use Rattle.option_eval.specs.Trying.{OfMadeOne, IsNext};
+ghost use Rattle.option_eval.specs.declared.next.Next.TheVariants as next;
 
 use crate::Steps;
+use crate::asked::Asked;
 use crate::content::{places_after_content, places_after_negated_content};
-use crate::fetch::Values;
 use crate::kind::{is_payload_option, is_relative, is_test};
 use crate::leads::{place_after_jump, test_holds};
 use crate::made::Made;
@@ -34,32 +34,24 @@ pub(crate) enum Next {
 /// Where an option other than an extraction leads from a set of places. Every place is given if every
 /// one is wanted, else one at least where there is one.
 pub(crate) fn next_places<P: Pattern, L: Ledger>(
-    alloc: Global,
     option: &Opt,
     made: &Made<P>,
-    payload: &[u8],
-    places: &[usize],
-    values: &Values,
+    at: &Asked,
     every: bool,
     visits: &mut Steps<L>,
 ) -> Result<Next, NoMemory>
     requires ready { IsReady option.now made.now }
     requires plain { is_extract option.now ≡ false }
-    requires asked { 0 < length places.now }
-    requires rising { IsRising 0 places.now (length payload.now + 1) }
-    ensures found { (means : Means) → IsMade P.finds means option.now (pattern_of made.now) → IfOk result (λ next.
-        Gathers every (IsLedTo (LeadsFrom means payload.now values.now option.now) places.now) (next_set next places.now)) }
-    ensures rising { IfOk result (λ next. IsRising 0 (next_set next places.now) (length payload.now + 1)) }
-    ensures apart { is_relative option.now ≡ false → IfOk result (IsForAll option.now) }
-    ensures bounded { visits.new ≤ visits.old + (if is_payload_option option.now then length payload.now + 1 else 0) }
+    ensures after { IfOk result (IsNext P.finds option.now made.now at.now every) }
+    ensures bounded { visits.new ≤ visits.old + (if is_payload_option option.now then length at.now.payload.now + 1 else 0) }
 {
     if !is_payload_option(option) {
         return Ok(Next::Same);
     }
     if is_test(option) {
-        return places_after_test(alloc, option, made, payload, places, values, visits);
+        return places_after_test(option, made, at, visits);
     }
-    places_after_move(alloc, option, made, payload, places, values, every, visits)
+    places_after_move(option, made, at, every, visits)
 }
 
 /// How many visits a test of the first place is: where a content isn't negated, the places where it is
@@ -77,92 +69,68 @@ fn cost(option: &Opt, payload: &[u8]) -> u64
 
 /// The places at which a test holds: an option that leads nowhere but to the place before it.
 fn places_after_test<P: Pattern, L: Ledger>(
-    alloc: Global,
     option: &Opt,
     made: &Made<P>,
-    payload: &[u8],
-    places: &[usize],
-    values: &Values,
+    at: &Asked,
     visits: &mut Steps<L>,
 ) -> Result<Next, NoMemory>
     requires ready { IsReady option.now made.now }
     requires test { is_test option.now ≡ true }
-    requires asked { 0 < length places.now }
-    requires rising { IsRising 0 places.now (length payload.now + 1) }
-    ensures found { (means : Means) → (every : Bool) → IsMade P.finds means option.now (pattern_of made.now)
-        → IfOk result (λ next.
-        Gathers every (IsLedTo (LeadsFrom means payload.now values.now option.now) places.now) (next_set next places.now)) }
-    ensures rising { IfOk result (λ next. IsRising 0 (next_set next places.now) (length payload.now + 1)) }
-    ensures apart { is_relative option.now ≡ false → IfOk result (IsForAll option.now) }
-    ensures bounded { visits.new ≤ visits.old + (length payload.now + 1) }
+    ensures after { (every : Bool) → IfOk result (IsNext P.finds option.now made.now at.now every) }
+    ensures bounded { visits.new ≤ visits.old + (length at.now.payload.now + 1) }
 {
     if is_relative(option) {
-        return Ok(Next::To(places_after_relative_test(
-            alloc, option, made, payload, places, values, visits,
-        )?));
+        return Ok(Next::To(places_after_relative_test(option, made, at, visits)?));
     }
-    visits.tick_by(cost(option, payload));
-    if test_holds(option, made, payload, places[0], values)? {
+    visits.tick_by(cost(option, at.payload));
+    if test_holds(option, made, at.payload, at.places[0], at.values)? {
         Ok(Next::Same)
     } else {
-        Ok(Next::To(SmallVec::new(alloc)))
+        Ok(Next::To(SmallVec::new(at.alloc)))
     }
 }
 
 /// The places at which a relative test holds. A content is asked from all of them together.
 fn places_after_relative_test<P: Pattern, L: Ledger>(
-    alloc: Global,
     option: &Opt,
     made: &Made<P>,
-    payload: &[u8],
-    places: &[usize],
-    values: &Values,
+    at: &Asked,
     visits: &mut Steps<L>,
 ) -> Result<Places, NoMemory>
     requires ready { IsReady option.now made.now }
     requires test { is_test option.now ≡ true }
     requires relative { is_relative option.now ≡ true }
-    requires rising { IsRising 0 places.now (length payload.now + 1) }
-    ensures found { (means : Means) → (every : Bool) → IsMade P.finds means option.now (pattern_of made.now)
-        → IfOk result (λ next.
-        Gathers every (IsLedTo (LeadsFrom means payload.now values.now option.now) places.now) next.items) }
-    ensures rising { IfOk result (λ next. IsRising 0 next.items (length payload.now + 1)) }
-    ensures bounded { visits.new ≤ visits.old + length places.now }
+    ensures after { (every : Bool) → IfOk result (λ places. IsNext P.finds option.now made.now at.now every (next.To places)) }
+    ensures bounded { visits.new ≤ visits.old + length at.now.places.now }
 {
     match (option, made) {
         (Opt::Content(content), Made::Needle(finder))
-            if content.bytes.bytes().len() <= payload.len() => {
-            places_after_negated_content(alloc, content, finder, payload, places, values, visits)
+            if content.bytes.bytes().len() <= at.payload.len() => {
+            places_after_negated_content(content, finder, at, visits)
         }
-        _ => places_where_test_holds(alloc, option, made, payload, places, values, visits),
+        _ => places_where_test_holds(option, made, at, visits),
     }
 }
 
 /// The places at which a relative test holds, each asked.
 fn places_where_test_holds<P: Pattern, L: Ledger>(
-    alloc: Global,
     option: &Opt,
     made: &Made<P>,
-    payload: &[u8],
-    places: &[usize],
-    values: &Values,
+    at: &Asked,
     visits: &mut Steps<L>,
 ) -> Result<Places, NoMemory>
     requires ready { IsReady option.now made.now }
     requires test { is_test option.now ≡ true }
-    requires rising { IsRising 0 places.now (length payload.now + 1) }
-    ensures found { (means : Means) → (every : Bool) → IsMade P.finds means option.now (pattern_of made.now)
-        → IfOk result (λ next.
-        Gathers every (IsLedTo (LeadsFrom means payload.now values.now option.now) places.now) next.items) }
-    ensures rising { IfOk result (λ next. IsRising 0 next.items (length payload.now + 1)) }
-    ensures bounded { visits.new ≤ visits.old + length places.now }
+    requires relative { is_relative option.now ≡ true }
+    ensures after { (every : Bool) → IfOk result (λ places. IsNext P.finds option.now made.now at.now every (next.To places)) }
+    ensures bounded { visits.new ≤ visits.old + length at.now.places.now }
 {
-    let mut next = SmallVec::new(alloc);
+    let mut next = SmallVec::new(at.alloc);
     let mut done = 0;
-    let mut rest = places;
+    let mut rest = at.places;
     while let [place, later @ ..] = rest {
         visits.tick();
-        let holds = test_holds(option, made, payload, *place, values)?;
+        let holds = test_holds(option, made, at.payload, *place, at.values)?;
         next = with_place(next, holds, *place)?;
         done = *place + 1;
         rest = later;
@@ -174,90 +142,63 @@ fn places_where_test_holds<P: Pattern, L: Ledger>(
 
 /// Where a `content`, a `pcre` or a `byte_jump` leads: to other places.
 fn places_after_move<P: Pattern, L: Ledger>(
-    alloc: Global,
     option: &Opt,
     made: &Made<P>,
-    payload: &[u8],
-    places: &[usize],
-    values: &Values,
+    at: &Asked,
     every: bool,
     visits: &mut Steps<L>,
 ) -> Result<Next, NoMemory>
     requires ready { IsReady option.now made.now }
     requires plain { is_extract option.now ≡ false }
     requires moves { is_test option.now ≡ false }
-    requires asked { 0 < length places.now }
-    requires rising { IsRising 0 places.now (length payload.now + 1) }
-    ensures found { (means : Means) → IsMade P.finds means option.now (pattern_of made.now) → IfOk result (λ next.
-        Gathers every (IsLedTo (LeadsFrom means payload.now values.now option.now) places.now) (next_set next places.now)) }
-    ensures rising { IfOk result (λ next. IsRising 0 (next_set next places.now) (length payload.now + 1)) }
-    ensures apart { IfOk result (IsForAll option.now) }
-    ensures bounded { visits.new ≤ visits.old + (length payload.now + 1) }
+    ensures after { IfOk result (IsNext P.finds option.now made.now at.now every) }
+    ensures bounded { visits.new ≤ visits.old + (length at.now.payload.now + 1) }
 {
     match (option, made) {
-        (Opt::Content(content), Made::Needle(finder)) => Ok(Next::To(places_after_content(
-            alloc, content, finder, payload, places, values, every, visits,
-        )?)),
+        (Opt::Content(content), Made::Needle(finder)) => {
+            Ok(Next::To(places_after_content(content, finder, at, every, visits)?))
+        }
         (Opt::Content(_), _) => Ok(Next::Same),
-        _ => Ok(Next::To(places_after_jump(alloc, option, made, payload, places, values, visits)?)),
+        _ => Ok(Next::To(places_after_jump(option, made, at, visits)?)),
     }
 }
 
 /// Where a `pcre` or a `byte_jump` leads, each place asked.
 fn places_after_jump<P: Pattern, L: Ledger>(
-    alloc: Global,
     option: &Opt,
     made: &Made<P>,
-    payload: &[u8],
-    places: &[usize],
-    values: &Values,
+    at: &Asked,
     visits: &mut Steps<L>,
 ) -> Result<Places, NoMemory>
     requires ready { IsReady option.now made.now }
     requires jumps { IsJump option.now }
-    requires asked { 0 < length places.now }
-    requires rising { IsRising 0 places.now (length payload.now + 1) }
-    ensures found { (means : Means) → (every : Bool) → IsMade P.finds means option.now (pattern_of made.now)
-        → IfOk result (λ next.
-        Gathers every (IsLedTo (LeadsFrom means payload.now values.now option.now) places.now) next.items) }
-    ensures rising { IfOk result (λ next. IsRising 0 next.items (length payload.now + 1)) }
-    ensures bounded { visits.new ≤ visits.old + (length payload.now + 1) }
+    ensures after { (every : Bool) → IfOk result (λ places. IsNext P.finds option.now made.now at.now every (next.To places)) }
+    ensures bounded { visits.new ≤ visits.old + (length at.now.payload.now + 1) }
 {
-    let led = jump_places(
-        alloc,
-        option,
-        made,
-        payload,
-        asked_of(is_relative(option), places),
-        values,
-        visits,
-    )?;
-    rising(alloc, sorted(led).as_slice())
+    let led = jump_places(option, made, at, visits)?;
+    rising(at.alloc, sorted(led).as_slice())
 }
 
-/// Where a `pcre` or a `byte_jump` leads from each of these places, in their order.
+/// Where a `pcre` or a `byte_jump` leads from each place, in their order; from the first alone, unless it is
+/// relative.
 fn jump_places<P: Pattern, L: Ledger>(
-    alloc: Global,
     option: &Opt,
     made: &Made<P>,
-    payload: &[u8],
-    places: &[usize],
-    values: &Values,
+    at: &Asked,
     visits: &mut Steps<L>,
 ) -> Result<Places, NoMemory>
     requires ready { IsReady option.now made.now }
     requires jumps { IsJump option.now }
-    requires inside { (p : ℕ) → Contains places.now p → p ≤ length payload.now }
-    ensures found { (means : Means) → IsMade P.finds means option.now (pattern_of made.now) → IfOk result (λ led. (q : ℕ) →
-        Contains led.items q ↔ IsLedTo (LeadsFrom means payload.now values.now option.now) places.now q) }
-    ensures inside { IfOk result (λ led. (q : ℕ) → Contains led.items q → q ≤ length payload.now) }
-    ensures bounded { visits.new ≤ visits.old + length places.now }
+    ensures found { OfMadeOne P.finds option.now made.now (λ means. IfOk result (λ led.
+        Gathers true (IsLedTo (LeadsFrom means at.now.payload.now at.now.values.now option.now) at.now.places.now) led.items)) }
+    ensures inside { IfOk result (λ led. (q : ℕ) → Contains led.items q → q ≤ length at.now.payload.now) }
+    ensures bounded { visits.new ≤ visits.old + (length at.now.payload.now + 1) }
 {
-    let mut led = SmallVec::new(alloc);
-    let mut rest = places;
+    let mut led = SmallVec::new(at.alloc);
+    let mut rest = asked_of(is_relative(option), at.places);
     while let [place, later @ ..] = rest {
         visits.tick();
-        let next = place_after_jump(option, made, payload, *place, values)?;
+        let next = place_after_jump(option, made, at.payload, *place, at.values)?;
         led = with_if(led, next)?;
         rest = later;
     }

@@ -54,11 +54,12 @@ pub(crate) fn is_passed<P: Pattern, L: Ledger>(
         known: Known::nothing(alloc),
     };
     let at = Asked {
+        alloc,
         payload,
         places: &[0],
         values: &[0, 0],
     };
-    if is_walked(alloc, options, made, &at, &mut after, visits)? {
+    if is_walked(options, made, &at, &mut after, visits)? {
         return Ok(true);
     }
     is_passed_after(alloc, options, made, payload, after.states, visits)

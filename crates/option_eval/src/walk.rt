@@ -6,9 +6,8 @@
 ghost use Rattle.std.specs.Prelude.{◌≡◌, ℕ, ◌+◌, ◌≤◌, Contains, length, IfOk};
 ghost use Rattle.std.specs.List.{AllZip};
 ghost use Rattle.option_eval.specs.Known.{AreKnown, AreRising, KeepsKnown};
-ghost use Rattle.option_eval.specs.Next.{next_set};
+ghost use Rattle.option_eval.specs.Next.{next_set, RisesTo};
 ghost use Rattle.option_eval.specs.Ready.{IsReady};
-ghost use Rattle.option_eval.specs.Sets.{IsRising};
 ghost use Rattle.option_eval.specs.States.{AreWithin};
 ghost use Rattle.option_eval.specs.Trying.{OfMade, IsWalked, beginning};
 ghost use Rattle.option_eval.specs.Walks.{ExtractsNothing, visits_of, upto_extraction};
@@ -66,17 +65,17 @@ pub(crate) fn is_state_walked<P: Pattern, L: Ledger>(
         return Ok(false);
     }
     let at = Asked {
+        alloc,
         payload,
         places: places.as_slice(),
         values: &state.values,
     };
-    is_walked(alloc, options, made, &at, after, visits)
+    is_walked(options, made, &at, after, visits)
 }
 
 /// Whether a way leads through the options from a set of places with these values.
 #[cycle(walk)]
 pub(crate) fn is_walked<P: Pattern, L: Ledger>(
-    alloc: Global,
     options: &[Opt],
     made: &[Made<P>],
     at: &Asked,
@@ -84,7 +83,6 @@ pub(crate) fn is_walked<P: Pattern, L: Ledger>(
     visits: &mut Steps<L>,
 ) -> Result<bool, NoMemory>
     requires ready { AllZip IsReady options.now made.now }
-    requires rising { IsRising 0 at.now.places.now (length at.now.payload.now + 1) }
     requires known_rising { AreRising (length at.now.payload.now + 1) after.old.known }
     ensures right { OfMade P.finds options.now made.now (λ means.
         AreKnown means at.now.payload.now options.now after.old.known
@@ -120,11 +118,11 @@ pub(crate) fn is_walked<P: Pattern, L: Ledger>(
             align: *align,
             read: names_read(later),
         };
-        extraction.extract(at.payload, at.places, at.values, &mut after.states, visits)?;
+        extraction.extract(at, &mut after.states, visits)?;
         return Ok(false);
     }
-    let next = next_known(alloc, option, kept, later, at, &mut after.known, visits)?;
-    let walked = is_walked_from(alloc, &next, later, made_later, at, after, visits)?;
+    let next = next_known(option, kept, later, at, &mut after.known, visits)?;
+    let walked = is_walked_from(&next, later, made_later, at, after, visits)?;
     after.known.keep(option, later.len(), next);
     Ok(walked)
 }
@@ -132,7 +130,6 @@ pub(crate) fn is_walked<P: Pattern, L: Ledger>(
 /// Whether a way leads through the options that follow from the places after an option.
 #[cycle(walk)]
 fn is_walked_from<P: Pattern, L: Ledger>(
-    alloc: Global,
     next: &Next,
     options: &[Opt],
     made: &[Made<P>],
@@ -141,7 +138,7 @@ fn is_walked_from<P: Pattern, L: Ledger>(
     visits: &mut Steps<L>,
 ) -> Result<bool, NoMemory>
     requires ready { AllZip IsReady options.now made.now }
-    requires rising { IsRising 0 (next_set next.now at.now.places.now) (length at.now.payload.now + 1) }
+    requires rising { RisesTo (length at.now.payload.now + 1) next.now }
     requires known_rising { AreRising (length at.now.payload.now + 1) after.old.known }
     ensures right { OfMade P.finds options.now made.now (λ means.
         AreKnown means at.now.payload.now options.now after.old.known
@@ -159,17 +156,18 @@ fn is_walked_from<P: Pattern, L: Ledger>(
         after.old.known after.new.known) }
 {
     match next {
-        Next::Same => is_walked(alloc, options, made, at, after, visits),
+        Next::Same => is_walked(options, made, at, after, visits),
         Next::To(next) => {
             if next.is_empty() {
                 return Ok(false);
             }
             let there = Asked {
+                alloc: at.alloc,
                 payload: at.payload,
                 places: next.as_slice(),
                 values: at.values,
             };
-            is_walked(alloc, options, made, &there, after, visits)
+            is_walked(options, made, &there, after, visits)
         }
     }
 }

@@ -12,7 +12,7 @@ use Rattle.option_eval.specs.Kinds.{is_relative, is_test, needs_place}
 use Rattle.option_eval.specs.Known.{known_at, is_free, LeadsAlike, IsKnown, AreKnown, AreRising}
 use Rattle.option_eval.specs.Next.{next_set, IsForAll, RisesTo}
 use Rattle.option_eval.specs.Places.{Means, is_extract}
-use Rattle.option_eval.specs.Sets.{point, IsRising, IsGot, Gathers, IsLedTo, LeadsFrom}
+use Rattle.option_eval.specs.Sets.{point, IsGot, Gathers, IsLedTo, LeadsFrom}
 use Rattle.option_eval.specs.declared.known.Known.{Known}
 use Rattle.option_eval.specs.declared.next.Next.{Next}
 use Rattle.option_eval.specs.declared.next.Next.TheVariants as next
@@ -174,15 +174,6 @@ rising_taken old taken left high take h = λ other. subst (λ (found : Option Ne
 
 pub rising_nothing : (known : Known) (high : ℕ) → ((left : ℕ) → known_at known left ≡ None) → AreRising high known
 rising_nothing known high none = λ left. some_none (RisesTo high) (known_at known left) (none left)
-
--- the places after an option rise
-pub next_rises : (next : Next) (places : List ℕ) (high : ℕ) → RisesTo high next → IsRising 0 places high → IsRising 0 (next_set next places) high
-next_rises next.Same places high risen before = before
-next_rises (next.To led) places high risen before = risen
-
-pub rises_next : (next : Next) (places : List ℕ) (high : ℕ) → IsRising 0 (next_set next places) high → RisesTo high next
-rises_next next.Same places high risen = tt
-rises_next (next.To led) places high risen = risen
 
 -- what was known, found
 pub found_known : {A : Type 0} (P : A → Type 0) (found : Option A) (x : A) → Some x ≡ found → IfSome found P → P x

@@ -307,20 +307,30 @@ asked_leads true leads places asked some is free q led = (led.0, subst (λ (xs :
 asked_leads false leads [] asked some is free q led = absurd (omega arith)
 asked_leads false leads (x ∷ places) asked some is free q led = (x, subst (λ (xs : List ℕ). Contains xs x) (sym is) (contains_first x []), free refl led.0 x q led.2)
 
--- jumps, in order and each once
-pub jumps_gathered : (every relative : Bool) (leads : ℕ → ℕ → Type 0) (places asked led sorted next : List ℕ)
+-- all places that were asked have led
+pub led_all : (relative : Bool) (leads : ℕ → ℕ → Type 0) (places asked rest led : List ℕ)
     → 0 < length places
     → asked ≡ cond relative places (take 1 places)
     → (relative ≡ false → (p p' q : ℕ) → leads p q → leads p' q)
-    → ((q : ℕ) → (Contains led q → IsLedTo leads asked q) × (IsLedTo leads asked q → Contains led q))
+    → length rest < 1
+    → Led leads asked rest led
+    → Gathers true (IsLedTo leads places) led
+led_all relative leads places asked rest led some is free empty h = record {
+  sound = λ q has. let from = h.sound q has in (from.0, asked_is relative places asked is from.0 from.1, from.2);
+  complete = λ q to.
+      let on = asked_leads relative leads places asked some is free q to in
+      ⊎_elim (λ (old : Contains led q). old) (λ (left : Contains rest on.0). absurd (none_left rest on.0 empty left)) (h.complete on.0 q on.1 on.2);
+}
+
+-- places in order and each once
+pub sorted_gathered : (every : Bool) (P : ℕ → Type 0) (led sorted next : List ℕ)
+    → Gathers true P led
     → IsPermutation led sorted
     → ((q : ℕ) → (Contains next q → Contains sorted q) × (Contains sorted q → Contains next q))
-    → Gathers every (IsLedTo leads places) next
-jumps_gathered every relative leads places asked led sorted next some is free found same deduped = record {
-  sound = λ q has.
-      let from = (found q).0 (Contains-permutation sorted led q (IsPermutation-sym led sorted same) ((deduped q).0 has)) in
-      (from.0, asked_is relative places asked is from.0 from.1, from.2);
-  complete = λ q led_to. got_of_contains every next q ((deduped q).1 (Contains-permutation led sorted q same ((found q).1 (asked_leads relative leads places asked some is free q led_to))));
+    → Gathers every P next
+sorted_gathered every P led sorted next found same deduped = record {
+  sound = λ q has. found.sound q (Contains-permutation sorted led q (IsPermutation-sym led sorted same) ((deduped q).0 has));
+  complete = λ q held. got_of_contains every next q ((deduped q).1 (Contains-permutation led sorted q same (found.complete q held)));
 }
 
 -- a test of the first place, where the option isn't relative

@@ -1,7 +1,8 @@
 -- What the kinds of options lead to.
 use Rattle.std.proofs.Common.{◌≡◌, ℕ, ◌+◌, ℤ, pos, ◌+ℤ◌, ◌<ℤ◌, Bool, true, false, not, ◌&&◌, ◌||◌, cond, List, length, drop}
-use Rattle.std.proofs.Common.{MatchBool, refl, sym, ap, subst, ◌∙◌, Option, Some, None, option_map, unwrap_or}
+use Rattle.std.proofs.Common.{MatchBool, refl, sym, ap, subst, ◌∙◌, Option, Some, None, option_map, unwrap_or, Result, Ok, Err, IfOk}
 use Rattle.std.proofs.lemmas.Bool.{false≢true}
+use Rattle.smallvec.specs.SmallVec.{SmallVec}
 use Rattle.edge_io.specs.declared.pattern.Span.{Span}
 use Rattle.rule_types.specs.declared.option.Content.{Content}
 use Rattle.rule_types.specs.declared.option.Fetch.{Fetch}
@@ -10,7 +11,11 @@ use Rattle.rule_types.specs.declared.option.Opt.TheVariants as opt
 use Rattle.option_eval.specs.Kinds.{is_relative, is_test, IsJump}
 use Rattle.option_eval.specs.Numbers.{Point, fetched, origin, number_if, number_of}
 use Rattle.option_eval.specs.Places.{Means, Leads, IsFoundAt, Sought, Unless, is_only, sought, is_payload_option, is_extract, at_place}
-use Rattle.option_eval.specs.Sets.{LeadsFrom, point}
+use Rattle.option_eval.specs.Sets.{IsRising, LeadsFrom, point}
+use Rattle.option_eval.specs.Trying.{OfMadeOne, LeadsTo, IsNext}
+use Rattle.option_eval.specs.declared.asked.Asked.{Asked}
+use Rattle.option_eval.specs.declared.made.Made.{Made}
+use Rattle.option_eval.specs.declared.next.Next.TheVariants as next
 
 -- a content that is negated, or sought by the fast pattern alone
 content_stay : (negated only : Bool) (A : Type 0) (B : ℕ → Type 0) (s t : Point) (far : ℕ → Point)
@@ -153,3 +158,19 @@ is_jump (opt.Pcre text flags relative negated) plain moves no_content = moves
 is_jump (opt.ByteJump fetch times align beginning post) plain moves no_content = tt
 is_jump (opt.ByteExtract fetch name times align) plain moves no_content = absurd (false≢true (sym plain))
 is_jump _ plain moves no_content = absurd (false≢true (sym moves))
+
+-- what jumps is no test
+pub jump_moves : (option : Opt) → IsJump option → is_test option ≡ true → ⊥
+jump_moves (opt.Pcre text flags relative negated) jumps test = false≢true (sym jumps ∙ test)
+jump_moves (opt.ByteJump fetch times align beginning post) jumps test = false≢true test
+jump_moves _ jumps test = absurd jumps
+
+-- where a call answers places, these are the places after an option
+pub next_of : {P E : Type 0} (finds : P → List ℕ → Option Span) (option : Opt) (made : Made P) (at : Asked) (every : Bool)
+    (answer : Result (SmallVec ℕ) E)
+    → OfMadeOne finds option made (λ means. IfOk answer (λ places. LeadsTo means option every at (next.To places)))
+    → IfOk answer (λ places. IsRising 0 places.items (length at.payload.now + 1))
+    → (is_relative option ≡ false → is_test option ≡ true → ⊥)
+    → IfOk answer (λ places. IsNext finds option made at every (next.To places))
+next_of finds option made at every (Ok places) found rising moves = record { found = found; rising = rising; apart = λ free test. absurd (moves free test) }
+next_of finds option made at every (Err fault) found rising moves = tt

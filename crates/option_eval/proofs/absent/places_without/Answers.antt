@@ -9,7 +9,7 @@ use Rattle.option_eval.proofs.absent.places_without.Goals as goal
 
 pub overflow_add-asked : goal.overflow_add-asked
 overflow_add-asked g c =
-    let below = first_below c.loop-rest.rest.now c.loop-rest.asked (length c.args.payload.now + 1) c.in-len1-up.len_at_least c.loop-rest.invariant.rest_rising in
+    let below = first_below c.loop-rest.rest.now c.loop-rest.asked (length c.args.at.now.payload.now + 1) c.in-len1-up.len_at_least c.loop-rest.invariant.rest_rising in
     omega arith
 
 pub loop-rest-preserved : goal.loop-rest-preserved
@@ -18,7 +18,7 @@ loop-rest-preserved g c =
     let rest = c.loop-rest.rest.now in
     let some = c.in-len1-up.len_at_least in
     let needle = c.args.needle.now in
-    let payload = c.args.payload.now in
+    let payload = c.args.at.now.payload.now in
     let fits = c.requires.fits in
     let counted = old.counted in
     let ticked = c.tick.ensures in
@@ -36,7 +36,7 @@ loop-rest-preserved g c =
     record {
       kept =
           kept_next (λ p. ¬ IsReached needle.nocase payload needle.bytes.now c.args.reach.now p)
-          c.args.places.now rest c.loop-rest.next.items c.in_ok-next.next.items
+          c.args.at.now.places.now rest c.loop-rest.next.items c.in_ok-next.next.items
           (nat_le c.seen_in-seen.result.last c.low-low.result) some
           old.kept holds c.in_ok-next.ensures;
       serves =
@@ -52,9 +52,9 @@ pub loop-rest-init : goal.loop-rest-init
 loop-rest-init g c =
     let needle = c.args.needle.now in
     rw c.new-next.ensures.items (record {
-      kept = kept_none (λ p. ¬ IsReached needle.nocase c.args.payload.now needle.bytes.now c.args.reach.now p) c.args.places.now;
-      serves = serves_none needle.nocase c.args.payload.now needle.bytes.now c.args.reach.now c.args.places.now _ refl refl;
-      rest_rising = c.requires.rising;
+      kept = kept_none (λ p. ¬ IsReached needle.nocase c.args.at.now.payload.now needle.bytes.now c.args.reach.now p) c.args.at.now.places.now;
+      serves = serves_none needle.nocase c.args.at.now.payload.now needle.bytes.now c.args.reach.now c.args.at.now.places.now _ refl refl;
+      rest_rising = c.args.at.now.rising;
       rising = omega arith;
       counted = omega arith;
     })
@@ -70,5 +70,5 @@ returns-clause-found g c = λ q. (
 
 pub returns-clause-rising : goal.returns-clause-rising
 returns-clause-rising g c =
-    let left = rising_length c.loop-rest.rest.now c.loop-rest.asked (length c.args.payload.now + 1) c.loop-rest.invariant.rest_rising in
-    rising_high c.loop-rest.next.items 0 c.loop-rest.asked (length c.args.payload.now + 1) (omega arith) c.loop-rest.invariant.rising
+    let left = rising_length c.loop-rest.rest.now c.loop-rest.asked (length c.args.at.now.payload.now + 1) c.loop-rest.invariant.rest_rising in
+    rising_high c.loop-rest.next.items 0 c.loop-rest.asked (length c.args.at.now.payload.now + 1) (omega arith) c.loop-rest.invariant.rising

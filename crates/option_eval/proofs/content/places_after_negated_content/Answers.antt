@@ -16,10 +16,10 @@ or_true false b is = absurd (false≢true is)
 pub returns-clause-found : goal.returns-clause-found
 returns-clause-found g c = λ means every.
     let content = c.args.content.now in
-    let payload = c.args.payload.now in
-    let values = c.args.values.now in
+    let payload = c.args.at.now.payload.now in
+    let values = c.args.at.now.values.now in
     let test = or_true content.negated (is_only content.fast) c.requires.negated in
     IfOk-weaker c.places_without.result _ _
-    (λ next found. absent_gathers every means payload values content c.requires.negated c.requires.relative c.reach.result c.reach.ensures.from c.reach.ensures.room c.args.places.now next.items
+    (λ next found. absent_gathers every means payload values content c.requires.negated c.requires.relative c.reach.result c.reach.ensures.from c.reach.ensures.room c.args.at.now.places.now next.items
     (test_stays means payload values (opt.Content content) test) c.needle.result.nocase c.needle.result.bytes.now c.needle.ensures.nocase c.needle.ensures.bytes found)
     c.places_without.ensures.found

@@ -1,11 +1,11 @@
 -- What is known of an option is so from any state; what is asked anew from one
 -- state is so from all where the option counts from the start and reads no value.
-use Rattle.std.proofs.Common.{◌+◌, Bool, length, arith, subst}
+use Rattle.std.proofs.Common.{◌+◌, Bool, length, subst}
 use Rattle.option_eval.specs.Known.{LeadsAlike}
 use Rattle.option_eval.specs.Kinds.{needs_place}
-use Rattle.option_eval.specs.Next.{next_set, RisesTo}
-use Rattle.option_eval.specs.Sets.{Gathers, IsLedTo, LeadsFrom}
-use Rattle.option_eval.proofs.Extractions.Knowing.{found_known, fixed, leads_all, rises_next}
+use Rattle.option_eval.specs.Next.{RisesTo}
+use Rattle.option_eval.specs.Trying.{LeadsTo}
+use Rattle.option_eval.proofs.Extractions.Knowing.{found_known, fixed, leads_all}
 use Rattle.option_eval.proofs.known.next_known.Goals as goal
 
 pub returns-in-Some-clause-found : goal.returns-in-Some-clause-found
@@ -23,19 +23,18 @@ returns-in-Some-clause-rising g c = found_known (RisesTo (length c.args.at.now.p
 
 pub returns-clause-found : goal.returns-clause-found
 returns-clause-found g c = λ means made known.
-    subst (λ (every : Bool). Gathers every
-    (IsLedTo (LeadsFrom means c.args.at.now.payload.now c.args.at.now.values.now c.args.option.now) c.args.at.now.places.now)
-    (next_set c.in_ok-next.next c.args.at.now.places.now)) c.needs_place.ensures (c.in_ok-next.ensures.found means made)
+    subst (λ (every : Bool). LeadsTo means c.args.option.now every c.args.at.now c.in_ok-next.next) c.needs_place.ensures
+    (c.in_ok-next.ensures.after.found means made)
 
 pub returns-clause-alike : goal.returns-clause-alike
 returns-clause-alike g c = λ means made known free.
+    let at = c.args.at.now in
     let found =
-    subst (λ (every : Bool). Gathers every
-    (IsLedTo (LeadsFrom means c.args.at.now.payload.now c.args.at.now.values.now c.args.option.now) c.args.at.now.places.now)
-    (next_set c.in_ok-next.next c.args.at.now.places.now)) c.needs_place.ensures (c.in_ok-next.ensures.found means made) in
-    leads_all means c.args.at.now.payload.now c.args.option.now c.requires.plain free (needs_place c.args.later.now)
-    c.in_ok-next.next c.args.at.now.values.now c.args.at.now.places.now c.args.at.now.two c.args.at.now.some
-    (c.in_ok-next.ensures.apart (fixed means c.args.at.now.payload.now c.args.option.now c.requires.plain free)) found
+    subst (λ (every : Bool). LeadsTo means c.args.option.now every at c.in_ok-next.next) c.needs_place.ensures
+    (c.in_ok-next.ensures.after.found means made) in
+    leads_all means at.payload.now c.args.option.now c.requires.plain free (needs_place c.args.later.now)
+    c.in_ok-next.next at.values.now at.places.now at.two at.some
+    (c.in_ok-next.ensures.after.apart (fixed means at.payload.now c.args.option.now c.requires.plain free)) found
 
 pub returns-clause-rising : goal.returns-clause-rising
-returns-clause-rising g c = rises_next c.in_ok-next.next c.args.at.now.places.now (length c.args.at.now.payload.now + 1) c.in_ok-next.ensures.rising
+returns-clause-rising g c = c.in_ok-next.ensures.after.rising

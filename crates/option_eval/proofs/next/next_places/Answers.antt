@@ -5,9 +5,16 @@ use Rattle.option_eval.proofs.Sets.Asking.{all_stay}
 use Rattle.option_eval.proofs.Walks.Staying.{test_stays, other_test, other_stays}
 use Rattle.option_eval.proofs.next.next_places.Goals as goal
 
-pub returns-then-not-is_payload_option-clause-found : goal.returns-then-not-is_payload_option-clause-found
-returns-then-not-is_payload_option-clause-found g c = λ means made.
+pub returns-then-not-is_payload_option-clause-after : goal.returns-then-not-is_payload_option-clause-after
+returns-then-not-is_payload_option-clause-after g c =
     let other = sym c.if-not-is_payload_option.ensures in
-    all_stay c.args.every (LeadsFrom means c.args.payload.now c.args.values.now c.args.option.now) c.args.places.now
-    (test_stays means c.args.payload.now c.args.values.now c.args.option.now (other_test c.args.option.now other))
-    (other_stays means c.args.payload.now c.args.values.now c.args.option.now other)
+    let test = other_test c.args.option.now other in
+    record {
+      found = λ means made.
+          all_stay c.args.every (LeadsFrom means c.args.at.now.payload.now c.args.at.now.values.now c.args.option.now)
+          c.args.at.now.places.now
+          (test_stays means c.args.at.now.payload.now c.args.at.now.values.now c.args.option.now test)
+          (other_stays means c.args.at.now.payload.now c.args.at.now.values.now c.args.option.now other);
+      rising = tt;
+      apart = λ free. test;
+    }

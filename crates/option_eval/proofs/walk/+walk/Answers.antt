@@ -8,7 +8,7 @@ use Rattle.option_eval.specs.Ready.{pattern_of}
 use Rattle.option_eval.specs.RuleSet.{IsMade}
 use Rattle.option_eval.specs.States.{Leaves}
 use Rattle.option_eval.specs.Walks.{MatchesFromOne, visits_of, upto_extraction}
-use Rattle.option_eval.proofs.Extractions.Knowing.{known_taken, rising_taken, next_rises, turn_known, turn_rising, turn_others}
+use Rattle.option_eval.proofs.Extractions.Knowing.{known_taken, rising_taken, turn_known, turn_rising, turn_others}
 use Rattle.option_eval.proofs.Walks.Walking.{passed_none, walk_step, after_the_first, ready_after, extracts_nothing, not_extract}
 use Rattle.option_eval.proofs.Extractions.Stepping.{walked_by, leaves_plain, visits_upto}
 use Rattle.option_eval.proofs.walk.+walk.Goals as goal
@@ -104,11 +104,6 @@ is_walked-is_walked_from-requires-clause-known_rising g t c κs within =
     let options = c.args.options.now in
     let later = take (length options - 1) (drop 1 options) in
     rising_taken c.args.after.now.known c.next_known.new.known (length later) (length c.args.at.now.payload.now + 1) c.next_known.ensures.taken c.requires.known_rising
-
-pub is_walked-is_walked_from-requires-clause-rising : goal.is_walked-is_walked_from-requires-clause-rising
-is_walked-is_walked_from-requires-clause-rising g t c κs within =
-    next_rises c.in_ok-next.next c.args.at.now.places.now (length c.args.at.now.payload.now + 1) c.in_ok-next.ensures.rising
-    c.requires.rising
 
 pub is_walked-returns-clause-nowhere : goal.is_walked-returns-clause-nowhere
 is_walked-returns-clause-nowhere g t c = λ nothing.

@@ -23,8 +23,8 @@ returns-then-is_empty-clause-right g c = λ means made known.
     leaves_same means c.args.payload.now c.args.options.now c.args.state.values places c.args.state.places.items c.args.after.now.states c.args.after.now.states (λ q. (same q).0) (λ q. (same q).1)
     (leaves_nowhere means c.args.payload.now c.args.options.now c.args.state.values places c.args.after.now.states (eqb-true _ 0 (sym c.is_empty.ensures ∙ c.if-is_empty.true)))
 
-pub is_walked-requires-clause-rising : goal.is_walked-requires-clause-rising
-is_walked-requires-clause-rising g c κs within =
+pub invariant_of-at-clause-rising : goal.invariant_of-at-clause-rising
+invariant_of-at-clause-rising g c =
     let places = c.in_ok-places.places.items in
     let same = sorted_same c.args.state.places.items c.sorted.result.items c.as_slice-2.result.now c.as_slice-2.result.now c.sorted.ensures.same c.as_slice-2.ensures (λ p. (λ x. x, λ x. x)) in
     let risen = c.in_ok-places.ensures.rising (length c.args.payload.now + 1) (λ q has. let below = c.requires.inside q ((same q).0 has) in omega arith) in
