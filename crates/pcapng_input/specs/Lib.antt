@@ -6,4 +6,5 @@ pub mod Steps
 pub mod Reader
 pub mod Calls
 pub mod Whole
+pub mod Faults
 pub mod Twins
