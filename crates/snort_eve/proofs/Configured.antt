@@ -18,6 +18,7 @@ use Rattle.edge_io.specs.declared.moment.Moment.{Moment}
 use Rattle.alert_json.specs.declared.line_year.YearFrom.{YearFrom}
 use Rattle.snort_eve.specs.Asking.{Since, Wanted, lines, of_capture}
 use Rattle.snort_eve.specs.Captures.{GivesFirst, after_moment}
+use Rattle.pcapng_input.specs.declared.fault.ReadFault.TheVariants as read_fault
 use Rattle.snort_eve.specs.declared.capture.CaptureStop.{CaptureStop}
 use Rattle.snort_eve.specs.declared.capture.CaptureStop.TheVariants as capture_stop
 use Rattle.snort_eve.specs.Confs.{AreReadyTexts, Given, GivenTexts, GiveTexts, halted}
@@ -139,9 +140,10 @@ run-after name moment wanted agrees now_agrees old new ended given earlier write
 
 pub run-undated : (name : Bor (List ℕ)) (stop : CaptureStop) (wanted : Wanted) (agrees : Files → Type 0) (old : Option (List ℕ))
     → ((files : Files) → agrees files → GivesFirst files name.now (Err stop)) → InputRun (Some (of_capture name.now)) wanted agrees old old (undated name stop)
-run-undated name (capture_stop.Without why) wanted agrees old given = record { wrote = []; told = sym (grown-nil old); holds = λ files a. inl (refl, given files a) }
-run-undated name capture_stop.Unread wanted agrees old given = record { wrote = []; told = sym (grown-nil old); holds = λ files a. inl (refl, refl) }
-run-undated name capture_stop.NoMemory wanted agrees old given = record { wrote = []; told = sym (grown-nil old); holds = λ files a. inl (refl, tt) }
+run-undated name capture_stop.Empty wanted agrees old given = record { wrote = []; told = sym (grown-nil old); holds = λ files a. inl (refl, given files a) }
+run-undated name (capture_stop.Fault (read_fault.Bad why)) wanted agrees old given = record { wrote = []; told = sym (grown-nil old); holds = λ files a. inl (refl, given files a) }
+run-undated name (capture_stop.Fault read_fault.Failed) wanted agrees old given = record { wrote = []; told = sym (grown-nil old); holds = λ files a. inl (refl, refl) }
+run-undated name (capture_stop.Fault read_fault.NoMemory) wanted agrees old given = record { wrote = []; told = sym (grown-nil old); holds = λ files a. inl (refl, tt) }
 
 -- ---- causes
 
@@ -149,20 +151,23 @@ run-undated name capture_stop.NoMemory wanted agrees old given = record { wrote 
 abbrev stopped : CaptureStop → Result Moment CaptureStop
 stopped stop = Err stop
 
-pub undated-cause : (P : List ℕ → Type 0) (name : Bor (List ℕ)) (stop : CaptureStop) → (IsErrOf (stopped stop) capture_stop.Unread → P name.now) → OnUnread (undated name stop) P
-undated-cause P name (capture_stop.Without why) cause = tt
-undated-cause P name capture_stop.Unread cause = cause refl
-undated-cause P name capture_stop.NoMemory cause = tt
+pub undated-cause : (P : List ℕ → Type 0) (name : Bor (List ℕ)) (stop : CaptureStop) → (IsErrOf (stopped stop) (capture_stop.Fault read_fault.Failed) → P name.now) → OnUnread (undated name stop) P
+undated-cause P name capture_stop.Empty cause = tt
+undated-cause P name (capture_stop.Fault (read_fault.Bad why)) cause = tt
+undated-cause P name (capture_stop.Fault read_fault.Failed) cause = cause refl
+undated-cause P name (capture_stop.Fault read_fault.NoMemory) cause = tt
 
-pub undated-quiet : (P : Type 0) (name : Bor (List ℕ)) (stop : CaptureStop) → ((IsErrOf (stopped stop) capture_stop.Unread → ⊥) → P) → UnlessUnread (undated name stop) P
-undated-quiet P name (capture_stop.Without why) holds = holds (λ same. absurd cc)
-undated-quiet P name capture_stop.Unread holds = tt
-undated-quiet P name capture_stop.NoMemory holds = holds (λ same. absurd cc)
+pub undated-quiet : (P : Type 0) (name : Bor (List ℕ)) (stop : CaptureStop) → ((IsErrOf (stopped stop) (capture_stop.Fault read_fault.Failed) → ⊥) → P) → UnlessUnread (undated name stop) P
+undated-quiet P name capture_stop.Empty holds = holds (λ same. absurd cc)
+undated-quiet P name (capture_stop.Fault (read_fault.Bad why)) holds = holds (λ same. absurd cc)
+undated-quiet P name (capture_stop.Fault read_fault.Failed) holds = tt
+undated-quiet P name (capture_stop.Fault read_fault.NoMemory) holds = holds (λ same. absurd cc)
 
 pub undated-written : (name : Bor (List ℕ)) (stop : CaptureStop) → undated name stop ≡ outcome.Unwritten → ⊥
-undated-written name (capture_stop.Without why) is = absurd cc
-undated-written name capture_stop.Unread is = absurd cc
-undated-written name capture_stop.NoMemory is = absurd cc
+undated-written name capture_stop.Empty is = absurd cc
+undated-written name (capture_stop.Fault (read_fault.Bad why)) is = absurd cc
+undated-written name (capture_stop.Fault read_fault.Failed) is = absurd cc
+undated-written name (capture_stop.Fault read_fault.NoMemory) is = absurd cc
 
 pub halted-cause : (rose : Type 0) (contents : Option Files) (stop : SetupStop) → HasCause rose contents stop → OnUnread (halted stop) (λ name. rose ⊎ Lacks contents name)
 halted-cause rose contents (stop.Refused message) cause = tt
@@ -187,6 +192,7 @@ short-weaker P Q (outcome.Refused message) weaker holds = weaker holds
 short-weaker P Q (outcome.NoConf name) weaker holds = tt
 short-weaker P Q (outcome.Bad name at) weaker holds = weaker holds
 short-weaker P Q (outcome.NoLine name at) weaker holds = weaker holds
+short-weaker P Q outcome.NoRecord weaker holds = weaker holds
 short-weaker P Q (outcome.BadCapture why) weaker holds = weaker holds
 short-weaker P Q (outcome.Unread name) weaker holds = tt
 short-weaker P Q outcome.Unwritten weaker holds = weaker holds
@@ -201,6 +207,7 @@ fault-bare P wanted (outcome.Refused message) none holds = holds
 fault-bare P wanted (outcome.NoConf name) none holds = tt
 fault-bare P wanted (outcome.Bad name at) none holds = holds
 fault-bare P wanted (outcome.NoLine name at) none holds = holds
+fault-bare P wanted outcome.NoRecord none holds = holds
 fault-bare P wanted (outcome.BadCapture why) none holds = holds
 fault-bare P wanted (outcome.Unread name) none holds = tt
 fault-bare P wanted outcome.Unwritten none holds = holds
@@ -215,6 +222,7 @@ fault-conf P wanted words (outcome.Refused message) some holds = holds
 fault-conf P wanted words (outcome.NoConf name) some holds = tt
 fault-conf P wanted words (outcome.Bad name at) some holds = holds
 fault-conf P wanted words (outcome.NoLine name at) some holds = holds
+fault-conf P wanted words outcome.NoRecord some holds = holds
 fault-conf P wanted words (outcome.BadCapture why) some holds = holds
 fault-conf P wanted words (outcome.Unread name) some holds = tt
 fault-conf P wanted words outcome.Unwritten some holds = holds
@@ -233,6 +241,7 @@ fault-any P wanted (outcome.Refused message) holds = holds
 fault-any P wanted (outcome.NoConf name) holds = tt
 fault-any P wanted (outcome.Bad name at) holds = holds
 fault-any P wanted (outcome.NoLine name at) holds = holds
+fault-any P wanted outcome.NoRecord holds = holds
 fault-any P wanted (outcome.BadCapture why) holds = holds
 fault-any P wanted (outcome.Unread name) holds = tt
 fault-any P wanted outcome.Unwritten holds = holds

@@ -19,6 +19,7 @@ use Rattle.pcapng_input.specs.Whole.{IsHeld}
 use Rattle.pcapng_input.specs.declared.capture.NgRecord.{NgRecord}
 use Rattle.pcapng_input.specs.declared.capture.NgFault.{NgFault}
 use Rattle.pcapng_input.specs.declared.capture.NgFault.TheVariants as blocks_fault
+use Rattle.pcapng_input.specs.declared.fault.ReadFault.TheVariants as fault
 use Rattle.pcapng_input.specs.declared.whole.Found.{Found}
 use Rattle.snort_eve.specs.declared.capture.CaptureStop.{CaptureStop}
 use Rattle.snort_eve.specs.declared.capture.CaptureStop.TheVariants as stop
@@ -107,9 +108,10 @@ taken-there files name answer left takes =
 -- what is so of the bytes of a file is so of the file
 of-file : (files : Files) (name bytes : List ℕ) (answer : Result Moment CaptureStop) → get files name ≡ Some bytes → Meets answer (first_moment bytes) → GivesFirst files name answer
 of-file files name bytes (Ok moment) has meets = record { bytes = bytes; has = has; is = meets }
-of-file files name bytes (Err (stop.Without why)) has meets = record { bytes = bytes; has = has; is = meets }
-of-file files name bytes (Err stop.Unread) has meets = tt
-of-file files name bytes (Err stop.NoMemory) has meets = tt
+of-file files name bytes (Err stop.Empty) has meets = record { bytes = bytes; has = has; is = meets }
+of-file files name bytes (Err (stop.Fault (fault.Bad why))) has meets = record { bytes = bytes; has = has; is = meets }
+of-file files name bytes (Err (stop.Fault fault.Failed)) has meets = tt
+of-file files name bytes (Err (stop.Fault fault.NoMemory)) has meets = tt
 
 -- a reader that was opened has refused nothing
 pub reader-fresh : (head : Result CaptureHead CaptureFault) (reader : Reading) → Opens (Ok reader) head → reader.refused ≡ None

@@ -21,32 +21,19 @@ use Rattle.pcap_input.specs.declared.capture.CaptureFault.TheVariants as savefil
 use Rattle.pcapng_input.specs.Blocks.{ng_records}
 use Rattle.pcapng_input.specs.declared.capture.NgRecord.{NgRecord}
 use Rattle.pcapng_input.specs.declared.capture.NgFault.{NgFault}
-use Rattle.pcapng_input.specs.declared.capture.NgFault.TheVariants as blocks_fault
+use Rattle.pcapng_input.specs.declared.fault.ReadFault.TheVariants.{Failed, NoMemory}
 use Rattle.pcapng_input.specs.declared.whole.Found.{Found}
-use Rattle.snort_eve.specs.declared.capture.NoRecord.TheVariants as none
+use Rattle.pcapng_input.specs.Faults.{of_savefile, of_blocks}
 use Rattle.snort_eve.specs.declared.capture.CaptureStop.{CaptureStop}
 use Rattle.snort_eve.specs.declared.capture.CaptureStop.TheVariants as stop
 
 -- ---- why there is none
 
 abbrev pub stop_of_savefile : CaptureFault → CaptureStop
-stop_of_savefile savefile_fault.NotPcap = stop.Without none.NotPcap
-stop_of_savefile (savefile_fault.LinkType link) = stop.Without (none.LinkType link)
-stop_of_savefile (savefile_fault.Truncated at) = stop.Without (none.Truncated at)
-stop_of_savefile (savefile_fault.TooLong at len) = stop.Without (none.TooLong at len)
-stop_of_savefile savefile_fault.TooMany = stop.Without none.TooMany
-stop_of_savefile savefile_fault.Failed = stop.Unread
-stop_of_savefile savefile_fault.NoMemory = stop.NoMemory
+stop_of_savefile why = stop.Fault (of_savefile why)
 
 abbrev pub stop_of_blocks : NgFault → CaptureStop
-stop_of_blocks blocks_fault.NotPcapng = stop.Without none.NotPcap
-stop_of_blocks (blocks_fault.Truncated at) = stop.Without (none.Truncated at)
-stop_of_blocks (blocks_fault.BadBlock at) = stop.Without (none.BadBlock at)
-stop_of_blocks (blocks_fault.LinkType at link) = stop.Without (none.LinkType link)
-stop_of_blocks (blocks_fault.TooLong at len) = stop.Without (none.TooLong at len)
-stop_of_blocks blocks_fault.TooMany = stop.Without none.TooMany
-stop_of_blocks blocks_fault.Failed = stop.Unread
-stop_of_blocks blocks_fault.NoMemory = stop.NoMemory
+stop_of_blocks why = stop.Fault (of_blocks why)
 
 -- ---- the first record
 
@@ -54,7 +41,7 @@ stop_of_blocks blocks_fault.NoMemory = stop.NoMemory
 abbrev pub first_ended : List Moment → Ending CaptureStop → Result Moment CaptureStop
 first_ended moments (Refused why) = Err why
 first_ended (moment ∷ moments) Clean = Ok moment
-first_ended [] Clean = Err (stop.Without none.Empty)
+first_ended [] Clean = Err stop.Empty
 
 abbrev pub first_in : Cut Moment CaptureStop → Result Moment CaptureStop
 first_in cut = first_ended cut.records cut.ending
@@ -92,8 +79,8 @@ pub record IsFirst (files : Files) (name : List ℕ) (answer : Result Moment Cap
 
 -- it is, unless a read failed or memory lacked
 abbrev pub GivesFirst : Files → List ℕ → Result Moment CaptureStop → Type 0
-GivesFirst files name (Err stop.Unread) = ⊤
-GivesFirst files name (Err stop.NoMemory) = ⊤
+GivesFirst files name (Err (stop.Fault Failed)) = ⊤
+GivesFirst files name (Err (stop.Fault NoMemory)) = ⊤
 GivesFirst files name answer = IsFirst files name answer
 
 -- ---- the year after it
@@ -110,8 +97,8 @@ after_moment nanos = after_date (date_of (nanos / 86_400_000_000_000))
 
 -- an answer is what is meant, unless a read failed or memory lacked
 abbrev pub Meets : Result Moment CaptureStop → Result Moment CaptureStop → Type 0
-Meets (Err stop.Unread) meant = ⊤
-Meets (Err stop.NoMemory) meant = ⊤
+Meets (Err (stop.Fault Failed)) meant = ⊤
+Meets (Err (stop.Fault NoMemory)) meant = ⊤
 Meets answer meant = meant ≡ answer
 
 -- the moment of the record that stands next in a savefile, or why there is none

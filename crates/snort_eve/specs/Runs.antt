@@ -30,8 +30,8 @@ use Rattle.alert_json.specs.declared.line_year.YearFrom.TheVariants.{Given}
 use Rattle.snort_eve.specs.Captures.{IsFirst, after_moment}
 use Rattle.snort_eve.specs.declared.capture.CaptureStop.{CaptureStop}
 use Rattle.snort_eve.specs.declared.capture.CaptureStop.TheVariants as capture_stop
-use Rattle.snort_eve.specs.declared.capture.NoRecord.{NoRecord}
-use Rattle.snort_eve.specs.declared.capture.NoRecord.TheVariants as no_record
+use Rattle.pcapng_input.specs.declared.fault.ReadFault.TheVariants as fault
+use Rattle.pcapng_input.specs.Faults.{bad_capture_text}
 use Rattle.snort_eve.specs.Forms.{Meaning}
 use Rattle.snort_eve.specs.Endings.{of_records}
 use Rattle.snort_eve.specs.LineForms.{of_lines}
@@ -73,6 +73,7 @@ IsFileRun means files name wrote (outcome.Bad told at) =
     (told.now ≡ name) × HasBytes name files (λ bytes. means.ends bytes wrote (Bad at))
 IsFileRun means files name wrote (outcome.NoLine told number) =
     (told.now ≡ name) × HasBytes name files (λ bytes. means.ends bytes wrote (NoLine number))
+IsFileRun means files name wrote outcome.NoRecord = ⊥
 IsFileRun means files name wrote (outcome.BadCapture why) = ⊥
 IsFileRun means files name wrote (outcome.Unread told) = (told.now ≡ name) × IsCut means files name wrote
 IsFileRun means files name wrote outcome.Unwritten = IsCut means files name wrote
@@ -157,7 +158,8 @@ AreLinesRun from wanted files wrote ended = AreRun (of_lines wanted.run from) fi
 
 -- how a run ends whose capture doesn't tell its first record
 abbrev pub IsUndated : List ℕ → Files → Outcome → Type 0
-IsUndated name files (outcome.BadCapture why) = IsFirst files name (Err (capture_stop.Without why))
+IsUndated name files outcome.NoRecord = IsFirst files name (Err capture_stop.Empty)
+IsUndated name files (outcome.BadCapture why) = IsFirst files name (Err (capture_stop.Fault (fault.Bad why)))
 IsUndated name files (outcome.Unread told) = told.now ≡ name
 IsUndated name files outcome.NoMemory = ⊤
 IsUndated name files other = ⊥
@@ -203,9 +205,10 @@ outcome_of name (Err NoMemory) = outcome.NoMemory
 
 -- how a run ends whose capture, of this name, doesn't tell its first record
 abbrev pub undated : Bor (List ℕ) → CaptureStop → Outcome
-undated name (capture_stop.Without why) = outcome.BadCapture why
-undated name capture_stop.Unread = outcome.Unread name
-undated name capture_stop.NoMemory = outcome.NoMemory
+undated name capture_stop.Empty = outcome.NoRecord
+undated name (capture_stop.Fault (fault.Bad why)) = outcome.BadCapture why
+undated name (capture_stop.Fault fault.Failed) = outcome.Unread name
+undated name (capture_stop.Fault fault.NoMemory) = outcome.NoMemory
 
 -- a file wasn't opened or read, and this holds of its name; else nothing is said
 abbrev pub OnUnread : Outcome → (List ℕ → Type 0) → Type 0
@@ -252,20 +255,6 @@ bad_text name at = bad_front name ++ place_text at
 abbrev pub no_line_text : List ℕ → ℕ → List ℕ
 no_line_text name number = codes "ERROR: " ++ name ++ codes "(" ++ decimal number ++ codes ") no alert line\n"
 
--- the capture has no first record, for this: as `snort` says it of one that it refuses
-abbrev pub numbered_text : List ℕ → ℕ → List ℕ
-numbered_text front number = front ++ (decimal number ++ codes "\n")
-
-abbrev pub no_record_text : NoRecord → List ℕ
-no_record_text no_record.Empty = codes "ERROR: capture has no record\n"
-no_record_text no_record.NotPcap = codes "ERROR: capture is not a pcap file\n"
-no_record_text (no_record.LinkType link) = numbered_text (codes "ERROR: capture has link type ") link
-no_record_text (no_record.Truncated at) = numbered_text (codes "ERROR: capture is truncated at byte ") at
-no_record_text (no_record.BadBlock at) = numbered_text (codes "ERROR: capture has a bad block at byte ") at
-no_record_text (no_record.TooLong at len) =
-    codes "ERROR: capture has a record of " ++ (decimal len ++ numbered_text (codes " bytes at byte ") at)
-no_record_text no_record.TooMany = codes "ERROR: capture has too many records\n"
-
 -- the message of a run
 unfoldable pub message_text : Outcome → List ℕ
 message_text outcome.Done = []
@@ -277,7 +266,8 @@ message_text (outcome.Refused message) = message
 message_text (outcome.NoConf name) = codes "ERROR: cannot read " ++ name ++ codes "\n"
 message_text (outcome.Bad name at) = bad_text name.now at
 message_text (outcome.NoLine name number) = no_line_text name.now number
-message_text (outcome.BadCapture why) = no_record_text why
+message_text outcome.NoRecord = codes "ERROR: capture has no record\n"
+message_text (outcome.BadCapture why) = bad_capture_text why
 message_text (outcome.Unread name) = codes "ERROR: cannot read " ++ name.now ++ codes "\n"
 message_text outcome.Unwritten = codes "ERROR: cannot write\n"
 message_text (outcome.TooLong name) = codes "ERROR: unified2 file " ++ name.now ++ codes " is too long\n"

@@ -1,14 +1,15 @@
 //! How a run ends, its status and its message.
 ghost use Rattle.std.specs.Prelude.{◌≡◌, ◌++◌, true, false, IfOk, OnOk};
 ghost use Rattle.edge_io.specs.Told.{grown};
-ghost use Rattle.snort_eve.specs.Runs.{bad_front, bad_text, message_text, no_line_text, no_record_text, numbered_text, outcome_of, place_text, undated};
+ghost use Rattle.snort_eve.specs.Runs.{bad_front, bad_text, message_text, no_line_text, outcome_of, place_text, undated};
 
-use crate::capture::{CaptureStop, NoRecord};
+use crate::capture::CaptureStop;
 use crate::copy::Stop;
 use crate::form::Ending;
 use alert_fast::Piece::{Bytes, Number};
 use alert_fast::push_pieces;
 use edge_io::{NoMemory, Sink, Text, write_all};
+use pcapng_input::{BadCapture, ReadFault};
 use std::alloc::Global;
 
 /// How a run ends, or the copying of one of its files.
@@ -28,8 +29,10 @@ pub(crate) enum Outcome<'a> {
     Bad { name: &'a str, at: u64 },
     /// The line of this number of this file gives no record.
     NoLine { name: &'a str, number: u64 },
-    /// The capture has no first record that is read.
-    BadCapture { why: NoRecord },
+    /// The capture ends before a record.
+    NoRecord,
+    /// The capture is refused before its first record is read.
+    BadCapture { why: BadCapture },
     /// This file can't be opened, or a read of it failed.
     Unread { name: &'a str },
     /// A write failed.
@@ -46,7 +49,10 @@ impl<'a> Outcome<'a> {
         match self {
             Outcome::Done | Outcome::Help => 0,
             Outcome::CommandLine | Outcome::Refused { .. } => 1,
-            Outcome::Bad { .. } | Outcome::NoLine { .. } | Outcome::BadCapture { .. } => 2,
+            Outcome::Bad { .. }
+            | Outcome::NoLine { .. }
+            | Outcome::NoRecord
+            | Outcome::BadCapture { .. } => 2,
             Outcome::NoConf { .. } | Outcome::Unread { .. } | Outcome::TooLong { .. } => 3,
             Outcome::Unwritten => 4,
             Outcome::NoMemory => 5,
@@ -67,6 +73,7 @@ pub(crate) fn is_done(outcome: &Outcome<'_>) -> bool
         | Outcome::NoConf { .. }
         | Outcome::Bad { .. }
         | Outcome::NoLine { .. }
+        | Outcome::NoRecord
         | Outcome::BadCapture { .. }
         | Outcome::Unread { .. }
         | Outcome::Unwritten
@@ -95,9 +102,10 @@ pub(crate) fn undated<'a>(name: &'a str, stop: CaptureStop) -> Outcome<'a>
     ensures { result ≡ undated name.entry stop }
 {
     match stop {
-        CaptureStop::Without(why) => Outcome::BadCapture { why },
-        CaptureStop::Unread => Outcome::Unread { name },
-        CaptureStop::NoMemory => Outcome::NoMemory,
+        CaptureStop::Empty => Outcome::NoRecord,
+        CaptureStop::Fault(ReadFault::Bad(why)) => Outcome::BadCapture { why },
+        CaptureStop::Fault(ReadFault::Failed) => Outcome::Unread { name },
+        CaptureStop::Fault(ReadFault::NoMemory) => Outcome::NoMemory,
     }
 }
 
@@ -148,41 +156,6 @@ fn push_no_line(name: &[u8], number: u64, out: &mut Vec<u8>) -> Result<(), NoMem
     )
 }
 
-fn push_numbered(front: &[u8], number: u64, out: &mut Vec<u8>) -> Result<(), NoMemory>
-    ensures { OnOk result (out.new.items ≡ out.old.items ++ numbered_text front.now number) }
-{
-    push_pieces(out, &[Bytes(front), Number(number), Bytes(b"\n")])
-}
-
-fn push_no_record(why: NoRecord, out: &mut Vec<u8>) -> Result<(), NoMemory>
-    ensures { OnOk result (out.new.items ≡ out.old.items ++ no_record_text why) }
-{
-    match why {
-        NoRecord::Empty => push_pieces(out, &[Bytes(b"ERROR: capture has no record\n")]),
-        NoRecord::NotPcap => push_pieces(out, &[Bytes(b"ERROR: capture is not a pcap file\n")]),
-        NoRecord::LinkType { link } => {
-            push_numbered(b"ERROR: capture has link type ", link as u64, out)
-        }
-        NoRecord::Truncated { at } => {
-            push_numbered(b"ERROR: capture is truncated at byte ", at, out)
-        }
-        NoRecord::BadBlock { at } => {
-            push_numbered(b"ERROR: capture has a bad block at byte ", at, out)
-        }
-        NoRecord::TooLong { at, len } => push_pieces(
-            out,
-            &[
-                Bytes(b"ERROR: capture has a record of "),
-                Number(len as u64),
-                Bytes(b" bytes at byte "),
-                Number(at),
-                Bytes(b"\n"),
-            ],
-        ),
-        NoRecord::TooMany => push_pieces(out, &[Bytes(b"ERROR: capture has too many records\n")]),
-    }
-}
-
 #[tactic(auto, unfolding(crate::specs::Runs::message_text))]
 fn push_message(outcome: &Outcome<'_>, out: &mut Vec<u8>) -> Result<(), NoMemory>
     ensures { OnOk result (out.new.items ≡ out.old.items ++ message_text outcome.now) }
@@ -202,7 +175,8 @@ fn push_message(outcome: &Outcome<'_>, out: &mut Vec<u8>) -> Result<(), NoMemory
         ),
         Outcome::Bad { name, at } => push_bad(name.as_bytes(), *at, out),
         Outcome::NoLine { name, number } => push_no_line(name.as_bytes(), *number, out),
-        Outcome::BadCapture { why } => push_no_record(*why, out),
+        Outcome::NoRecord => push_pieces(out, &[Bytes(b"ERROR: capture has no record\n")]),
+        Outcome::BadCapture { why } => why.push(out),
         Outcome::Unread { name } => push_pieces(
             out,
             &[

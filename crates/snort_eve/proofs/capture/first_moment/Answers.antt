@@ -30,5 +30,5 @@ returns-else-begins_otherwise-clause-earlier g c = λ files agree. c.in-Err.ensu
 
 pub returns-else-begins_otherwise-clause-gives : goal.returns-else-begins_otherwise-clause-gives
 returns-else-begins_otherwise-clause-gives g c = λ files agree.
-    rw c.stop_of_savefile.ensures (of-refused files c.args.name.now c.in-Err.why _ (c.begins_otherwise.ensures.not_otherwise c.if-begins_otherwise.false)
+    rw c.from.ensures (of-refused files c.args.name.now c.in-Err.why _ (c.begins_otherwise.ensures.not_otherwise c.if-begins_otherwise.false)
     (c.in-Err.ensures.seen_takes (Some files) agree) (λ bytes has. c.in-Err.ensures.seen_gives (Some files) agree bytes has))

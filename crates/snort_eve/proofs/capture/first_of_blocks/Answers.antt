@@ -12,7 +12,7 @@ returns-in-Ok-clause-earlier g c = λ files agree. c.in-Ok.ensures.earlier (Some
 
 pub returns-in-Err-clause-gives : goal.returns-in-Err-clause-gives
 returns-in-Err-clause-gives g c = λ files agree bytes has.
-    rw c.stop_of_blocks.ensures (refused-meets c.in-Err.why bytes (c.in-Err.ensures.seen_held (Some files) agree bytes has))
+    rw c.from.ensures (refused-meets c.in-Err.why bytes (c.in-Err.ensures.seen_held (Some files) agree bytes has))
 
 pub returns-in-Err-clause-earlier : goal.returns-in-Err-clause-earlier
 returns-in-Err-clause-earlier g c = λ files agree. c.in-Err.ensures.earlier (Some files) agree

@@ -16,7 +16,7 @@ returns-in-Ok-None-clause-gives g c = λ files agree rest left.
 
 pub returns-clause-gives : goal.returns-clause-gives
 returns-clause-gives g c = λ files agree rest left.
-    rw c.stop_of_savefile.ensures (next-refused c.in-Err.why _ (c.in-Err.ensures.seen_gives (Some files) agree c.requires rest left))
+    rw c.from.ensures (next-refused c.in-Err.why _ (c.in-Err.ensures.seen_gives (Some files) agree c.requires rest left))
 
 pub returns-in-Ok-Some-clause-earlier : goal.returns-in-Ok-Some-clause-earlier
 returns-in-Ok-Some-clause-earlier g c = λ files agree. c.in-Ok-Some.ensures.earlier (Some files) agree
