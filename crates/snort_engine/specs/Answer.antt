@@ -10,8 +10,9 @@ use Rattle.std.specs.FinMap.{get}
 use Rattle.std.specs.List.{concat}
 use Rattle.edge_io.specs.Files.{Files}
 use Rattle.pcap_input.specs.Generated.{generated}
-use Rattle.snort_engine.specs.declared.fault.ReadFault.{ReadFault}
-use Rattle.snort_engine.specs.declared.fault.ReadFault.TheVariants as fault
+use Rattle.pcapng_input.specs.declared.fault.ReadFault.{ReadFault}
+use Rattle.pcapng_input.specs.declared.fault.ReadFault.TheVariants as fault
+use Rattle.pcapng_input.specs.Faults.{bad_capture_text}
 use Rattle.snort_engine.specs.declared.status.Status.{Status}
 use Rattle.snort_engine.specs.declared.status.Status.TheVariants as status
 use Rattle.snort_engine.specs.Course.{Plan, Way, Stops, Goes, Makes, Lists, Course}
@@ -20,8 +21,7 @@ use Rattle.snort_engine.specs.Records.{Recording, records_of}
 use Rattle.snort_engine.specs.Trace.{Closed}
 use Rattle.snort_engine.specs.Lines.{lines}
 use Rattle.snort_engine.specs.Counts.{counts_of, told_counts, with_counts}
-use Rattle.snort_engine.specs.Messages.{cannot_read_text, no_memory_text, not_pcap_text, link_type_text}
-use Rattle.snort_engine.specs.Messages.{truncated_text, bad_block_text, too_long_text, too_many_text}
+use Rattle.snort_engine.specs.Messages.{cannot_read_text, no_memory_text}
 
 -- the bytes of the alerts and of the errors, and the status
 pub record Answer : Type 0 where
@@ -31,20 +31,15 @@ pub record Answer : Type 0 where
 
 -- the message of a capture of this name that is refused, or that can't be read
 abbrev pub fault_text : List ℕ → ReadFault → List ℕ
-fault_text name fault.NotPcap = not_pcap_text
-fault_text name (fault.LinkType link_type) = link_type_text link_type
-fault_text name (fault.Truncated at) = truncated_text at
-fault_text name (fault.BadBlock at) = bad_block_text at
-fault_text name (fault.TooLong at len) = too_long_text at len
-fault_text name fault.TooMany = too_many_text
+fault_text name (fault.Bad why) = bad_capture_text why
 fault_text name fault.Failed = cannot_read_text name
 fault_text name fault.NoMemory = no_memory_text
 
 -- the status that goes with it
 abbrev pub fault_status : ReadFault → Status
+fault_status (fault.Bad why) = status.BadCapture
 fault_status fault.Failed = status.HostFault
 fault_status fault.NoMemory = status.NoMemory
-fault_status why = status.BadCapture
 
 -- the message of an ending
 abbrev pub ending_text : List ℕ → Ending ReadFault → List ℕ

@@ -23,11 +23,10 @@ use Rattle.pcap_input.specs.Savefile.{Capture, file_header, head_of, most_record
 use Rattle.pcap_input.specs.Generated.{generated}
 use Rattle.pcapng_input.specs.declared.capture.NgRecord.{NgRecord}
 use Rattle.pcapng_input.specs.declared.capture.NgFault.{NgFault}
-use Rattle.pcapng_input.specs.declared.capture.NgFault.TheVariants as blocks_fault
 use Rattle.pcapng_input.specs.Blocks.{section_type, ng_records}
 use Rattle.record_jobs.specs.Way.{LinkedRecord, linked}
-use Rattle.snort_engine.specs.declared.fault.ReadFault.{ReadFault}
-use Rattle.snort_engine.specs.declared.fault.ReadFault.TheVariants as fault
+use Rattle.pcapng_input.specs.declared.fault.ReadFault.{ReadFault}
+use Rattle.pcapng_input.specs.Faults.{of_savefile, of_blocks}
 use Rattle.snort_engine.specs.Course.{Plan, Way, Goes}
 
 -- the records of a capture, with their link layers, and their ending
@@ -35,16 +34,6 @@ abbrev pub Recording : Type 0
 Recording = Cut LinkedRecord ReadFault
 
 -- ---- a savefile
-
--- what a savefile is refused for
-abbrev pub of_savefile : CaptureFault → ReadFault
-of_savefile savefile_fault.NotPcap = fault.NotPcap
-of_savefile (savefile_fault.LinkType link_type) = fault.LinkType link_type
-of_savefile (savefile_fault.Truncated at) = fault.Truncated at
-of_savefile (savefile_fault.TooLong at len) = fault.TooLong at len
-of_savefile savefile_fault.TooMany = fault.TooMany
-of_savefile savefile_fault.Failed = fault.Failed
-of_savefile savefile_fault.NoMemory = fault.NoMemory
 
 -- records of one link layer, and their ending
 abbrev pub recording_of : Link → Cut Record CaptureFault → Recording
@@ -56,17 +45,6 @@ recording_in (Ok capture) = recording_of capture.head.link capture.cut
 recording_in (Err why) = no_more (Refused (of_savefile why))
 
 -- ---- blocks
-
--- what blocks are refused for
-abbrev pub of_blocks : NgFault → ReadFault
-of_blocks blocks_fault.NotPcapng = fault.NotPcap
-of_blocks (blocks_fault.Truncated at) = fault.Truncated at
-of_blocks (blocks_fault.BadBlock at) = fault.BadBlock at
-of_blocks (blocks_fault.LinkType at link) = fault.LinkType link
-of_blocks (blocks_fault.TooLong at len) = fault.TooLong at len
-of_blocks blocks_fault.TooMany = fault.TooMany
-of_blocks blocks_fault.Failed = fault.Failed
-of_blocks blocks_fault.NoMemory = fault.NoMemory
 
 -- a record and the link layer of its own interface
 abbrev pub with_link : NgRecord → LinkedRecord

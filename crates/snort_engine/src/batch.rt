@@ -8,11 +8,11 @@ ghost use Rattle.snort_engine.specs.Outside.{by};
 ghost use Rattle.snort_engine.specs.Steps.Seen.{OfSeen};
 ghost use Rattle.snort_engine.specs.Steps.Showing.{most_at, room_after};
 
-use crate::fault::ReadFault;
 use crate::reader::RecordReader;
 use crate::stop::Stop;
 use alert_lines::LinkedRecord;
 use edge_io::Host;
+use pcapng_input::ReadFault;
 use std::alloc::{AllocError, AllocFailed, Global};
 
 /// How many records are read before their lines are offered.

@@ -21,7 +21,6 @@ mod counts;
 mod course_laws;
 mod detect;
 mod detector;
-mod fault;
 mod laws;
 mod listing;
 mod made;

@@ -8,11 +8,10 @@ ghost use Rattle.snort_engine.specs.Trace.{no_record};
 ghost use Rattle.snort_engine.specs.Steps.Reader.{IsFresh, number_of, refusal_of, Gives, Opens, OpensSo};
 ghost use Rattle.snort_engine.specs.Steps.Seen.{HostRose, OfSeen, OnlyOpened};
 
-use crate::fault::ReadFault;
 use alert_lines::LinkedRecord;
 use edge_io::{Host, Link, Moment, Text};
 use pcap_input::{CaptureFault, CaptureReader, Record};
-use pcapng_input::{NgReader, NgRecord};
+use pcapng_input::{NgReader, NgRecord, ReadFault};
 use std::alloc::Global;
 
 /// A reader of the host's open capture.

@@ -9,7 +9,6 @@ ghost use Rattle.snort_engine.specs.Steps.Reporting.{Reports, TellsOn, TellsLast
 use crate::Status;
 use crate::counts::Counts;
 use crate::stop::{Stop, is_whole};
-use alert_fast::push_pieces;
 use edge_io::{NoMemory, Sink, Text, write_all};
 use std::alloc::Global;
 
@@ -68,7 +67,7 @@ fn push_report(
     ensures { OnOk result (out.new.items ≡ out.old.items ++ with_counts (outcome_text source.now outcome.now) told) }
 {
     if let Err(stop) = outcome {
-        push_pieces(out, &stop.pieces(source))?;
+        stop.push(source, out)?;
     }
     match told {
         Some(counts) => counts.push(out),

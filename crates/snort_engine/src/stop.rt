@@ -1,15 +1,15 @@
 //! Why a run ends early, with its status and message.
-ghost use Rattle.std.specs.Prelude.{◌≡◌, ◌++◌, codes, decimal};
-ghost use Rattle.snort_engine.specs.Steps.Stop.{is_whole, stop_status, stop_text};
+ghost use Rattle.std.specs.Prelude.{◌≡◌, ◌++◌, OnOk};
+ghost use Rattle.snort_engine.specs.Answer.{fault_text};
 ghost use Rattle.snort_engine.specs.Messages.{cannot_read_text};
-ghost use Rattle.alert_fast.specs.Pieces.{pieces_text};
+ghost use Rattle.snort_engine.specs.Steps.Stop.{is_whole, stop_status, stop_text};
 
 use crate::Status;
-use crate::fault::ReadFault;
-use alert_fast::Piece;
 use alert_fast::Piece::{Bytes, Number};
+use alert_fast::push_pieces;
 use alert_lines::WriteFault;
 use edge_io::{NoMemory, Text, WriteStop};
+use pcapng_input::ReadFault;
 use snort_setup::SetupStop;
 use std::alloc::AllocFailed;
 
@@ -38,8 +38,6 @@ pub(crate) enum Stop {
     BadUnified2 { at: u64 },
 }
 
-const NOTHING: Piece<'static> = Bytes(b"");
-
 /// Whether the work on a capture came to its end: it was read to its end, or to where it is refused.
 pub(crate) fn is_whole(outcome: &Result<(), Stop>) -> bool
     ensures { result ≡ is_whole outcome.now }
@@ -60,65 +58,68 @@ impl Stop {
         match self {
             Stop::Usage | Stop::Version | Stop::Accepted { .. } => Status::Done,
             Stop::CommandLine | Stop::Refused { .. } => Status::Refused,
-            Stop::CannotReadFile { .. } => Status::HostFault,
-            Stop::Capture(why) => why.status(),
+            Stop::CannotReadFile { .. } | Stop::Capture(ReadFault::Failed) => Status::HostFault,
             Stop::CannotWrite => Status::WriteFault,
-            Stop::NoMemory => Status::NoMemory,
-            Stop::BadUnified2 { .. } => Status::BadCapture,
+            Stop::NoMemory | Stop::Capture(ReadFault::NoMemory) => Status::NoMemory,
+            Stop::BadUnified2 { .. } | Stop::Capture(ReadFault::Bad(_)) => Status::BadCapture,
         }
     }
 
-    /// The stop's message, with a line feed at its end, where the capture has this name.
-    #[tactic(auto, unfolding(crate::specs::Steps::Stop::stop_text, crate::specs::Messages::cannot_read_text, crate::specs::Messages::accepted_text))]
-    pub fn pieces<'a>(&'a self, source: &'a str) -> [Piece<'a>; 5]
-        ensures { pieces_text result ≡ stop_text source.now self.now }
+    /// Appends the stop's message, with a line feed at its end, where the capture has this name.
+    #[tactic(auto, unfolding(crate::specs::Steps::Stop::stop_text, crate::specs::Messages::usage_text, crate::specs::Messages::version_text, crate::specs::Messages::accepted_text, crate::specs::Messages::command_line_text, crate::specs::Messages::cannot_write_text, crate::specs::Messages::no_memory_text, crate::specs::Messages::bad_unified2_text))]
+    pub fn push(&self, source: &str, out: &mut Vec<u8>) -> Result<(), NoMemory>
+        ensures { OnOk result (out.new.items ≡ out.old.items ++ stop_text source.now self.now) }
     {
         match self {
-            Stop::Accepted { rules } => [
-                Bytes(b"configuration accepted: "),
-                Number(*rules),
-                Bytes(b" rules\n"),
-                NOTHING,
-                NOTHING,
-            ],
-            Stop::Refused { message } => alone(message.bytes()),
-            Stop::CannotReadFile { name } => cannot_read(name.bytes()),
-            Stop::Capture(why) => why.pieces(source),
-            Stop::BadUnified2 { at } => numbered(b"ERROR: unified2 file is bad at byte ", *at),
-            Stop::Usage => alone(b"usage: snort -c CONF -r FILE [options]\n"),
-            Stop::Version => alone(b"snort offline profile 2.9\n"),
-            Stop::CommandLine => alone(b"ERROR: command line\n"),
-            Stop::CannotWrite => alone(b"ERROR: cannot write\n"),
-            Stop::NoMemory => alone(b"ERROR: no memory\n"),
+            Stop::Usage => push_pieces(out, &[Bytes(b"usage: snort -c CONF -r FILE [options]\n")]),
+            Stop::Version => push_pieces(out, &[Bytes(b"snort offline profile 2.9\n")]),
+            Stop::Accepted { rules } => push_pieces(
+                out,
+                &[
+                    Bytes(b"configuration accepted: "),
+                    Number(*rules),
+                    Bytes(b" rules\n"),
+                ],
+            ),
+            Stop::CommandLine => push_pieces(out, &[Bytes(b"ERROR: command line\n")]),
+            Stop::Refused { message } => push_pieces(out, &[Bytes(message.bytes())]),
+            Stop::CannotReadFile { name } => push_cannot_read(name.bytes(), out),
+            Stop::Capture(why) => push_fault(*why, source, out),
+            Stop::CannotWrite => push_pieces(out, &[Bytes(b"ERROR: cannot write\n")]),
+            Stop::NoMemory => push_pieces(out, &[Bytes(b"ERROR: no memory\n")]),
+            Stop::BadUnified2 { at } => push_pieces(
+                out,
+                &[
+                    Bytes(b"ERROR: unified2 file is bad at byte "),
+                    Number(*at),
+                    Bytes(b"\n"),
+                ],
+            ),
         }
     }
 }
 
-/// A message that is one text.
-pub(crate) fn alone(text: &[u8]) -> [Piece<'_>; 5]
-    ensures { pieces_text result ≡ text.now }
+/// Appends the message that a file of this name can't be read.
+#[tactic(auto, unfolding(crate::specs::Messages::cannot_read_text))]
+fn push_cannot_read(name: &[u8], out: &mut Vec<u8>) -> Result<(), NoMemory>
+    ensures { OnOk result (out.new.items ≡ out.old.items ++ cannot_read_text name.now) }
 {
-    [Bytes(text), NOTHING, NOTHING, NOTHING, NOTHING]
+    push_pieces(
+        out,
+        &[Bytes(b"ERROR: cannot read "), Bytes(name), Bytes(b"\n")],
+    )
 }
 
-/// A message that is a text, a number and the end of its line.
-pub(crate) fn numbered(text: &[u8], number: u64) -> [Piece<'_>; 5]
-    ensures { pieces_text result ≡ text.now ++ (decimal number ++ codes "\n") }
+/// Appends the message that the capture of this name is refused, or can't be read.
+#[tactic(auto, unfolding(crate::specs::Messages::no_memory_text))]
+fn push_fault(why: ReadFault, source: &str, out: &mut Vec<u8>) -> Result<(), NoMemory>
+    ensures { OnOk result (out.new.items ≡ out.old.items ++ fault_text source.now why) }
 {
-    [Bytes(text), Number(number), Bytes(b"\n"), NOTHING, NOTHING]
-}
-
-/// The message that a file of this name can't be read.
-pub(crate) fn cannot_read(name: &[u8]) -> [Piece<'_>; 5]
-    ensures { pieces_text result ≡ cannot_read_text name.now }
-{
-    [
-        Bytes(b"ERROR: cannot read "),
-        Bytes(name),
-        Bytes(b"\n"),
-        NOTHING,
-        NOTHING,
-    ]
+    match why {
+        ReadFault::Bad(bad) => bad.push(out),
+        ReadFault::Failed => push_cannot_read(source.as_bytes(), out),
+        ReadFault::NoMemory => push_pieces(out, &[Bytes(b"ERROR: no memory\n")]),
+    }
 }
 
 impl From<NoMemory> for Stop {

@@ -21,7 +21,8 @@ use Rattle.pcapng_input.proofs.Captures.Endings.{ng_records-refused}
 use Rattle.pcapng_input.proofs.Captures.Numbers.{opening_section}
 use Rattle.record_jobs.specs.Way.{LinkedRecord, linked}
 use Rattle.pcap_input.specs.Cut.{Clean, Refused, no_more, first_records, Cut, clean_with}
-use Rattle.snort_engine.specs.Records.{Recording, of_savefile, of_blocks, recording_of, recording_in, recording_of_blocks, recording_in_blocks, with_link, is_of_blocks, records_in}
+use Rattle.pcapng_input.specs.Faults.{of_savefile, of_blocks}
+use Rattle.snort_engine.specs.Records.{Recording, recording_of, recording_in, recording_of_blocks, recording_in_blocks, with_link, is_of_blocks, records_in}
 use Rattle.snort_engine.specs.CutCaptures.{Holds, IsCutAfter, bytes_of, end_of}
 use Rattle.snort_engine.proofs.Records.Opening.{long_enough, other_head}
 use Rattle.snort_engine.proofs.Cuts.Savefiles as of_savefiles

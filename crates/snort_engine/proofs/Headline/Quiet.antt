@@ -15,15 +15,15 @@ use Rattle.alert_lines.specs.declared.fault.WriteFault.{WriteFault}
 use Rattle.alert_lines.specs.declared.fault.WriteFault.TheVariants as write
 use Rattle.snort_engine.specs.declared.batch.Reached.{Reached}
 use Rattle.snort_engine.specs.declared.batch.Reached.TheVariants.{More, End, Fault}
-use Rattle.snort_engine.specs.declared.fault.ReadFault.{ReadFault}
-use Rattle.snort_engine.specs.declared.fault.ReadFault.TheVariants as fault
+use Rattle.pcapng_input.specs.declared.fault.ReadFault.{ReadFault}
+use Rattle.pcapng_input.specs.declared.fault.ReadFault.TheVariants as fault
 use Rattle.snort_engine.specs.declared.status.Status.{Status}
 use Rattle.snort_engine.specs.declared.status.Status.TheVariants as status
 use Rattle.snort_engine.specs.declared.stop.Stop.{Stop}
 use Rattle.snort_engine.specs.declared.stop.Stop.TheVariants as stop
 use Rattle.snort_engine.specs.Answer.{fault_status}
 use Rattle.snort_engine.specs.Ending.{IsUncut}
-use Rattle.snort_engine.specs.Records.{of_savefile, of_blocks}
+use Rattle.pcapng_input.specs.Faults.{of_savefile, of_blocks}
 use Rattle.snort_engine.specs.Steps.Batch.{more_of}
 use Rattle.snort_engine.specs.Steps.Causes.{ClosesWith, Faults, HasCauses}
 use Rattle.snort_engine.specs.Steps.Preparing.{StopsAtFile}

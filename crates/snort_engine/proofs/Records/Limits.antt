@@ -3,7 +3,7 @@ use Rattle.std.proofs.Common.{◌≡◌, ℕ, zero, suc, ◌+◌, ◌-◌, ◌<�
 use Rattle.std.proofs.lemmas.Bool.{cases_lt}
 use Rattle.std.proofs.lemmas.List.{append-nil, length-append, nil_from_length}
 use Rattle.record_jobs.specs.Way.{LinkedRecord}
-use Rattle.snort_engine.specs.declared.fault.ReadFault.{ReadFault}
+use Rattle.pcapng_input.specs.declared.fault.ReadFault.{ReadFault}
 use Rattle.pcap_input.specs.Cut.{AreWithin, Ending, Clean, no_more, first_records, with_front}
 use Rattle.pcap_input.proofs.Cuts.{first_records-none, first_records-zero, first_records-no_more, first_records-front, front_of_none}
 use Rattle.snort_engine.specs.Records.{Recording}

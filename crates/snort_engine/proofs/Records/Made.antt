@@ -10,7 +10,8 @@ use Rattle.pcap_input.specs.Reader.{new_reader}
 use Rattle.pcap_input.proofs.Made.Captures.{generated-head, made_cut-whole}
 use Rattle.record_jobs.specs.Way.{linked}
 use Rattle.snort_engine.specs.declared.reader.RecordReader.TheVariants.{Savefile}
-use Rattle.snort_engine.specs.Records.{of_savefile, recording_of, MadeIsWhole}
+use Rattle.pcapng_input.specs.Faults.{of_savefile}
+use Rattle.snort_engine.specs.Records.{recording_of, MadeIsWhole}
 use Rattle.snort_engine.specs.Steps.Reader.{recording_for}
 use Rattle.snort_engine.proofs.Records.Opening.{records_in-ok}
 

@@ -36,13 +36,15 @@ use Rattle.pcapng_input.proofs.Blocks.Openings.{opening_other}
 use Rattle.pcapng_input.proofs.Captures.Records as blocks_records
 use Rattle.pcapng_input.proofs.Captures.Numbers.{opening_section}
 use Rattle.record_jobs.specs.Way.{linked, LinkedRecord}
-use Rattle.snort_engine.specs.declared.fault.ReadFault.{ReadFault}
-use Rattle.snort_engine.specs.declared.fault.ReadFault.TheVariants as fault
+use Rattle.pcapng_input.specs.declared.fault.BadCapture.TheVariants as bad
+use Rattle.pcapng_input.specs.declared.fault.ReadFault.{ReadFault}
+use Rattle.pcapng_input.specs.declared.fault.ReadFault.TheVariants as fault
 use Rattle.snort_engine.specs.declared.reader.RecordReader.TheVariants.{Savefile, Blocks}
 use Rattle.pcap_input.specs.declared.capture.Record.{Record}
 use Rattle.pcapng_input.specs.declared.capture.NgRecord.{NgRecord}
 use Rattle.pcap_input.specs.Cut.{Refused, no_more, first_records, Cut, Clean}
-use Rattle.snort_engine.specs.Records.{Recording, of_savefile, of_blocks, recording_of, recording_in, recording_of_blocks, recording_in_blocks, with_link, is_of_blocks, records_in}
+use Rattle.pcapng_input.specs.Faults.{of_savefile, of_blocks}
+use Rattle.snort_engine.specs.Records.{Recording, recording_of, recording_in, recording_of_blocks, recording_in_blocks, with_link, is_of_blocks, records_in}
 use Rattle.snort_engine.specs.Steps.Reader.{IsFresh, number_of, recording_for, BeginsAfter, IsBarelyOpen, IsRefusedAtOnce, IsRefusedOpening, Opens, MayBeOther, OpensSo}
 use Rattle.snort_engine.specs.Records.{IsOther, IsToldOther}
 
@@ -309,7 +311,7 @@ other_long bytes is = at_least (length bytes) 24 (λ few. let truncated = head_o
     at_least a b above = omega (arith, above)
 
 -- the refusal of bytes that are neither a savefile nor blocks
-neither : (bytes : List ℕ) (why : NgFault) → head_of bytes ≡ Err savefile_fault.NotPcap → is_of_blocks bytes ≡ false → opening bytes ≡ blocks.refused why → of_blocks why ≡ fault.NotPcap
+neither : (bytes : List ℕ) (why : NgFault) → head_of bytes ≡ Err savefile_fault.NotPcap → is_of_blocks bytes ≡ false → opening bytes ≡ blocks.refused why → of_blocks why ≡ fault.Bad bad.NotPcap
 neither bytes why other no_section opens =
     let long = other_long bytes other in
     let apart : number_at false 0 4 bytes ≡ section_type → ⊥ = λ begins. let yes_section = section_is bytes begins long in cc in

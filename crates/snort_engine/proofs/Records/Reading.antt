@@ -22,12 +22,13 @@ use Rattle.pcapng_input.proofs.Captures.Nexts.{next_of-stops}
 use Rattle.pcapng_input.proofs.Captures.Records as blocks_records
 use Rattle.pcapng_input.proofs.Captures.Numbers.{follows_counted}
 use Rattle.record_jobs.specs.Way.{LinkedRecord, linked}
-use Rattle.snort_engine.specs.declared.fault.ReadFault.{ReadFault}
-use Rattle.snort_engine.specs.declared.fault.ReadFault.TheVariants as fault
+use Rattle.pcapng_input.specs.declared.fault.ReadFault.{ReadFault}
+use Rattle.pcapng_input.specs.declared.fault.ReadFault.TheVariants as fault
 use Rattle.snort_engine.specs.declared.reader.RecordReader.{RecordReader}
 use Rattle.snort_engine.specs.declared.reader.RecordReader.TheVariants.{Savefile, Blocks}
 use Rattle.pcap_input.specs.Cut.{Ending, Refused, no_more, with_front, Cut, Clean}
-use Rattle.snort_engine.specs.Records.{Recording, of_savefile, of_blocks, recording_of, recording_of_blocks, with_link}
+use Rattle.pcapng_input.specs.Faults.{of_savefile, of_blocks}
+use Rattle.snort_engine.specs.Records.{Recording, recording_of, recording_of_blocks, with_link}
 use Rattle.snort_engine.specs.Steps.Reader.{IsFresh, recording_for, HasRead, AreWhole, EndsWith, IsRefusedBy, Gives}
 
 -- ---- whatever the format
@@ -91,12 +92,7 @@ reading-ended first reader given left_first left ending so_far ends whole told =
 -- a refusal of what is left is that of the whole
 pub reading-refused : (first reader : RecordReader) (given : List LinkedRecord) (why : ReadFault) (left_first left : Option (List ℕ))
     → HasRead first reader given left_first left → IsRefusedBy reader [] left why → IsRefusedBy first given left_first why
-reading-refused first reader given fault.NotPcap left_first left so_far ends = reading-ended first reader given left_first left (Refused fault.NotPcap) so_far ends
-reading-refused first reader given (fault.LinkType link_type) left_first left so_far ends = reading-ended first reader given left_first left (Refused (fault.LinkType link_type)) so_far ends
-reading-refused first reader given (fault.Truncated at) left_first left so_far ends = reading-ended first reader given left_first left (Refused (fault.Truncated at)) so_far ends
-reading-refused first reader given (fault.BadBlock at) left_first left so_far ends = reading-ended first reader given left_first left (Refused (fault.BadBlock at)) so_far ends
-reading-refused first reader given (fault.TooLong at len) left_first left so_far ends = reading-ended first reader given left_first left (Refused (fault.TooLong at len)) so_far ends
-reading-refused first reader given fault.TooMany left_first left so_far ends = reading-ended first reader given left_first left (Refused fault.TooMany) so_far ends
+reading-refused first reader given (fault.Bad why) left_first left so_far ends = reading-ended first reader given left_first left (Refused (fault.Bad why)) so_far ends
 reading-refused first reader given fault.Failed left_first left so_far ends = tt
 reading-refused first reader given fault.NoMemory left_first left so_far ends = tt
 

@@ -5,9 +5,9 @@ use Rattle.pcap_input.specs.declared.capture.CaptureFault.{CaptureFault}
 use Rattle.pcap_input.specs.Reader as classic_reader
 use Rattle.pcapng_input.specs.declared.capture.NgFault.{NgFault}
 use Rattle.pcapng_input.specs.Reader as blocks_reader
-use Rattle.snort_engine.specs.declared.fault.ReadFault.{ReadFault}
+use Rattle.pcapng_input.specs.declared.fault.ReadFault.{ReadFault}
 use Rattle.snort_engine.specs.declared.reader.RecordReader.TheVariants.{Savefile, Blocks}
-use Rattle.snort_engine.specs.Records.{of_savefile, of_blocks}
+use Rattle.pcapng_input.specs.Faults.{of_savefile, of_blocks}
 use Rattle.snort_engine.specs.Steps.Reader.{refusal_of}
 
 -- a reader keeps what it refused

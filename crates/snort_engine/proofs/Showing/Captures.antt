@@ -11,8 +11,8 @@ use Rattle.pcap_input.proofs.Told.{split_told}
 use Rattle.record_jobs.specs.Way.{LinkedRecord}
 use Rattle.alert_lines.specs.Written.{WritesPart}
 use Rattle.alert_lines.proofs.Prefixes.{IsPrefix-nil, WritesPart-none}
-use Rattle.snort_engine.specs.declared.fault.ReadFault.{ReadFault}
-use Rattle.snort_engine.specs.declared.fault.ReadFault.TheVariants as fault
+use Rattle.pcapng_input.specs.declared.fault.ReadFault.{ReadFault}
+use Rattle.pcapng_input.specs.declared.fault.ReadFault.TheVariants as fault
 use Rattle.snort_engine.specs.declared.reader.RecordReader.{RecordReader}
 use Rattle.snort_engine.specs.declared.status.Status.{Status}
 use Rattle.snort_engine.specs.declared.status.Status.TheVariants as status
@@ -188,18 +188,8 @@ open_ends : (plan : Plan) (files : Files) (course : Course) (why : ReadFault) (b
     → Ends files course before after (stop_status (stop.Capture why))
     (warned course ++ said {A = Unit {0}} plan (Err (stop.Capture why)) counts)
 unfolding stop_text
-open_ends plan files course fault.NotPcap before after counts goes same counted opens failed =
-    refused_ends plan files course fault.NotPcap before after counts goes same counted tt (λ e. cc) opens.0 opens.1
-open_ends plan files course (fault.LinkType link_type) before after counts goes same counted opens failed =
-    refused_ends plan files course (fault.LinkType link_type) before after counts goes same counted tt (λ e. cc) opens.0 opens.1
-open_ends plan files course (fault.Truncated at) before after counts goes same counted opens failed =
-    refused_ends plan files course (fault.Truncated at) before after counts goes same counted tt (λ e. cc) opens.0 opens.1
-open_ends plan files course (fault.BadBlock at) before after counts goes same counted opens failed =
-    refused_ends plan files course (fault.BadBlock at) before after counts goes same counted tt (λ e. cc) opens.0 opens.1
-open_ends plan files course (fault.TooLong at len) before after counts goes same counted opens failed =
-    refused_ends plan files course (fault.TooLong at len) before after counts goes same counted tt (λ e. cc) opens.0 opens.1
-open_ends plan files course fault.TooMany before after counts goes same counted opens failed =
-    refused_ends plan files course fault.TooMany before after counts goes same counted tt (λ e. cc) opens.0 opens.1
+open_ends plan files course (fault.Bad why) before after counts goes same counted opens failed =
+    refused_ends plan files course (fault.Bad why) before after counts goes same counted tt (λ e. cc) opens.0 opens.1
 open_ends plan files course fault.NoMemory before after counts goes same counted opens failed =
     ends_lacking files course before after
     (subst (λ (x : Option (List ℕ)). WritesPart before.alerts (answer_of files course).alerts x) (sym same) (WritesPart-none before.alerts (answer_of files course).alerts))

@@ -12,8 +12,8 @@ use Rattle.alert_lines.proofs.Emitting.{gathers_settled}
 use Rattle.alert_lines.proofs.Prefixes.{WritesPart-all, WritesPart-after, WritesPart-longer}
 use Rattle.snort_engine.specs.declared.counts.Counts.{Counts}
 use Rattle.snort_engine.specs.declared.detect.Detector.{Detector}
-use Rattle.snort_engine.specs.declared.fault.ReadFault.{ReadFault}
-use Rattle.snort_engine.specs.declared.fault.ReadFault.TheVariants as fault
+use Rattle.pcapng_input.specs.declared.fault.ReadFault.{ReadFault}
+use Rattle.pcapng_input.specs.declared.fault.ReadFault.TheVariants as fault
 use Rattle.snort_engine.specs.declared.reader.RecordReader.{RecordReader}
 use Rattle.snort_engine.specs.declared.stop.Stop.{Stop}
 use Rattle.snort_engine.specs.declared.stop.Stop.TheVariants as stop
@@ -132,23 +132,13 @@ module _ (plan : Plan) (first : RecordReader) (room : Option ℕ) (given : List 
 
   -- the capture is refused, or couldn't be read on
   fault_to : (why : ReadFault) → IsRefusedBy first given left why → HasReadTo plan first taken left failed (Err (stop.Capture why))
-  fault_to fault.NotPcap ends = read_out (Refused fault.NotPcap) ends
-  fault_to (fault.LinkType link_type) ends = read_out (Refused (fault.LinkType link_type)) ends
-  fault_to (fault.Truncated place) ends = read_out (Refused (fault.Truncated place)) ends
-  fault_to (fault.BadBlock place) ends = read_out (Refused (fault.BadBlock place)) ends
-  fault_to (fault.TooLong place len) ends = read_out (Refused (fault.TooLong place len)) ends
-  fault_to fault.TooMany ends = read_out (Refused fault.TooMany) ends
+  fault_to (fault.Bad why) ends = read_out (Refused (fault.Bad why)) ends
   fault_to fault.Failed ends = tt
   fault_to fault.NoMemory ends = tt
 
   -- where lines after the records that were given weren't written, too
   fault_unwritten : (why : ReadFault) → IsRefusedBy first given left why → (why ≡ fault.Failed → failed) → (why ≡ fault.NoMemory → ⊥) → IsReadOut plan first taken left ⊎ failed
-  fault_unwritten fault.NotPcap ends rose lacks = inl (read_out (Refused fault.NotPcap) ends)
-  fault_unwritten (fault.LinkType link_type) ends rose lacks = inl (read_out (Refused (fault.LinkType link_type)) ends)
-  fault_unwritten (fault.Truncated place) ends rose lacks = inl (read_out (Refused (fault.Truncated place)) ends)
-  fault_unwritten (fault.BadBlock place) ends rose lacks = inl (read_out (Refused (fault.BadBlock place)) ends)
-  fault_unwritten (fault.TooLong place len) ends rose lacks = inl (read_out (Refused (fault.TooLong place len)) ends)
-  fault_unwritten fault.TooMany ends rose lacks = inl (read_out (Refused fault.TooMany) ends)
+  fault_unwritten (fault.Bad why) ends rose lacks = inl (read_out (Refused (fault.Bad why)) ends)
   fault_unwritten fault.Failed ends rose lacks = inr (rose refl)
   fault_unwritten fault.NoMemory ends rose lacks = absurd (lacks refl)
 
@@ -222,12 +212,7 @@ fault_comes plan first room given old after detector why is some holds wrote sto
     to f ends_so = at_end plan first room given old after detector (Refused f) is some holds wrote ends_so
 
     by_fault : (f : ReadFault) → IsRefusedBy first given old.left f → Comes plan first old after detector (Err (stop.Capture f))
-    by_fault fault.NotPcap ends = to fault.NotPcap ends
-    by_fault (fault.LinkType link_type) ends = to (fault.LinkType link_type) ends
-    by_fault (fault.Truncated place) ends = to (fault.Truncated place) ends
-    by_fault (fault.BadBlock place) ends = to (fault.BadBlock place) ends
-    by_fault (fault.TooLong place len) ends = to (fault.TooLong place len) ends
-    by_fault fault.TooMany ends = to fault.TooMany ends
+    by_fault (fault.Bad bad) ends = to (fault.Bad bad) ends
     by_fault fault.Failed ends = (cut_off plan first room given old after is wrote stopped.whole, part)
     by_fault fault.NoMemory ends = part
 

@@ -10,8 +10,8 @@ use Rattle.edge_io.specs.Told.{Rose}
 use Rattle.edge_io.specs.declared.host.Host.{Ghosts as HostOf}
 use Rattle.record_jobs.specs.Way.{LinkedRecord}
 use Rattle.snort_engine.specs.declared.reader.RecordReader.{RecordReader}
-use Rattle.snort_engine.specs.declared.fault.ReadFault.{ReadFault}
-use Rattle.snort_engine.specs.declared.fault.ReadFault.TheVariants as fault
+use Rattle.pcapng_input.specs.declared.fault.ReadFault.{ReadFault}
+use Rattle.pcapng_input.specs.declared.fault.ReadFault.TheVariants as fault
 use Rattle.pcap_input.specs.Cut.{Clean}
 use Rattle.snort_engine.specs.Steps.Reader.{IsFresh, HasRead, AreWhole, EndsWith, IsRefusedBy, refusal_of}
 use Rattle.snort_engine.specs.declared.batch.Reached.{Reached}

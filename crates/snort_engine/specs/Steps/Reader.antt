@@ -17,12 +17,13 @@ use Rattle.pcap_input.specs.Savefile.{most_records}
 use Rattle.pcap_input.specs.Reading.{cut_for}
 use Rattle.pcapng_input.specs.Blocks.{records_left}
 use Rattle.record_jobs.specs.Way.{LinkedRecord}
-use Rattle.snort_engine.specs.declared.fault.ReadFault.{ReadFault}
-use Rattle.snort_engine.specs.declared.fault.ReadFault.TheVariants as fault
+use Rattle.pcapng_input.specs.declared.fault.ReadFault.{ReadFault}
+use Rattle.pcapng_input.specs.declared.fault.ReadFault.TheVariants as fault
 use Rattle.snort_engine.specs.declared.reader.RecordReader.{RecordReader}
 use Rattle.snort_engine.specs.declared.reader.RecordReader.TheVariants.{Savefile, Blocks}
 use Rattle.pcap_input.specs.Cut.{Ending, Clean, Refused, first_records, with_front}
-use Rattle.snort_engine.specs.Records.{Recording, of_savefile, of_blocks, recording_of, recording_of_blocks}
+use Rattle.pcapng_input.specs.Faults.{of_savefile, of_blocks}
+use Rattle.snort_engine.specs.Records.{Recording, recording_of, recording_of_blocks}
 use Rattle.snort_engine.specs.Records.{records_in, IsOther, IsToldOther}
 
 -- ---- a reader

@@ -18,12 +18,12 @@ use Rattle.alert_lines.specs.Written.{WritesPart}
 use Rattle.alert_lines.specs.Gathering.{Sending}
 use Rattle.snort_engine.specs.declared.counts.Counts.{Counts}
 use Rattle.snort_engine.specs.declared.detect.Detector.{Detector}
-use Rattle.snort_engine.specs.declared.fault.ReadFault.{ReadFault}
+use Rattle.pcapng_input.specs.declared.fault.ReadFault.{ReadFault}
 use Rattle.snort_engine.specs.declared.plan.Plan as code
 use Rattle.snort_engine.specs.declared.reader.RecordReader.{RecordReader}
 use Rattle.snort_engine.specs.declared.stop.Stop.{Stop}
 use Rattle.snort_engine.specs.declared.stop.Stop.TheVariants as stop
-use Rattle.snort_engine.specs.declared.fault.ReadFault.TheVariants as fault
+use Rattle.pcapng_input.specs.declared.fault.ReadFault.TheVariants as fault
 use Rattle.snort_engine.specs.Course.{Plan}
 use Rattle.snort_engine.specs.Steps.Sources.{source_name}
 use Rattle.pcap_input.specs.Cut.{AreWithin, Ending, Clean, Refused, first_records}

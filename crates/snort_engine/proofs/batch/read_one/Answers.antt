@@ -1,8 +1,8 @@
 -- What was reached, by the answer of `next`.
 use Rattle.std.proofs.Common.{◌≡◌, [], ◌∷◌, ◌++◌, Some, Err, refl, ap, ◌∙◌, inl, inr}
 use Rattle.edge_io.specs.Files.{left_by}
-use Rattle.snort_engine.specs.declared.fault.ReadFault.{ReadFault}
-use Rattle.snort_engine.specs.declared.fault.ReadFault.TheVariants.{Failed, NoMemory}
+use Rattle.pcapng_input.specs.declared.fault.ReadFault.{ReadFault}
+use Rattle.pcapng_input.specs.declared.fault.ReadFault.TheVariants.{Failed, NoMemory}
 use Rattle.snort_engine.specs.declared.batch.Reached.TheVariants.{Fault}
 use Rattle.snort_engine.specs.Steps.Batch.{Place}
 use Rattle.snort_engine.proofs.Records.Batches.{reads_record, reads_end, reads_fault, reads_lacking}
