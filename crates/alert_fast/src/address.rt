@@ -4,7 +4,7 @@ ghost use Rattle.std.specs.Net.Text.{groups_text, hex_groups_text, longest_zero_
 ghost use Rattle.alert_fast.specs.Line.{address_text, colon_text, dotted_text};
 ghost use Rattle.alert_fast.specs.Pieces.{later_groups_text};
 
-use crate::pieces::Piece::{Bytes, Hex, Number};
+use crate::pieces::TextPiece::{Bytes, Hex, Number};
 use crate::pieces::push_pieces;
 use edge_io::{Addr, NoMemory};
 use std::net::Ipv6Addr;

@@ -4,7 +4,7 @@ ghost use Rattle.std.specs.Option.{ForSome};
 ghost use Rattle.alert_fast.specs.Line.{line_text, time_text, marked_msg, class_text, priority_text, protocol_text, source_port, destination_port, port_text};
 
 use crate::address::push_address;
-use crate::pieces::Piece::{Bytes, Number};
+use crate::pieces::TextPiece::{Bytes, Number};
 use crate::pieces::{push_pieces, six_digits, three_digits, two_digits};
 use crate::utc::utc_time;
 use conf_types::Classes;

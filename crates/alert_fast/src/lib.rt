@@ -29,7 +29,7 @@ pub use alert::line;
 pub use laws::lines_are_told;
 pub use pieces::{six_digits, two_digits};
 #[doc(hidden)]
-pub use pieces::{Piece, push_pieces};
+pub use pieces::{TextPiece, push_pieces};
 pub use reader::read_line;
 pub use told::{AlertLine, LineEnds, LineTime, RuleMark};
 pub use utc::{UtcTime, utc_time};

@@ -11,14 +11,14 @@ use std::alloc::AllocError;
 /// A piece of a text: bytes as they are, a number in decimal digits, or 16 bits in lower-case hex
 /// digits without leading zeros.
 #[derive(Clone, Copy)]
-pub enum Piece<'a> {
+pub enum TextPiece<'a> {
     Bytes(&'a [u8]),
     Number(u64),
     Hex(u16),
 }
 
 /// Appends the pieces, one after another.
-pub fn push_pieces(out: &mut Vec<u8>, pieces: &[Piece<'_>]) -> Result<(), NoMemory>
+pub fn push_pieces(out: &mut Vec<u8>, pieces: &[TextPiece<'_>]) -> Result<(), NoMemory>
     ensures appended { OnOk result (out.new.items ≡ out.old.items ++ pieces_text pieces.now) }
     ensures unchanged { OnErr result (out.new.items ≡ out.old.items) }
 {
@@ -35,14 +35,14 @@ pub fn push_pieces(out: &mut Vec<u8>, pieces: &[Piece<'_>]) -> Result<(), NoMemo
     Ok(())
 }
 
-fn push_piece(out: &mut Vec<u8>, piece: Piece<'_>) -> Result<(), AllocError>
+fn push_piece(out: &mut Vec<u8>, piece: TextPiece<'_>) -> Result<(), AllocError>
     ensures appended { OnOk result (out.new.items ≡ out.old.items ++ piece_text piece.entry) }
     ensures unchanged { OnErr result (out.new.items ≡ out.old.items) }
 {
     match piece {
-        Piece::Bytes(bytes) => out.extend_from_slice(bytes),
-        Piece::Number(value) => out.extend_from_slice(Buffer::new().format(value).as_bytes()),
-        Piece::Hex(group) => push_hex(out, group),
+        TextPiece::Bytes(bytes) => out.extend_from_slice(bytes),
+        TextPiece::Number(value) => out.extend_from_slice(Buffer::new().format(value).as_bytes()),
+        TextPiece::Hex(group) => push_hex(out, group),
     }
 }
 

@@ -5,7 +5,7 @@ use Rattle.base64.specs.GeneralPurpose.{encode_of}
 use Rattle.base64.specs.Engines.{standard}
 use Rattle.alert_fast.specs.Line.{address_text}
 use Rattle.serde_json.specs.Data.{depth, members_depth}
-use Rattle.alert_json.specs.declared.event.Flow.{Flow}
+use Rattle.alert_json.specs.declared.event.FiveTuple.{FiveTuple}
 use Rattle.alert_json.specs.Facts.{AlertFacts, PacketFacts, EventFacts, RunFacts}
 use Rattle.alert_json.specs.Texts.{text_of, printable_text}
 use Rattle.alert_json.specs.Stamps.{timestamp_text}
@@ -59,7 +59,7 @@ time event =
     let packet_is = maybe_count 1 (codes "pcap_cnt") event.count in
     and (and (and stamp number_is) packet_is) (text 1 (codes "event_type") (codes "alert"))
 
-flow : (seed : ℕ) (f : Flow) → IsLow 1 (flow_fields seed f)
+flow : (seed : ℕ) (f : FiveTuple) → IsLow 1 (flow_fields seed f)
 unfolding flow_fields
 flow seed f =
     let source = text 1 (codes "src_ip") (address_text f.src) in

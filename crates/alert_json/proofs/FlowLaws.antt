@@ -5,7 +5,7 @@ use Rattle.std.proofs.lemmas.Bool.{cases_lt}
 use Rattle.std.proofs.lemmas.Bool.Decides.{nat_tests}
 use Rattle.edge_io.specs.declared.address.Addr.{Addr}
 use Rattle.edge_io.specs.declared.address.Addr.TheVariants.{V4, V6}
-use Rattle.alert_json.specs.declared.event.Flow.{Flow}
+use Rattle.alert_json.specs.declared.event.FiveTuple.{FiveTuple}
 use Rattle.alert_json.specs.declared.event.Pair.TheVariants.{Ports}
 use Rattle.alert_json.specs.declared.flow_ids.Ends.{Ends}
 use Rattle.alert_json.specs.FlowNumbers.{address_number, is_in_order, turned, in_order, ends_of, port_hash, community_hash, number_hash}
@@ -89,16 +89,16 @@ in_order-turned ends alike =
     ]
 
 -- a flow, from its other end
-abbrev pub back : Flow → ℕ → ℕ → Flow
+abbrev pub back : FiveTuple → ℕ → ℕ → FiveTuple
 back flow sport dport = record { protocol = flow.protocol; src = flow.dst; dst = flow.src; pair = Ports dport sport }
 
 -- both directions of a flow with ports have the same community ID and the same number
-pub directions_are_one : (seed : ℕ) (flow : Flow) (sport dport : ℕ)
+pub directions_are_one : (seed : ℕ) (flow : FiveTuple) (sport dport : ℕ)
     → AreAlike flow.src flow.dst
     → community_hash seed (back flow sport dport) (Ports dport sport) ≡ community_hash seed flow (Ports sport dport)
 unfolding community_hash turned
 directions_are_one seed flow sport dport alike = ap (λ (ends : Ends). Some (port_hash seed flow.protocol ends)) (in_order-turned (ends_of flow sport dport) alike)
 
-pub numbers_are_one : (flow : Flow) (sport dport : ℕ) → AreAlike flow.src flow.dst → number_hash (back flow sport dport) (Ports dport sport) ≡ number_hash flow (Ports sport dport)
+pub numbers_are_one : (flow : FiveTuple) (sport dport : ℕ) → AreAlike flow.src flow.dst → number_hash (back flow sport dport) (Ports dport sport) ≡ number_hash flow (Ports sport dport)
 unfolding number_hash turned
 numbers_are_one flow sport dport alike = ap (λ (ends : Ends). Some (port_hash 0 flow.protocol ends)) (in_order-turned (ends_of flow sport dport) alike)

@@ -5,7 +5,7 @@ use Rattle.base64.specs.GeneralPurpose.{encode_of}
 use Rattle.base64.specs.Engines.{standard}
 use Rattle.json.specs.Token.{Token}
 use Rattle.alert_fast.specs.Line.{address_text}
-use Rattle.alert_json.specs.declared.event.Flow.{Flow}
+use Rattle.alert_json.specs.declared.event.FiveTuple.{FiveTuple}
 use Rattle.alert_json.specs.Facts.{AlertFacts, PacketFacts, EventFacts, RunFacts}
 use Rattle.alert_json.specs.Texts.{text_of, printable_text}
 use Rattle.alert_json.specs.Stamps.{timestamp_text}
@@ -25,7 +25,7 @@ time-group event stamp number old a b c new same known h1 h2 h3 h4 =
     then (then (then (subst (λ (s : List ℕ). Adds old a (text_field (codes "timestamp") s)) same h1)
     (subst (λ (n : Option ℕ). Adds a b (maybe_number (codes "flow_id") n)) known h2)) h3) h4
 
-pub flow-group : (seed : ℕ) (flow : Flow) (source target kind code : Option ℕ) (old a b c d e f g new : List Token)
+pub flow-group : (seed : ℕ) (flow : FiveTuple) (source target kind code : Option ℕ) (old a b c d e f g new : List Token)
     → source ≡ source_port flow.pair → target ≡ target_port flow.pair → kind ≡ message_kind flow.pair → code ≡ message_code flow.pair
     → Adds old a (text_field (codes "src_ip") (address_text flow.src)) → Adds a b (maybe_number (codes "src_port") source)
     → Adds b c (text_field (codes "dest_ip") (address_text flow.dst)) → Adds c d (maybe_number (codes "dest_port") target)
@@ -75,7 +75,7 @@ unfolding event_fields
 event-group event run old a b c d new h1 h2 h3 h4 h5 = then (then (then (then h1 h2) h3) h4) h5
 
 -- the ID of a hash that is the flow's
-pub same-community : (seed : ℕ) (flow : Flow) (hash : Option (List ℕ)) (old new : List Token) → hash ≡ community_hash seed flow flow.pair
+pub same-community : (seed : ℕ) (flow : FiveTuple) (hash : Option (List ℕ)) (old new : List Token) → hash ≡ community_hash seed flow flow.pair
     → Adds old new (maybe_text (codes "community_id") (option_map community_text hash)) → Adds old new (maybe_text (codes "community_id") (community_id seed flow))
 same-community seed flow hash old new is h =
     subst (λ (h : Option (List ℕ)). Adds old new (maybe_text (codes "community_id") (option_map community_text h))) is h

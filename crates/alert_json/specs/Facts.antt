@@ -1,13 +1,13 @@
--- What a record is made of: the values of `Event` and `Run`, wherever their bytes lie.
+-- What a record is made of: the values of `Event` and `RunFields`, wherever their bytes lie.
 --
 -- To try it on: two events that borrow equal messages from different places have the same facts.
 use Rattle.std.specs.Prelude.{ℕ, Bool, List, Option, option_map}
 use Rattle.std.specs.Borrow.{Bor}
 use Rattle.alert_json.specs.declared.event.Event.{Event}
-use Rattle.alert_json.specs.declared.event.Flow.{Flow}
+use Rattle.alert_json.specs.declared.event.FiveTuple.{FiveTuple}
 use Rattle.alert_json.specs.declared.event.Alert.{Alert}
 use Rattle.alert_json.specs.declared.event.Captured.{Captured}
-use Rattle.alert_json.specs.declared.event.Run.{Run}
+use Rattle.alert_json.specs.declared.event.RunFields.{RunFields}
 
 -- what is known of the rule
 pub record AlertFacts : Type 0 where
@@ -28,7 +28,7 @@ pub record PacketFacts : Type 0 where
 -- what is known of the event; its moment is in nanoseconds since 1970-01-01 00:00:00 UTC
 pub record EventFacts : Type 0 where
   pub nanos : ℕ
-  pub flow : Flow
+  pub flow : FiveTuple
   pub alert : AlertFacts
   pub packet : Option PacketFacts
   pub count : Option ℕ
@@ -66,5 +66,5 @@ event_facts event = record {
   count = event.count;
 }
 
-abbrev pub run_facts : Run → RunFacts
+abbrev pub run_facts : RunFields → RunFacts
 run_facts run = record { seed = run.seed; host = bytes_of run.host; pcap_filename = bytes_of run.pcap_filename }

@@ -18,7 +18,7 @@ use Rattle.base64.specs.GeneralPurpose.{encode_of}
 use Rattle.base64.specs.Engines.{standard}
 use Rattle.edge_io.specs.declared.address.Addr.{Addr}
 use Rattle.edge_io.specs.declared.address.Addr.TheVariants.{V4, V6}
-use Rattle.alert_json.specs.declared.event.Flow.{Flow}
+use Rattle.alert_json.specs.declared.event.FiveTuple.{FiveTuple}
 use Rattle.alert_json.specs.declared.event.Pair.{Pair}
 use Rattle.alert_json.specs.declared.event.Pair.TheVariants.{Unknown, Ports, Message}
 use Rattle.alert_json.specs.declared.flow_ids.Ends.{Ends}
@@ -85,11 +85,11 @@ unfoldable pub partner : ℕ → ℕ → Option ℕ
 partner protocol kind = if protocol == 1 then partner4 kind else (if protocol == 58 then partner6 kind else None)
 
 -- both addresses of a flow, with these numbers in the place of ports
-abbrev pub ends_of : Flow → ℕ → ℕ → Ends
+abbrev pub ends_of : FiveTuple → ℕ → ℕ → Ends
 ends_of flow here there = record { first = flow.src; second = flow.dst; here = here; there = there }
 
 -- the ends of a message: with its partner in order, without one as they are
-unfoldable pub message_ends : Flow → ℕ → ℕ → Option ℕ → Ends
+unfoldable pub message_ends : FiveTuple → ℕ → ℕ → Option ℕ → Ends
 message_ends flow kind code (Some other) = in_order (ends_of flow kind other)
 message_ends flow kind code None = ends_of flow kind code
 
@@ -101,7 +101,7 @@ unfoldable pub wants_pair : ℕ → Bool
 wants_pair protocol = has_ports protocol || ((protocol == 1) || ((protocol == 58) || (protocol == 132)))
 
 -- the hash in a flow's community ID, where it has one
-unfoldable pub community_hash : ℕ → Flow → Pair → Option (List ℕ)
+unfoldable pub community_hash : ℕ → FiveTuple → Pair → Option (List ℕ)
 community_hash seed flow (Ports sport dport) = Some (port_hash seed flow.protocol (in_order (ends_of flow sport dport)))
 community_hash seed flow (Message kind code) =
     Some (port_hash seed flow.protocol (message_ends flow kind code (partner flow.protocol kind)))
@@ -109,7 +109,7 @@ community_hash seed flow Unknown =
     if wants_pair flow.protocol then None else Some (plain_hash seed flow.protocol (in_order (ends_of flow 0 0)))
 
 -- the hash in a flow's number, where it has one
-unfoldable pub number_hash : Flow → Pair → Option (List ℕ)
+unfoldable pub number_hash : FiveTuple → Pair → Option (List ℕ)
 number_hash flow (Ports sport dport) = Some (port_hash 0 flow.protocol (in_order (ends_of flow sport dport)))
 number_hash flow (Message kind code) = Some (plain_hash 0 flow.protocol (in_order (ends_of flow 0 0)))
 number_hash flow Unknown =
@@ -124,9 +124,9 @@ unfoldable pub first_bits : List ℕ → ℕ
 first_bits hash = from_be_bytes w64 (0 ∷ 0 ∷ take 6 hash)
 
 -- a flow's community ID
-abbrev pub community_id : ℕ → Flow → Option (List ℕ)
+abbrev pub community_id : ℕ → FiveTuple → Option (List ℕ)
 community_id seed flow = option_map community_text (community_hash seed flow flow.pair)
 
 -- a flow's number
-abbrev pub flow_number : Flow → Option ℕ
+abbrev pub flow_number : FiveTuple → Option ℕ
 flow_number flow = option_map first_bits (number_hash flow flow.pair)

@@ -11,10 +11,10 @@ use Rattle.alert_fast.specs.Told.{IsReading, LineFacts, NoReading}
 use Rattle.alert_json.specs.declared.line_year.YearFrom.{YearFrom}
 use Rattle.alert_json.specs.declared.line_year.YearFrom.TheVariants.{After}
 use Rattle.alert_json.specs.declared.line_walk.LinesTaken.{LinesTaken}
-use Rattle.alert_json.specs.declared.line_walk.Front.{Front}
-use Rattle.alert_json.specs.declared.line_walk.Front.TheVariants as front
-use Rattle.alert_json.specs.declared.line_walk.Step.{Step}
-use Rattle.alert_json.specs.declared.line_walk.Step.TheVariants as step
+use Rattle.alert_json.specs.declared.line_walk.FrontLine.{FrontLine}
+use Rattle.alert_json.specs.declared.line_walk.FrontLine.TheVariants as front
+use Rattle.alert_json.specs.declared.line_walk.LineStep.{LineStep}
+use Rattle.alert_json.specs.declared.line_walk.LineStep.TheVariants as step
 use Rattle.alert_json.specs.Facts.{EventFacts, RunFacts}
 use Rattle.alert_json.specs.Value.{event_line}
 use Rattle.alert_json.specs.LineEvents.{event_of_line}
@@ -37,7 +37,7 @@ abbrev pub NoLine : List ℕ → Type 0
 NoLine bytes = (line more : List ℕ) → IsLine line → bytes ≢ line ++ more
 
 -- a line of this length is at the front, or none yet, or none whatever follows
-abbrev pub IsFrontLine : List ℕ → Front → Type 0
+abbrev pub IsFrontLine : List ℕ → FrontLine → Type 0
 IsFrontLine bytes (front.Line size) = IsLine (take size bytes) × (size ≤ length bytes)
 IsFrontLine bytes front.Waits = NoLine bytes
 IsFrontLine bytes front.Foreign = (0 < length bytes) × ((more : List ℕ) → NoLine (bytes ++ more))
@@ -96,14 +96,14 @@ pub record NeverTold (from : YearFrom) (bytes : List ℕ) : Type 0 where
   pub none : (more : List ℕ) → NoneTold from (bytes ++ more)
 
 -- a line was taken at the front of bytes, or none was
-abbrev pub IsStep : RunFacts → YearFrom → List ℕ → List ℕ → List ℕ → Step → Type 0
+abbrev pub IsStep : RunFacts → YearFrom → List ℕ → List ℕ → List ℕ → LineStep → Type 0
 IsStep run from bytes old new (step.Took size next) =
     IsLine (take size bytes) × (size ≤ length bytes) × AddsLine run from (take size bytes) old new next
 IsStep run from bytes old new step.Waits = NoLine bytes × (new ≡ old)
 IsStep run from bytes old new step.Foreign = NeverTold from bytes × (new ≡ old)
 
 -- a line was taken of bytes that are one line, or none was
-abbrev pub IsWholeStep : RunFacts → YearFrom → List ℕ → List ℕ → List ℕ → Step → Type 0
+abbrev pub IsWholeStep : RunFacts → YearFrom → List ℕ → List ℕ → List ℕ → LineStep → Type 0
 IsWholeStep run from line old new (step.Took size next) = (size ≡ length line) × AddsLine run from line old new next
 IsWholeStep run from line old new step.Waits = ⊥
 IsWholeStep run from line old new step.Foreign = IsUntold from line × (new ≡ old)

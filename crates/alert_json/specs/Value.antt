@@ -12,7 +12,7 @@ use Rattle.base64.specs.Engines.{standard}
 use Rattle.serde_json.specs.Data.{Data, unsigned, number, string, object, Members, no_members, member}
 use Rattle.serde_json.specs.Written.{compact_text}
 use Rattle.alert_fast.specs.Line.{address_text}
-use Rattle.alert_json.specs.declared.event.Flow.{Flow}
+use Rattle.alert_json.specs.declared.event.FiveTuple.{FiveTuple}
 use Rattle.alert_json.specs.declared.event.Pair.{Pair}
 use Rattle.alert_json.specs.declared.event.Pair.TheVariants.{Unknown, Ports, Message}
 use Rattle.alert_json.specs.Facts.{AlertFacts, PacketFacts, EventFacts, RunFacts}
@@ -97,7 +97,7 @@ message_code (Ports sport dport) = None
 message_code (Message kind code) = Some code
 
 -- the members of between whom
-unfoldable pub flow_fields : ℕ → Flow → List Field
+unfoldable pub flow_fields : ℕ → FiveTuple → List Field
 flow_fields seed flow =
     text_field (codes "src_ip") (address_text flow.src)
     ++ maybe_number (codes "src_port") (source_port flow.pair)

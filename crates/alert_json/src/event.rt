@@ -7,7 +7,7 @@ use edge_io::{Addr, Moment};
 pub struct Event<'a> {
     /// When it happened. Records show it by its whole microseconds.
     pub moment: Moment,
-    pub flow: Flow,
+    pub flow: FiveTuple,
     pub alert: Alert<'a>,
     /// The packet, where it is known.
     pub packet: Option<Captured<'a>>,
@@ -17,7 +17,7 @@ pub struct Event<'a> {
 
 /// The ends of a flow, and what they speak.
 #[derive(Clone, Copy, Debug)]
-pub struct Flow {
+pub struct FiveTuple {
     /// The protocol of the IP header.
     pub protocol: u8,
     pub src: Addr,
@@ -63,7 +63,7 @@ pub struct Captured<'a> {
 
 /// What all events of a run have alike.
 #[derive(Clone, Copy, Debug)]
-pub struct Run<'a> {
+pub struct RunFields<'a> {
     /// The seed of the community IDs, 0 by default.
     pub seed: u16,
     /// The name of the machine, where it is told: any bytes.

@@ -11,7 +11,7 @@ ghost use Rattle.base64.specs.Engines.{standard};
 ghost use Rattle.alert_fast.specs.Line.{address_text};
 ghost use Rattle.edge_io.specs.declared.address.Addr.TheVariants.{V4, V6};
 
-use crate::event::{Alert, Captured, Event, Flow, Pair, Run};
+use crate::event::{Alert, Captured, Event, FiveTuple, Pair, RunFields};
 use crate::flow_ids::{community_hash, community_text, number_of};
 use crate::members::{
     push_ascii, push_bytes, push_digits, push_maybe_number, push_number, push_text,
@@ -56,7 +56,7 @@ pub(crate) fn push_flow(
     alloc: Global,
     writer: &mut Writer,
     seed: u16,
-    flow: Flow,
+    flow: FiveTuple,
     hash: Option<[u8; 20]>,
 ) -> Result<(), NoMemory>
     requires { hash ≡ number_hash flow flow.pair }
@@ -372,7 +372,11 @@ fn push_name(
 
 /// Writes the members that all events of a run have alike.
 #[tactic(auto, unfolding(crate::specs::Value::run_fields))]
-pub(crate) fn push_run(alloc: Global, writer: &mut Writer, run: Run<'_>) -> Result<(), AllocError>
+pub(crate) fn push_run(
+    alloc: Global,
+    writer: &mut Writer,
+    run: RunFields<'_>,
+) -> Result<(), AllocError>
     ensures added { OnOk result (Adds writer.old.tokens writer.new.tokens
         (run_fields (run_facts run.entry))) }
     ensures before { writer.new.before ≡ writer.old.before }

@@ -4,7 +4,7 @@ ghost use Rattle.sha1.specs.Sha1.{Holds};
 ghost use Rattle.alert_json.specs.declared.event.Pair.TheVariants.{Ports};
 ghost use Rattle.alert_json.specs.FlowNumbers.{address_number, address_bytes, is_in_order, turned, in_order, addresses_text, plain_hash, port_hash, partner, partner4, partner6, ends_of, message_ends, has_ports, wants_pair, community_hash, number_hash, community_text, first_bits};
 
-use crate::event::{Flow, Pair};
+use crate::event::{FiveTuple, Pair};
 use base64::engine::general_purpose::STANDARD;
 use edge_io::Addr;
 use sha1::Sha1;
@@ -142,7 +142,7 @@ fn partner(protocol: u8, kind: u16) -> Option<u16>
     }
 }
 
-fn ends_of(flow: Flow, here: u16, there: u16) -> Ends
+fn ends_of(flow: FiveTuple, here: u16, there: u16) -> Ends
     ensures { result ≡ ends_of flow here there }
 {
     Ends {
@@ -154,7 +154,7 @@ fn ends_of(flow: Flow, here: u16, there: u16) -> Ends
 }
 
 #[tactic(auto, unfolding(crate::specs::FlowNumbers::message_ends))]
-fn message_ends(flow: Flow, kind: u16, code: u16) -> Ends
+fn message_ends(flow: FiveTuple, kind: u16, code: u16) -> Ends
     ensures { result ≡ message_ends flow kind code (partner flow.protocol kind) }
 {
     match partner(flow.protocol, kind) {
@@ -181,7 +181,7 @@ fn wants_pair(protocol: u8) -> bool
 #[tactic(auto, unfolding(crate::specs::FlowNumbers::community_hash, crate::specs::FlowNumbers::number_hash))]
 fn ports_hash(
     seed: u16,
-    flow: Flow,
+    flow: FiveTuple,
     sport: u16,
     dport: u16,
     number: Option<[u8; 20]>,
@@ -198,7 +198,11 @@ fn ports_hash(
 
 /// The hash in a flow's community ID, where it has one, by that in its number.
 #[tactic(auto, unfolding(crate::specs::FlowNumbers::community_hash))]
-pub(crate) fn community_hash(seed: u16, flow: Flow, number: Option<[u8; 20]>) -> Option<[u8; 20]>
+pub(crate) fn community_hash(
+    seed: u16,
+    flow: FiveTuple,
+    number: Option<[u8; 20]>,
+) -> Option<[u8; 20]>
     requires { number ≡ number_hash flow flow.pair }
     ensures { result ≡ community_hash seed flow flow.pair }
 {
@@ -221,7 +225,7 @@ pub(crate) fn community_hash(seed: u16, flow: Flow, number: Option<[u8; 20]>) ->
 
 /// The hash in a flow's number, where it has one.
 #[tactic(auto, unfolding(crate::specs::FlowNumbers::number_hash))]
-pub(crate) fn number_hash(flow: Flow) -> Option<[u8; 20]>
+pub(crate) fn number_hash(flow: FiveTuple) -> Option<[u8; 20]>
     ensures { result ≡ number_hash flow flow.pair }
 {
     match flow.pair {

@@ -21,7 +21,7 @@ mod members;
 mod stamp;
 mod texts;
 
-pub use event::{Alert, Captured, Event, Flow, Pair, Run};
+pub use event::{Alert, Captured, Event, FiveTuple, Pair, RunFields};
 pub use line::push_event;
 pub use line_event::event_of;
 pub use line_moment::moment_of;

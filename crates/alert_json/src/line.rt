@@ -5,7 +5,7 @@ ghost use Rattle.alert_json.specs.Tokens.{Adds};
 ghost use Rattle.alert_json.specs.Value.{event_fields, event_value, event_text, event_line};
 ghost use Rattle.alert_json.specs.Reading.{IsTextOf};
 
-use crate::event::{Event, Run};
+use crate::event::{Event, RunFields};
 use crate::fields::{push_alert, push_flow, push_packet, push_run, push_time};
 use crate::flow_ids::number_hash;
 use edge_io::NoMemory;
@@ -21,7 +21,7 @@ const ROOM: usize = 1024;
 pub fn push_event(
     alloc: Global,
     event: &Event<'_>,
-    run: &Run<'_>,
+    run: &RunFields<'_>,
     out: &mut Vec<u8>,
 ) -> Result<(), NoMemory>
     ensures appended { OnOk result
@@ -38,7 +38,7 @@ pub fn push_event(
 }
 
 // The text of an event.
-fn event_bytes(alloc: Global, event: Event<'_>, run: Run<'_>) -> Result<Vec<u8>, NoMemory>
+fn event_bytes(alloc: Global, event: Event<'_>, run: RunFields<'_>) -> Result<Vec<u8>, NoMemory>
     ensures text { IfOk result (λ text. text.items ≡ event_text (event_facts event.entry) (run_facts run.entry)) }
     ensures reads_back { OnOk result
         (IsTextOf (event_value (event_facts event.entry) (run_facts run.entry))
@@ -57,7 +57,7 @@ fn push_members(
     alloc: Global,
     writer: &mut Writer,
     event: Event<'_>,
-    run: Run<'_>,
+    run: RunFields<'_>,
 ) -> Result<(), NoMemory>
     ensures added { OnOk result (Adds writer.old.tokens writer.new.tokens
         (event_fields (event_facts event.entry) (run_facts run.entry))) }

@@ -4,7 +4,7 @@ ghost use Rattle.alert_fast.specs.LinesRead.{line_facts};
 ghost use Rattle.alert_json.specs.Facts.{event_facts};
 ghost use Rattle.alert_json.specs.LineEvents.{pair_of, event_of_line};
 
-use crate::event::{Alert, Event, Flow, Pair};
+use crate::event::{Alert, Event, FiveTuple, Pair};
 use alert_fast::AlertLine;
 use edge_io::Moment;
 
@@ -24,7 +24,7 @@ pub fn event_of<'a>(alert: AlertLine<'a>, moment: Moment) -> Event<'a>
 {
     Event {
         moment,
-        flow: Flow {
+        flow: FiveTuple {
             protocol: alert.protocol,
             src: alert.ends.src,
             dst: alert.ends.dst,

@@ -6,7 +6,7 @@ ghost use Rattle.alert_fast.specs.Told.{IsReading};
 ghost use Rattle.alert_json.specs.Facts.{run_facts};
 ghost use Rattle.alert_json.specs.LineWalks.{AddsLine, IsFrontLine, IsLine, IsStep, IsUntold, IsWholeStep, NeverTold, NoLine, WalksLines};
 
-use crate::event::Run;
+use crate::event::RunFields;
 use crate::line::push_event;
 use crate::line_event::event_of;
 use crate::line_moment::moment_of;
@@ -21,7 +21,7 @@ const MOST_LINE: usize = 1_048_576;
 
 /// What is at the front of bytes: a line of `size` bytes, none yet, or none ever.
 #[derive(Clone, Copy)]
-pub(crate) enum Front {
+pub(crate) enum FrontLine {
     Line { size: usize },
     Waits,
     Foreign,
@@ -35,24 +35,24 @@ fn first_text(bytes: &[u8]) -> Option<(&[u8], &[u8])>
     Some((&bytes[..place], &bytes[place + 1..]))
 }
 
-fn front_of(bytes: &[u8]) -> Front
+fn front_of(bytes: &[u8]) -> FrontLine
     ensures { IsFrontLine bytes.now result }
 {
     match first_text(bytes) {
         Some((text, _)) => {
             if text.len() < MOST_LINE {
-                Front::Line {
+                FrontLine::Line {
                     size: text.len() + 1,
                 }
             } else {
-                Front::Foreign
+                FrontLine::Foreign
             }
         }
         None => {
             if bytes.len() < MOST_LINE {
-                Front::Waits
+                FrontLine::Waits
             } else {
-                Front::Foreign
+                FrontLine::Foreign
             }
         }
     }
@@ -63,7 +63,7 @@ fn push_alert(
     alloc: Global,
     alert: AlertLine<'_>,
     from: YearFrom,
-    run: &Run<'_>,
+    run: &RunFields<'_>,
     out: &mut Vec<u8>,
 ) -> Result<Option<YearFrom>, NoMemory>
     ensures told { IfOk result (λ told. (line : List ℕ) → IsReading line (line_facts alert.entry)
@@ -90,7 +90,7 @@ fn push_line(
     alloc: Global,
     line: &[u8],
     from: YearFrom,
-    run: &Run<'_>,
+    run: &RunFields<'_>,
     out: &mut Vec<u8>,
 ) -> Result<Option<YearFrom>, NoMemory>
     ensures told { IfOk result (λ told. MatchOption told (IsUntold from line.now)
@@ -106,7 +106,7 @@ fn push_line(
 // What is at the front of bytes: a line of `size` bytes that gave its record, and what the next one's year follows
 // from; none yet; or none that gives one, whatever follows.
 #[derive(Clone, Copy)]
-pub(crate) enum Step {
+pub(crate) enum LineStep {
     Took { size: usize, next: YearFrom },
     Waits,
     Foreign,
@@ -117,15 +117,15 @@ fn push_whole(
     alloc: Global,
     line: &[u8],
     from: YearFrom,
-    run: &Run<'_>,
+    run: &RunFields<'_>,
     out: &mut Vec<u8>,
-) -> Result<Step, NoMemory>
+) -> Result<LineStep, NoMemory>
     requires { IsLine line.now }
     ensures { IfOk result (λ step. IsWholeStep (run_facts run.now) from line.now out.old.items out.new.items step) }
 {
     match push_line(alloc, line, from, run, out)? {
-        None => Ok(Step::Foreign),
-        Some(next) => Ok(Step::Took {
+        None => Ok(LineStep::Foreign),
+        Some(next) => Ok(LineStep::Took {
             size: line.len(),
             next,
         }),
@@ -137,15 +137,15 @@ fn push_front(
     alloc: Global,
     bytes: &[u8],
     from: YearFrom,
-    run: &Run<'_>,
+    run: &RunFields<'_>,
     out: &mut Vec<u8>,
-) -> Result<Step, NoMemory>
+) -> Result<LineStep, NoMemory>
     ensures { IfOk result (λ step. IsStep (run_facts run.now) from bytes.now out.old.items out.new.items step) }
 {
     match front_of(bytes) {
-        Front::Line { size } => push_whole(alloc, &bytes[..size], from, run, out),
-        Front::Waits => Ok(Step::Waits),
-        Front::Foreign => Ok(Step::Foreign),
+        FrontLine::Line { size } => push_whole(alloc, &bytes[..size], from, run, out),
+        FrontLine::Waits => Ok(LineStep::Waits),
+        FrontLine::Foreign => Ok(LineStep::Foreign),
     }
 }
 
@@ -166,7 +166,7 @@ pub fn push_lines(
     alloc: Global,
     bytes: &[u8],
     from: YearFrom,
-    run: &Run<'_>,
+    run: &RunFields<'_>,
     out: &mut Vec<u8>,
 ) -> Result<LinesTaken, NoMemory>
     ensures walks { IfOk result (λ taken. WalksLines (run_facts run.now) from bytes.now out.old.items out.new.items taken) }
@@ -181,13 +181,13 @@ pub fn push_lines(
     };
     'lines: loop {
         match push_front(alloc, &bytes[taken.size..], taken.next, run, out)? {
-            Step::Took { size, next } => {
+            LineStep::Took { size, next } => {
                 taken.size += size;
                 taken.count += 1;
                 taken.next = next;
             }
-            Step::Waits => return Ok(taken),
-            Step::Foreign => {
+            LineStep::Waits => return Ok(taken),
+            LineStep::Foreign => {
                 taken.is_foreign = true;
                 return Ok(taken);
             }

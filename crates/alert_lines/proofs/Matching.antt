@@ -16,7 +16,7 @@ use Rattle.flow_lanes.specs.declared.answer.Matches.{Matches}
 use Rattle.flow_lanes.specs.ItemHits.{is_matched, matched, matched_entry}
 use Rattle.record_jobs.specs.Way.{LinkedRecord}
 use Rattle.alert_lines.specs.declared.tally.Tally.{Tally}
-use Rattle.command_words.specs.declared.asked.Form.{Form}
+use Rattle.command_words.specs.declared.asked.AlertForm.{AlertForm}
 use Rattle.alert_lines.specs.declared.fault.WriteFault.{WriteFault}
 use Rattle.alert_lines.specs.declared.fault.WriteFault.TheVariants as write
 use Rattle.alert_lines.specs.Beside.{beside, by_place, carried, whats}
@@ -92,7 +92,7 @@ module _ (config : Config) (rules : List Rule) where
           ∙ ap (λ c. carried (item_events config rules) other (cond c (b ∷ matched_sourced items) (matched_sourced items))) (sym is)
 
 -- the lines of items are those of the items that a rule matches
-items_lines-matched : (form : Form) (config : Config) (rules : List Rule) (before : List Hits) (items : List SourcedItem)
+items_lines-matched : (form : AlertForm) (config : Config) (rules : List Rule) (before : List Hits) (items : List SourcedItem)
     → items_lines form config rules before items ≡ items_lines form config rules before (matched_sourced items)
 unfolding items_lines
 items_lines-matched form config rules before items =
@@ -225,12 +225,12 @@ few_of_all : (source : ℕ → LinkedRecord) (found : Matches) (jobs : List JobH
 few_of_all source found jobs are = ap (λ (hits : List JobHits). sourced_items (by_place source 0 hits)) are.hits ∙ told-matched source 0 jobs
 
 -- the matches have the lines of all items
-matches_lines : (form : Form) (config : Config) (rules : List Rule) (source : ℕ → LinkedRecord) (found : Matches) (before : List Hits) (jobs : List JobHits) → AreMatchesOf jobs found
+matches_lines : (form : AlertForm) (config : Config) (rules : List Rule) (source : ℕ → LinkedRecord) (found : Matches) (before : List Hits) (jobs : List JobHits) → AreMatchesOf jobs found
     → items_lines form config rules before (sourced_items (by_place source 0 jobs)) ≡ items_lines form config rules before (sourced_items (by_place source 0 found.hits.items))
 matches_lines form config rules source found before jobs are =
     items_lines-matched form config rules before (sourced_items (by_place source 0 jobs)) ∙ ap (items_lines form config rules before) (sym (few_of_all source found jobs are))
 
-pub shows_matches : (form : Form) (config : Config) (rules : List Rule) (source : ℕ → LinkedRecord) (found : Matches)
+pub shows_matches : (form : AlertForm) (config : Config) (rules : List Rule) (source : ℕ → LinkedRecord) (found : Matches)
     (old new : Showing) (done : Unit {0}) (count : ℕ)
     → count ≡ old.writer.tally.items + found.items
     → Shows (shown_in form config rules) (sourced_items (by_place source 0 found.hits.items)) old new (Ok done)
@@ -243,7 +243,7 @@ shows_matches form config rules source found old new done count counted shows = 
   emits = emits_told shows.emits (λ known. (known.before, matches_lines form config rules source found known.before.items known.jobs known.are));
 }
 
-pub matches_part : (form : Form) (config : Config) (rules : List Rule) (source : ℕ → LinkedRecord) (found : Matches) (old new : Showing) (why : WriteFault)
+pub matches_part : (form : AlertForm) (config : Config) (rules : List Rule) (source : ℕ → LinkedRecord) (found : Matches) (old new : Showing) (why : WriteFault)
     → Shows {A = Unit {0}} (shown_in form config rules) (sourced_items (by_place source 0 found.hits.items)) old new (Err why)
     → ShowsMatches {A = Unit {0}} (shown_in form config rules) source found old new (Err why)
 matches_part form config rules source found old new why shows = record {
@@ -251,6 +251,6 @@ matches_part form config rules source found old new why shows = record {
   emits = emits_stopped shows.emits (λ known. (known.before, matches_lines form config rules source found known.before.items known.jobs known.are));
 }
 
-pub matches_nothing : (form : Form) (config : Config) (rules : List Rule) (source : ℕ → LinkedRecord) (found : Matches) (old : Showing)
+pub matches_nothing : (form : AlertForm) (config : Config) (rules : List Rule) (source : ℕ → LinkedRecord) (found : Matches) (old : Showing)
     → ShowsMatches {A = Unit {0}} (shown_in form config rules) source found old old (Err write.NoMemory)
 matches_nothing form config rules source found old = record { holds = tt; emits = emits_nothing _ (sending_of old) (sending_of old) refl refl }

@@ -24,7 +24,7 @@ use Rattle.event_filters.specs.Events.{Item, kept}
 use Rattle.event_filters.specs.Filtering.{FiltersState, IsGiven, Passes}
 use Rattle.alert_lines.specs.declared.writer.AlertWriter.{AlertWriter}
 use Rattle.alert_lines.specs.declared.tally.Tally.{Tally}
-use Rattle.command_words.specs.declared.asked.Form.{Form}
+use Rattle.command_words.specs.declared.asked.AlertForm.{AlertForm}
 use Rattle.alert_lines.specs.declared.fault.WriteFault.{WriteFault}
 use Rattle.alert_lines.specs.declared.fault.WriteFault.TheVariants as write
 use Rattle.alert_lines.specs.Beside.{Beside, beside, by_place, carried, whats}
@@ -172,7 +172,7 @@ pub events_new : (config : Config) (rules : List Rule) (filters : FiltersState) 
 unfolding tally_of
 events_new config rules filters tally given is = is
 
-items_lines-append : (form : Form) (config : Config) (rules : List Rule) (before : List Hits) (front back : List SourcedItem)
+items_lines-append : (form : AlertForm) (config : Config) (rules : List Rule) (before : List Hits) (front back : List SourcedItem)
     → items_lines form config rules before (front ++ back) ≡ items_lines form config rules before front ++ items_lines form config rules (before ++ whats front) back
 unfolding items_lines
 items_lines-append form config rules before front back =
@@ -186,15 +186,15 @@ items_lines-append form config rules before front back =
     ∙ ap (λ (m : ℕ). texts_from text n one ++ texts_from text m two) (length-carried shown before front)
 
 -- the subject of an item
-abbrev pub subject_for : Form → Config → List Rule → LinkedRecord → Hits → Subject
+abbrev pub subject_for : AlertForm → Config → List Rule → LinkedRecord → Hits → Subject
 subject_for form config rules source hits = record { form = form; classes = config.classes; rules = rules; source = source; head = hits.head }
 
 -- by what items are shown
-abbrev pub shown_in : Form → Config → List Rule → Shown
+abbrev pub shown_in : AlertForm → Config → List Rule → Shown
 shown_in form config rules = record { form = form; config = config; rules = rules }
 
 -- the lines of an item are those of the rules whose events are kept
-items_lines-one : (form : Form) (config : Config) (rules : List Rule) (before : List Hits) (source : LinkedRecord) (hits : Hits)
+items_lines-one : (form : AlertForm) (config : Config) (rules : List Rule) (before : List Hits) (source : LinkedRecord) (hits : Hits)
     → items_lines form config rules before (beside source hits ∷ [])
     ≡ places_lines (subject_for form config rules source hits) (length (trail (item_events config rules) before)) (kept config rules (map filtered_item before) (filtered_item hits))
 unfolding items_lines places_lines item_events
@@ -238,23 +238,26 @@ abbrev tally_with : Tally → ℕ → ℕ → Tally
 tally_with old size count = record { items = old.items + 1; hits = old.hits + size; alerts = old.alerts + count }
 
 -- the lines of an item, by what was counted before it and by what is kept of it
-item_lines : (form : Form) (config : Config) (rules : List Rule) (source : LinkedRecord) (hits : Hits) (before : List Hits) (tally : Tally) (places : List ℕ) → tally ≡ tally_of config rules before
+item_lines : (form : AlertForm) (config : Config) (rules : List Rule) (source : LinkedRecord) (hits : Hits) (before : List Hits)
+    (tally : Tally) (places : List ℕ)
+    → tally ≡ tally_of config rules before
     → places ≡ kept config rules (map filtered_item before) (filtered_item hits)
-    → places_lines (subject_for form config rules source hits) tally.alerts places ≡ items_lines form config rules before (beside source hits ∷ [])
+    → places_lines (subject_for form config rules source hits) tally.alerts places ≡
+    items_lines form config rules before (beside source hits ∷ [])
 item_lines form config rules source hits before tally places holds are =
     let s = subject_for form config rules source hits in
     ap (λ (n : ℕ). places_lines s n places) (tally_alerts config rules before tally holds)
     ∙ ap (places_lines s (length (trail (item_events config rules) before))) are
     ∙ sym (items_lines-one form config rules before source hits)
 
-item_lines_by : (form : Form) (config : Config) (rules : List Rule) (source : LinkedRecord) (hits : Hits) (old : AlertWriter) (after : FiltersState) (places : List ℕ)
+item_lines_by : (form : AlertForm) (config : Config) (rules : List Rule) (source : LinkedRecord) (hits : Hits) (old : AlertWriter) (after : FiltersState) (places : List ℕ)
     → Passes config rules old.filters [] (filtered_item hits) after places → (before : Earlier config rules old)
     → items_lines form config rules before.items (beside source hits ∷ []) ≡ places_lines (subject_for form config rules source hits) old.tally.alerts places
 item_lines_by form config rules source hits old after places passes before =
     sym (item_lines form config rules source hits before.items old.tally places before.hold.tally (passes (map filtered_item before.items) before.hold.given).1)
 
 -- an item was given to the filters, and the lines of what they keep of it are on their way
-pub shows_one : (form : Form) (config : Config) (rules : List Rule) (source : LinkedRecord) (hits : Hits) (old new : Showing) (places : List ℕ) (count size : ℕ)
+pub shows_one : (form : AlertForm) (config : Config) (rules : List Rule) (source : LinkedRecord) (hits : Hits) (old new : Showing) (places : List ℕ) (count size : ℕ)
     → Passes config rules old.writer.filters [] (filtered_item hits) new.writer.filters places
     → ShowsPlaces (subject_for form config rules source hits) old.writer.tally.alerts places (sending_of old) (sending_of new) (Ok count)
     → new.writer.tally ≡ record { items = old.writer.tally.items + 1; hits = old.writer.tally.hits + size; alerts = old.writer.tally.alerts + count } → size ≡ length hits.rules
@@ -271,12 +274,12 @@ shows_one form config rules source hits old new places count size passes shown t
 }
 
 -- memory was lacking before it was shown
-pub shows_nothing : (form : Form) (config : Config) (rules : List Rule) (items : List SourcedItem) (old new : Showing) → new.written ≡ old.written → new.faults ≡ old.faults
+pub shows_nothing : (form : AlertForm) (config : Config) (rules : List Rule) (items : List SourcedItem) (old new : Showing) → new.written ≡ old.written → new.faults ≡ old.faults
     → Shows {A = Unit {0}} (shown_in form config rules) items old new (Err write.NoMemory)
 shows_nothing form config rules items old new written faults = record { holds = tt; emits = emits_nothing _ (sending_of old) (sending_of new) written faults }
 
 -- an item was stopped while its lines were shown
-pub shows_part_of : (form : Form) (config : Config) (rules : List Rule) (source : LinkedRecord) (hits : Hits) (old new : Showing) (after : FiltersState) (places : List ℕ) (why : WriteFault)
+pub shows_part_of : (form : AlertForm) (config : Config) (rules : List Rule) (source : LinkedRecord) (hits : Hits) (old new : Showing) (after : FiltersState) (places : List ℕ) (why : WriteFault)
     → Passes config rules old.writer.filters [] (filtered_item hits) after places
     → ShowsPlaces (subject_for form config rules source hits) old.writer.tally.alerts places (sending_of old) (sending_of new) (Err why)
     → Shows {A = Unit {0}} (shown_in form config rules) (beside source hits ∷ []) old new (Err why)
@@ -286,7 +289,7 @@ shows_part_of form config rules source hits old new after places why passes show
 }
 
 -- an item's lines came, and it couldn't be counted
-pub shows_uncounted : (form : Form) (config : Config) (rules : List Rule) (source : LinkedRecord) (hits : Hits) (old new : Showing) (after : FiltersState) (places : List ℕ) (count : ℕ)
+pub shows_uncounted : (form : AlertForm) (config : Config) (rules : List Rule) (source : LinkedRecord) (hits : Hits) (old new : Showing) (after : FiltersState) (places : List ℕ) (count : ℕ)
     → Passes config rules old.writer.filters [] (filtered_item hits) after places
     → ShowsPlaces (subject_for form config rules source hits) old.writer.tally.alerts places (sending_of old) (sending_of new) (Ok count)
     → Shows {A = Unit {0}} (shown_in form config rules) (beside source hits ∷ []) old new (Err write.NoMemory)
@@ -296,18 +299,18 @@ shows_uncounted form config rules source hits old new after places count passes 
 }
 
 -- no item came
-items_lines-none : (form : Form) (config : Config) (rules : List Rule) (before : List Hits) → items_lines form config rules before [] ≡ []
+items_lines-none : (form : AlertForm) (config : Config) (rules : List Rule) (before : List Hits) → items_lines form config rules before [] ≡ []
 unfolding items_lines
 items_lines-none form config rules before = refl
 
-pub shows_none : (form : Form) (config : Config) (rules : List Rule) (old : Showing) → Shows {A = Unit {0}} (shown_in form config rules) [] old old (Ok tt)
+pub shows_none : (form : AlertForm) (config : Config) (rules : List Rule) (old : Showing) → Shows {A = Unit {0}} (shown_in form config rules) [] old old (Ok tt)
 shows_none form config rules old = record {
   holds = λ before holds. subst (λ (x : List Hits). IsWriterAfter config rules x old.writer) (sym (append-nil before)) holds;
   emits = emits_none (sending_of old) (λ before. items_lines-none form config rules before.items);
 }
 
 -- items came, and then others, or a part of their lines
-pub shows_then : (form : Form) (config : Config) (rules : List Rule) (front back : List SourcedItem) (old middle new : Showing) (done : Unit {0}) (outcome : Result (Unit {0}) WriteFault)
+pub shows_then : (form : AlertForm) (config : Config) (rules : List Rule) (front back : List SourcedItem) (old middle new : Showing) (done : Unit {0}) (outcome : Result (Unit {0}) WriteFault)
     → Shows (shown_in form config rules) front old middle (Ok done) → Shows (shown_in form config rules) back middle new outcome → Shows (shown_in form config rules) (front ++ back) old new outcome
 shows_then form config rules front back old middle new done outcome one two = record {
   holds = by_outcome outcome two.holds;
@@ -330,7 +333,7 @@ shows_then form config rules front back old middle new done outcome one two = re
     by_outcome (Err why) on = tt
 
 -- a part of the lines of items is one of those of more items
-shows_longer : (form : Form) (config : Config) (rules : List Rule) (front back : List SourcedItem) (old new : Showing) (why : WriteFault)
+shows_longer : (form : AlertForm) (config : Config) (rules : List Rule) (front back : List SourcedItem) (old new : Showing) (why : WriteFault)
     → Shows {A = Unit {0}} (shown_in form config rules) front old new (Err why) → Shows {A = Unit {0}} (shown_in form config rules) (front ++ back) old new (Err why)
 shows_longer form config rules front back old new why one = record {
   holds = tt;
@@ -346,7 +349,7 @@ items_more source items i hits lt is =
     ∙ ap (map (beside source)) (ap (λ (h : Hits). take i items ++ h ∷ []) is ∙ sym (take_more items i hits lt))
 
 -- the items so far came, and then the next one
-pub items_step : (form : Form) (config : Config) (rules : List Rule) (source : LinkedRecord) (items : List Hits) (i : ℕ)
+pub items_step : (form : AlertForm) (config : Config) (rules : List Rule) (source : LinkedRecord) (items : List Hits) (i : ℕ)
     (hits : Hits) (old middle new : Showing) (done : Unit {0}) (outcome : Result (Unit {0}) WriteFault)
     → i < length items
     → hits ≡ get_or items i hits
@@ -357,9 +360,12 @@ items_step form config rules source items i hits old middle new done outcome lt 
     subst (λ (x : List SourcedItem). Shows (shown_in form config rules) x old new outcome) (items_more source items i hits lt is)
     (shows_then form config rules (map (beside source) (take i items)) (beside source hits ∷ []) old middle new done outcome so_far more)
 
-pub items_part : (form : Form) (config : Config) (rules : List Rule) (source : LinkedRecord) (items : List Hits) (i : ℕ) (hits : Hits) (old middle new : Showing) (done : Unit {0}) (why : WriteFault)
-    → i < length items → hits ≡ get_or items i hits
-    → Shows (shown_in form config rules) (map (beside source) (take i items)) old middle (Ok done) → Shows {A = Unit {0}} (shown_in form config rules) (beside source hits ∷ []) middle new (Err why)
+pub items_part : (form : AlertForm) (config : Config) (rules : List Rule) (source : LinkedRecord) (items : List Hits) (i : ℕ)
+    (hits : Hits) (old middle new : Showing) (done : Unit {0}) (why : WriteFault)
+    → i < length items
+    → hits ≡ get_or items i hits
+    → Shows (shown_in form config rules) (map (beside source) (take i items)) old middle (Ok done)
+    → Shows {A = Unit {0}} (shown_in form config rules) (beside source hits ∷ []) middle new (Err why)
     → Shows {A = Unit {0}} (shown_in form config rules) (map (beside source) items) old new (Err why)
 items_part form config rules source items i hits old middle new done why lt is so_far part =
     subst (λ (x : List SourcedItem). Shows {A = Unit {0}} (shown_in form config rules) x old new (Err why))
@@ -387,7 +393,7 @@ told_more source jobs i job lt is =
     ∙ ap sourced_items (sym (by_place-append source 0 front (job ∷ [])))
     ∙ ap (told_of source) (ap (λ (j : JobHits). front ++ j ∷ []) is ∙ sym (take_more jobs i job lt))
 
-pub jobs_step : (form : Form) (config : Config) (rules : List Rule) (source : ℕ → LinkedRecord) (jobs : List JobHits) (i : ℕ)
+pub jobs_step : (form : AlertForm) (config : Config) (rules : List Rule) (source : ℕ → LinkedRecord) (jobs : List JobHits) (i : ℕ)
     (job : JobHits) (old middle new : Showing) (done : Unit {0}) (outcome : Result (Unit {0}) WriteFault)
     → i < length jobs
     → job ≡ get_or jobs i job
@@ -398,7 +404,7 @@ jobs_step form config rules source jobs i job old middle new done outcome lt is 
     subst (λ (x : List SourcedItem). Shows (shown_in form config rules) x old new outcome) (told_more source jobs i job lt is)
     (shows_then form config rules (told_of source (take i jobs)) (map (beside (source i)) job.items) old middle new done outcome so_far more)
 
-pub jobs_part : (form : Form) (config : Config) (rules : List Rule) (source : ℕ → LinkedRecord) (jobs : List JobHits) (i : ℕ)
+pub jobs_part : (form : AlertForm) (config : Config) (rules : List Rule) (source : ℕ → LinkedRecord) (jobs : List JobHits) (i : ℕ)
     (job : JobHits) (old middle new : Showing) (done : Unit {0}) (why : WriteFault)
     → i < length jobs
     → job ≡ get_or jobs i job

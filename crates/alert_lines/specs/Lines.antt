@@ -6,13 +6,13 @@
 use Rattle.std.specs.Prelude.{ℕ, ◌+◌, List, [], ◌∷◌, ◌++◌}
 use Rattle.conf_types.specs.declared.classes.Class.{Class}
 use Rattle.alert_fast.specs.Line.{line_text}
-use Rattle.command_words.specs.declared.asked.Form.{Form}
-use Rattle.command_words.specs.declared.asked.Form.TheVariants as form
+use Rattle.command_words.specs.declared.asked.AlertForm.{AlertForm}
+use Rattle.command_words.specs.declared.asked.AlertForm.TheVariants as form
 use Rattle.alert_lines.specs.Events.{Alert}
 use Rattle.alert_lines.specs.Unified2.{records_text}
 
 -- the text of an alert after this many others, where these are the classes
-abbrev pub text_of : Form → List Class → ℕ → Alert → List ℕ
+abbrev pub text_of : AlertForm → List Class → ℕ → Alert → List ℕ
 text_of form.Lines classes before alert = line_text alert.what.head alert.what.rule classes
 text_of form.Unified2 classes before alert = records_text before alert
 

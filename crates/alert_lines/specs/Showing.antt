@@ -16,7 +16,7 @@ use Rattle.flow_lanes.specs.declared.answer.Hits.{Hits}
 use Rattle.flow_lanes.specs.declared.answer.JobHits.{JobHits}
 use Rattle.event_filters.specs.Filtering.{IsGiven}
 use Rattle.record_jobs.specs.Way.{LinkedRecord}
-use Rattle.command_words.specs.declared.asked.Form.{Form}
+use Rattle.command_words.specs.declared.asked.AlertForm.{AlertForm}
 use Rattle.alert_lines.specs.declared.lines.Subject as code
 use Rattle.alert_lines.specs.declared.writer.Shown as lent
 use Rattle.alert_lines.specs.declared.writer.AlertWriter.{AlertWriter}
@@ -32,7 +32,7 @@ use Rattle.alert_lines.specs.Gathering.{Sending, Emits, EmitsBy}
 
 -- an item whose events are shown: in which form, by which classes and rules, and its record
 pub record Subject : Type 0 where
-  pub form : Form
+  pub form : AlertForm
   pub classes : List Class
   pub rules : List Rule
   pub source : LinkedRecord
@@ -70,7 +70,7 @@ abbrev pub SourcedItem : Type 0
 SourcedItem = Beside LinkedRecord Hits
 
 -- the lines of items after earlier items, each of whose events was an alert
-unfoldable pub items_lines : Form → Config → List Rule → List Hits → List SourcedItem → List ℕ
+unfoldable pub items_lines : AlertForm → Config → List Rule → List Hits → List SourcedItem → List ℕ
 items_lines form config rules before items =
     texts_from (text_of form config.classes) (length (trail (item_events config rules) before))
     (carried (item_events config rules) before items)
@@ -121,7 +121,7 @@ sending_of now = record { written = now.written; block = waiting_in now.writer; 
 
 -- by what items are shown: in which form of alerts, by which configuration and rules
 pub record Shown : Type 0 where
-  pub form : Form
+  pub form : AlertForm
   pub config : Config
   pub rules : List Rule
 

@@ -13,7 +13,7 @@ use crate::record::LinkedRecord;
 use crate::tally::sum;
 use crate::unified2::push_records;
 use alert_fast::line;
-use command_words::Form;
+use command_words::AlertForm;
 use conf_types::Classes;
 use edge_io::{NoMemory, Sink, write_all};
 use packet_decode::ItemHead;
@@ -26,7 +26,7 @@ const BLOCK: usize = 65_536;
 /// decoding made its job.
 #[derive(Clone, Copy)]
 pub(crate) struct Subject<'a> {
-    pub form: Form,
+    pub form: AlertForm,
     pub classes: &'a Classes,
     pub rules: &'a [Rule],
     pub origin: &'a LinkedRecord,
@@ -74,8 +74,8 @@ fn push_alert(
         (beside subject.now.origin.now (event_of subject.now.head.now rule.now))) }
 {
     match subject.form {
-        Form::Lines => line(subject.head, rule, subject.classes, out),
-        Form::Unified2 => push_records(before, subject.origin, subject.head, rule, out),
+        AlertForm::Lines => line(subject.head, rule, subject.classes, out),
+        AlertForm::Unified2 => push_records(before, subject.origin, subject.head, rule, out),
     }
 }
 

@@ -4,7 +4,7 @@ ghost use Rattle.unified2_out.specs.Reading.{IsCauseOf};
 ghost use Rattle.alert_lines.specs.RecordLines.{AreLinesOf, counted_line, end_text, entry_line, entry_lines};
 ghost use Rattle.alert_lines.specs.RecordLines.{event_front, event_line, micro_text};
 
-use alert_fast::Piece::{Bytes, Number};
+use alert_fast::TextPiece::{Bytes, Number};
 use alert_fast::{push_address, push_pieces, six_digits};
 use edge_io::{Addr, NoMemory, Text};
 use std::alloc::Global;

@@ -13,7 +13,7 @@ use crate::lines::{Subject, offer, show_places};
 use crate::record::LinkedRecord;
 use crate::sources::Sources;
 use crate::tally::{Tally, sum};
-use command_words::Form;
+use command_words::AlertForm;
 use conf_types::Config;
 use edge_io::{NoMemory, Sink};
 use event_filters::Filters;
@@ -26,7 +26,7 @@ use std::alloc::Global;
 pub struct Shown<'a> {
     pub config: &'a Config,
     pub rules: &'a [Rule],
-    pub form: Form,
+    pub form: AlertForm,
 }
 
 /// The events of items, and their texts on the way to a sink.

@@ -14,12 +14,12 @@ use Rattle.command_words.specs.CommandLine.{has_its_capture, is_console, mode_na
 use Rattle.command_words.specs.CommandLine.{first_asked, run_by, values_after, values_by, command_line, has_others}
 use Rattle.command_words.specs.Table.{table}
 use Rattle.command_words.specs.Uses.{Use, uses_of, value_in}
-use Rattle.command_words.specs.declared.values.Values.{Values}
+use Rattle.command_words.specs.declared.values.CheckedValues.{CheckedValues}
 
 -- the texts and values that a run is made of
 record Made (wanted : Run) : Type 0 where
   text_of : List ℕ → Option (List ℕ)
-  values : Values
+  values : CheckedValues
   defined : Option Defined
   conf : List ℕ
   read : values_by text_of ≡ Some values
@@ -41,13 +41,13 @@ no_flags false true rest wanted is = absurd cc
 no_flags false false rest wanted is = is
 
 -- no records of a file are asked for where a run is
-no_file : (text_of : List ℕ → Option (List ℕ)) (others : Bool) (values : Values) (file : Option (List ℕ)) (wanted : Run) → asked_of text_of others values file ≡ Some (run wanted)
+no_file : (text_of : List ℕ → Option (List ℕ)) (others : Bool) (values : CheckedValues) (file : Option (List ℕ)) (wanted : Run) → asked_of text_of others values file ≡ Some (run wanted)
     → run_by text_of values ≡ Some (run wanted)
 no_file text_of others values None wanted is = is
 no_file text_of true values (Some file) wanted is = absurd cc
 no_file text_of false values (Some file) wanted is = absurd cc
 
-made_by : (text_of : List ℕ → Option (List ℕ)) (values : Values) (wanted : Run) → values_by text_of ≡ Some values → run_by text_of values ≡ Some (run wanted) → Made wanted
+made_by : (text_of : List ℕ → Option (List ℕ)) (values : CheckedValues) (wanted : Run) → values_by text_of ≡ Some values → run_by text_of values ≡ Some (run wanted) → Made wanted
 made_by text_of values wanted read is =
     option_and_then_some _ (maybe definition (text_of (codes "S"))) (run wanted) is (λ defined defines rest.
     option_and_then_some _ (text_of (codes "c")) (run wanted) rest (λ conf there ends.
@@ -135,7 +135,7 @@ mapped_from f (Some x) y is next = next x cc
 abbrev pub AreRanged : ℕ → ℕ → Type 0
 AreRanged lanes flush = ((1 ≤ lanes) × (lanes ≤ 64)) × ((1 ≤ flush) × (flush ≤ 65536))
 
-after_ranged : (text_of : List ℕ → Option (List ℕ)) (values : Values) → values_after text_of ≡ Some values → AreRanged values.lanes values.flush_point
+after_ranged : (text_of : List ℕ → Option (List ℕ)) (values : CheckedValues) → values_after text_of ≡ Some values → AreRanged values.lanes values.flush_point
 after_ranged text_of values is =
     option_and_then_some _ (maybe mode_named (text_of (codes "k"))) values is (λ checks read_checks is_checks.
     option_and_then_some _ (maybe (number_in 1 4294967295) (text_of (codes "n"))) values is_checks (λ limit read_limit is_limit.
@@ -145,15 +145,15 @@ after_ranged text_of values is =
     let few = number_or-ranged 1 1 64 lanes (text_of (codes "lanes")) (omega arith) (omega arith) read_lanes in
     let least = number_or-ranged 1024 1 65536 flush (text_of (codes "flush-point")) (omega arith) (omega arith) read_flush in
     mapped_from _ (number_or 1 0 2147483647 (text_of (codes "seed"))) values is_generate (λ seed are.
-    let same_lanes : lanes ≡ values.lanes = ap (λ (v : Values). v.lanes) are in
-    let same_flush : flush ≡ values.flush_point = ap (λ (v : Values). v.flush_point) are in
+    let same_lanes : lanes ≡ values.lanes = ap (λ (v : CheckedValues). v.lanes) are in
+    let same_flush : flush ≡ values.flush_point = ap (λ (v : CheckedValues). v.flush_point) are in
     subst (λ (n : ℕ). AreRanged n values.flush_point) same_lanes (subst (λ (n : ℕ). AreRanged lanes n) same_flush (few, least))))))))
 
-by_console : (b : Bool) (rest : Option Values) (values : Values) → cond b rest None ≡ Some values → rest ≡ Some values
+by_console : (b : Bool) (rest : Option CheckedValues) (values : CheckedValues) → cond b rest None ≡ Some values → rest ≡ Some values
 by_console true rest values is = is
 by_console false rest values is = absurd cc
 
-values_ranged : (text_of : List ℕ → Option (List ℕ)) (values : Values) → values_by text_of ≡ Some values → AreRanged values.lanes values.flush_point
+values_ranged : (text_of : List ℕ → Option (List ℕ)) (values : CheckedValues) → values_by text_of ≡ Some values → AreRanged values.lanes values.flush_point
 unfolding values_by
 values_ranged text_of values is = after_ranged text_of values (by_console (is_console (text_of (codes "A"))) (values_after text_of) values is)
 

@@ -14,8 +14,8 @@ use Rattle.clap.specs.declared.builder.action.ArgAction.{ArgAction}
 use Rattle.clap.specs.declared.builder.action.ArgAction.TheVariants.{Set, SetTrue}
 use Rattle.clap.specs.declared.parser.matches.ValueSource.{ValueSource}
 use Rattle.clap.specs.declared.parser.matches.ValueSource.TheVariants.{CommandLine, DefaultValue}
-use Rattle.command_words.specs.declared.syntax.Choice.{Choice as Kept}
-use Rattle.command_words.specs.declared.syntax.Choice.TheVariants as kept
+use Rattle.command_words.specs.declared.syntax.CommandArg.{CommandArg}
+use Rattle.command_words.specs.declared.syntax.CommandArg.TheVariants as kept
 use Rattle.command_words.specs.CommandLine.{Asked, asked_by, may_be_beside}
 use Rattle.command_words.specs.Table.{Choice, Label, letter, name, table, text_of}
 
@@ -40,14 +40,14 @@ rule_for choice = record (new_rule (text_of choice.label)) {
 }
 
 -- an option or flag as the code has it
-abbrev pub rule_as : Kept → Rule
+abbrev pub rule_as : CommandArg → Rule
 rule_as (kept.LetterOption id x) = record (new_rule id.now) { short = Some x; action = Some Set }
 rule_as (kept.NameOption id) = record (new_rule id.now) { long = Some id.now; action = Some Set }
 rule_as (kept.LetterFlag id x) = record (new_rule id.now) { short = Some x; action = Some SetTrue }
 rule_as (kept.NameFlag id) = record (new_rule id.now) { long = Some id.now; action = Some SetTrue }
 
 -- the command with more of them
-abbrev pub app_with : App → List Kept → App
+abbrev pub app_with : App → List CommandArg → App
 app_with app choices = fold (λ so_far choice. with_rule so_far (rule_as choice)) app choices
 
 abbrev pub plain_shape : Shape → Shape

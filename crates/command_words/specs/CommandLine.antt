@@ -19,9 +19,9 @@ use Rattle.command_words.specs.Table.{table}
 use Rattle.command_words.specs.Uses.{Use, uses_of, value_in}
 use Rattle.command_words.specs.declared.asked.ChecksumMode.{ChecksumMode}
 use Rattle.command_words.specs.declared.asked.ChecksumMode.TheVariants as mode
-use Rattle.command_words.specs.declared.asked.Form.{Form}
-use Rattle.command_words.specs.declared.asked.Form.TheVariants as form
-use Rattle.command_words.specs.declared.values.Values.{Values}
+use Rattle.command_words.specs.declared.asked.AlertForm.{AlertForm}
+use Rattle.command_words.specs.declared.asked.AlertForm.TheVariants as form
+use Rattle.command_words.specs.declared.values.CheckedValues.{CheckedValues}
 
 -- a variable's name and its value
 pub record Defined : Type 0 where
@@ -44,7 +44,7 @@ pub record Run : Type 0 where
   pub test : Bool
   pub skip_refused : Bool
   pub stats : Bool
-  pub form : Form
+  pub form : AlertForm
 
 -- what the words ask for
 pub data Asked : Type 0 where
@@ -83,7 +83,7 @@ is_console None = true
 is_console (Some text) = bytes_eq text (codes "console")
 
 -- the values after `-A`, by the text that each option has
-abbrev pub values_after : (List ℕ → Option (List ℕ)) → Option Values
+abbrev pub values_after : (List ℕ → Option (List ℕ)) → Option CheckedValues
 values_after text_of =
     maybe mode_named (text_of (codes "k")) >>= λ checks.
     maybe (number_in 1 4294967295) (text_of (codes "n")) >>= λ limit.
@@ -100,7 +100,7 @@ values_after text_of =
     }) (number_or 1 0 2147483647 (text_of (codes "seed")))
 
 -- the values that have a form of their own, by the text that each option has
-unfoldable pub values_by : (List ℕ → Option (List ℕ)) → Option Values
+unfoldable pub values_by : (List ℕ → Option (List ℕ)) → Option CheckedValues
 values_by text_of = if is_console (text_of (codes "A")) then values_after text_of else None
 
 -- ---- the steps after the reading
@@ -114,11 +114,11 @@ abbrev pub definition : List ℕ → Option Defined
 definition text = cut 61 text >>= λ parts. named parts.0 parts.1
 
 -- the form of alerts: lines, or Unified2 records under `--unified2`
-abbrev pub form_of : Bool → Form
+abbrev pub form_of : Bool → AlertForm
 form_of unified2 = if unified2 then form.Unified2 else form.Lines
 
 -- the run with this configuration and this variable
-abbrev pub run_with : (List ℕ → Option (List ℕ)) → Values → Option Defined → List ℕ → Run
+abbrev pub run_with : (List ℕ → Option (List ℕ)) → CheckedValues → Option Defined → List ℕ → Run
 run_with text_of values defined conf = record {
   conf = conf;
   capture = text_of (codes "r");
@@ -146,7 +146,7 @@ abbrev pub with_its_capture : Run → Option Asked
 with_its_capture wanted = if has_its_capture wanted then Some (run wanted) else None
 
 -- a run: `-S` defines a variable, if it is there; `-c` is there, and the capture
-abbrev pub run_by : (List ℕ → Option (List ℕ)) → Values → Option Asked
+abbrev pub run_by : (List ℕ → Option (List ℕ)) → CheckedValues → Option Asked
 run_by text_of values =
     maybe definition (text_of (codes "S")) >>= λ defined.
     text_of (codes "c") >>= λ conf.
@@ -157,12 +157,12 @@ abbrev pub if_alone : Bool → List ℕ → Option Asked
 if_alone others file = if others then None else Some (records_of file)
 
 -- the records of a Unified2 file, or a run
-abbrev pub asked_of : (List ℕ → Option (List ℕ)) → Bool → Values → Option (List ℕ) → Option Asked
+abbrev pub asked_of : (List ℕ → Option (List ℕ)) → Bool → CheckedValues → Option (List ℕ) → Option Asked
 asked_of text_of others values None = run_by text_of values
 asked_of text_of others values (Some file) = if_alone others file
 
 -- the first step that holds
-abbrev pub first_asked : (List ℕ → Option (List ℕ)) → Bool → Values → Option Asked
+abbrev pub first_asked : (List ℕ → Option (List ℕ)) → Bool → CheckedValues → Option Asked
 first_asked text_of others values =
     if is_some (text_of (codes "help")) then Some help
     else if is_some (text_of (codes "V")) then Some version

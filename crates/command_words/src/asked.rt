@@ -19,7 +19,7 @@ pub enum ChecksumMode {
 
 /// The form in which alerts are written.
 #[derive(Clone, Copy, Debug, PartialEq, Eq)]
-pub enum Form {
+pub enum AlertForm {
     /// A line each.
     Lines,
     /// `--unified2`: two Unified2 records each, the event and its packet.
@@ -67,7 +67,7 @@ pub struct Words<'a> {
     /// `--stats`, or `--generate`: the counts of the run are written.
     pub stats: bool,
     /// `--unified2`, or lines where nothing is said: the form of alerts.
-    pub form: Form,
+    pub form: AlertForm,
 }
 
 /// What the words of a command ask for.

@@ -5,9 +5,9 @@ ghost use Rattle.command_words.specs.Clap.{asked_in, given_in, others_in};
 ghost use Rattle.command_words.specs.CommandLine.{asked_by, definition, form_of, has_its_capture, if_alone, named, run_by};
 ghost use Rattle.command_words.specs.Told.{asked, defined_of, run_of};
 
-use crate::asked::{Command, Definition, Form, Words};
+use crate::asked::{AlertForm, Command, Definition, Words};
 use crate::given::{given, has_others, is_given};
-use crate::values::{Values, read_values};
+use crate::values::{CheckedValues, read_values};
 use clap::ArgMatches;
 use net_lists::{cut, is_name};
 
@@ -31,13 +31,13 @@ fn definition(text: &[u8]) -> Option<Definition<'_>>
 }
 
 /// The form of alerts.
-fn form_of(unified2: bool) -> Form
+fn form_of(unified2: bool) -> AlertForm
     ensures { result ≡ form_of unified2 }
 {
     if unified2 {
-        Form::Unified2
+        AlertForm::Unified2
     } else {
-        Form::Lines
+        AlertForm::Lines
     }
 }
 
@@ -53,7 +53,7 @@ fn has_its_capture(wanted: &Words<'_>) -> bool
 }
 
 /// The run that the words ask for.
-fn run_by<'a>(matches: &ArgMatches<'a>, values: Values) -> Option<Command<'a>>
+fn run_by<'a>(matches: &ArgMatches<'a>, values: CheckedValues) -> Option<Command<'a>>
     ensures { option_map asked result ≡ run_by (given_in (rows_of (found_of matches.now))) values }
 {
     let defined = match given(matches, "S") {

@@ -13,5 +13,5 @@ mod read;
 mod syntax;
 mod values;
 
-pub use asked::{ChecksumMode, Command, Definition, Form, Words};
+pub use asked::{AlertForm, ChecksumMode, Command, Definition, Words};
 pub use read::{WordsFault, read_words};

@@ -11,7 +11,7 @@ use std::alloc::{AllocError, Global};
 /// An option or a flag: its id, by which its matches are found, and what words use it by. An option takes a
 /// value, a flag takes none.
 #[derive(Clone, Copy, Debug)]
-pub(crate) enum Choice {
+pub(crate) enum CommandArg {
     /// An option with a letter.
     LetterOption(&'static str, char),
     /// An option with a name, which is its id.
@@ -24,43 +24,43 @@ pub(crate) enum Choice {
 
 /// The options and flags of the command. What is listed here may be used, and is refused beside
 /// `--read-unified2` as all but `--help` and `-V` is.
-const CHOICES: [Choice; 20] = [
-    Choice::LetterOption("c", 'c'),
-    Choice::LetterOption("r", 'r'),
-    Choice::LetterOption("A", 'A'),
-    Choice::LetterOption("k", 'k'),
-    Choice::LetterOption("n", 'n'),
-    Choice::LetterOption("S", 'S'),
-    Choice::NameOption("host-table"),
-    Choice::NameOption("lanes"),
-    Choice::NameOption("flush-point"),
-    Choice::NameOption("generate"),
-    Choice::NameOption("seed"),
-    Choice::NameOption("read-unified2"),
-    Choice::LetterFlag("q", 'q'),
-    Choice::LetterFlag("U", 'U'),
-    Choice::LetterFlag("T", 'T'),
-    Choice::LetterFlag("V", 'V'),
-    Choice::NameFlag("skip-refused"),
-    Choice::NameFlag("stats"),
-    Choice::NameFlag("unified2"),
-    Choice::NameFlag("help"),
+const CHOICES: [CommandArg; 20] = [
+    CommandArg::LetterOption("c", 'c'),
+    CommandArg::LetterOption("r", 'r'),
+    CommandArg::LetterOption("A", 'A'),
+    CommandArg::LetterOption("k", 'k'),
+    CommandArg::LetterOption("n", 'n'),
+    CommandArg::LetterOption("S", 'S'),
+    CommandArg::NameOption("host-table"),
+    CommandArg::NameOption("lanes"),
+    CommandArg::NameOption("flush-point"),
+    CommandArg::NameOption("generate"),
+    CommandArg::NameOption("seed"),
+    CommandArg::NameOption("read-unified2"),
+    CommandArg::LetterFlag("q", 'q'),
+    CommandArg::LetterFlag("U", 'U'),
+    CommandArg::LetterFlag("T", 'T'),
+    CommandArg::LetterFlag("V", 'V'),
+    CommandArg::NameFlag("skip-refused"),
+    CommandArg::NameFlag("stats"),
+    CommandArg::NameFlag("unified2"),
+    CommandArg::NameFlag("help"),
 ];
 
 /// An option or a flag as `clap` has it.
-fn argument<'a>(alloc: Global, choice: Choice) -> Arg<'a>
+fn argument<'a>(alloc: Global, choice: CommandArg) -> Arg<'a>
     ensures rule { rule_of result ≡ rule_as choice }
     ensures local { result.global ≡ false }
 {
     match choice {
-        Choice::LetterOption(id, letter) => {
+        CommandArg::LetterOption(id, letter) => {
             Arg::new(alloc, id).short(letter).action(ArgAction::Set)
         }
-        Choice::NameOption(name) => Arg::new(alloc, name).long(name).action(ArgAction::Set),
-        Choice::LetterFlag(id, letter) => {
+        CommandArg::NameOption(name) => Arg::new(alloc, name).long(name).action(ArgAction::Set),
+        CommandArg::LetterFlag(id, letter) => {
             Arg::new(alloc, id).short(letter).action(ArgAction::SetTrue)
         }
-        Choice::NameFlag(name) => Arg::new(alloc, name).long(name).action(ArgAction::SetTrue),
+        CommandArg::NameFlag(name) => Arg::new(alloc, name).long(name).action(ArgAction::SetTrue),
     }
 }
 
@@ -68,7 +68,7 @@ fn argument<'a>(alloc: Global, choice: Choice) -> Arg<'a>
 fn with_choices<'a>(
     alloc: Global,
     bare: Command<'a>,
-    choices: &[Choice],
+    choices: &[CommandArg],
 ) -> Result<Command<'a>, AllocError>
     ensures { IfOk result (λ command. app_of command ≡ app_with (app_of bare.entry) choices.now) }
 {

@@ -13,7 +13,7 @@ use net_lists::number_in;
 
 /// The values that have a form of their own, each in its range.
 #[derive(Clone, Copy, Debug)]
-pub(crate) struct Values {
+pub(crate) struct CheckedValues {
     pub checks: Option<ChecksumMode>,
     pub limit: Option<u32>,
     pub lanes: u32,
@@ -79,7 +79,7 @@ fn is_console(text: Option<&str>) -> bool
 
 /// The values, or None where one has another form or lies outside its range.
 #[tactic(auto, unfolding(crate::specs::CommandLine::values_by))]
-pub(crate) fn read_values(matches: &ArgMatches<'_>) -> Option<Values>
+pub(crate) fn read_values(matches: &ArgMatches<'_>) -> Option<CheckedValues>
     ensures { result ≡ values_by (given_in (rows_of (found_of matches.now))) }
 {
     if !is_console(given(matches, "A")) {
@@ -91,7 +91,7 @@ pub(crate) fn read_values(matches: &ArgMatches<'_>) -> Option<Values>
     let flush_point = number_or(1024, 1, 65536, given(matches, "flush-point"))?;
     let generate = maybe_number(1, 100_000, given(matches, "generate"))?;
     let seed = number_or(1, 0, 2_147_483_647, given(matches, "seed"))?;
-    Some(Values {
+    Some(CheckedValues {
         checks,
         limit,
         lanes,

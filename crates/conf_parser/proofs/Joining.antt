@@ -3,12 +3,12 @@ use Rattle.std.proofs.Common.{◌≡◌, ℕ, ◌+◌, ◌<◌, arith, length, B
 use Rattle.std.specs.Str.Lines.{lines}
 use Rattle.edge_io.specs.Bytes.{trimmed}
 use Rattle.net_lists.proofs.FirstLine.{lines-some}
-use Rattle.net_lists.specs.declared.lines.Numbered.{Numbered}
+use Rattle.net_lists.specs.declared.lines.NumberedLine.{NumberedLine}
 use Rattle.net_lists.specs.Lines.{numbered, has_content, bare_line, kept}
 use Rattle.conf_parser.specs.Lines.{is_open, without_last, joined_onto, joined_lines, kept_line}
 
 -- two fronts are one
-joined_onto-joined_onto : (n k : ℕ) (front line : List ℕ) (more : List Numbered) → joined_onto n front (joined_onto k line more) ≡ joined_onto n (front ++ line) more
+joined_onto-joined_onto : (n k : ℕ) (front line : List ℕ) (more : List NumberedLine) → joined_onto n front (joined_onto k line more) ≡ joined_onto n (front ++ line) more
 joined_onto-joined_onto n k front line [] = refl
 joined_onto-joined_onto n k front line (next ∷ rest) = ap (λ text. numbered n text ∷ rest) (sym (append_assoc front line next.text))
 
@@ -39,7 +39,7 @@ pub joined_lines-begin : (n : ℕ) (line : List ℕ) (more : List (List ℕ)) �
 unfolding joined_lines
 joined_lines-begin n line more = go (is_open line) (joined_lines (n + 1) more)
   where
-    go : (b : Bool) (rest : List Numbered)
+    go : (b : Bool) (rest : List NumberedLine)
         → joined_onto n [] (cond b (joined_onto n (without_last line) rest) (numbered n line ∷ rest)) ≡
         cond b (joined_onto n (without_last line) rest) (numbered n line ∷ rest)
     go true [] = refl
@@ -57,7 +57,7 @@ joined_lines-start n (x ∷ xs) some =
     ap (joined_lines n) first.begins ∙ sym (joined_lines-begin n first.line first.more) ∙ sym (ap (λ ls. joined_onto n [] (joined_lines n ls)) first.begins)
 
 -- the first line is kept or not, and then the others
-pub kept-cons : (line : Numbered) (more : List Numbered) → kept (line ∷ more) ≡ kept_line line ++ kept more
+pub kept-cons : (line : NumberedLine) (more : List NumberedLine) → kept (line ∷ more) ≡ kept_line line ++ kept more
 kept-cons line more = go (has_content (trimmed line.text))
   where
     go : (b : Bool) → cond b (bare_line line ∷ kept more) (kept more) ≡ cond b (bare_line line ∷ []) [] ++ kept more
@@ -82,6 +82,6 @@ joined_onto-end n k front text none =
     ∙ ap (λ ls. numbered n front ∷ joined_lines k ls) (sym (lines-empty text none))
 
 -- nothing is kept of an empty text
-pub kept-end : (all : List Numbered) (k : ℕ) (text : List ℕ) → length text ≡ 0 → all ++ kept (joined_lines k (lines text)) ≡ all
+pub kept-end : (all : List NumberedLine) (k : ℕ) (text : List ℕ) → length text ≡ 0 → all ++ kept (joined_lines k (lines text)) ≡ all
 unfolding joined_lines
 kept-end all k text none = ap (λ ls. all ++ kept (joined_lines k ls)) (lines-empty text none) ∙ append-nil all

@@ -11,8 +11,8 @@ use Rattle.net_lists.specs.Cutting.{first_word, after_word}
 use Rattle.net_lists.specs.Variables.{Variables}
 use Rattle.conf_parser.specs.declared.draft.Draft.{Draft}
 use Rattle.conf_parser.specs.declared.draft.Settings.{Settings}
-use Rattle.conf_parser.specs.declared.given.Given.{Given}
-use Rattle.conf_parser.specs.declared.given.Given.TheVariants.{Nothing, Rule, Skipped, Include}
+use Rattle.conf_parser.specs.declared.given.LineResult.{LineResult}
+use Rattle.conf_parser.specs.declared.given.LineResult.TheVariants.{Nothing, Rule, Skipped, Include}
 use Rattle.conf_parser.specs.declared.given.Onward.{Onward}
 use Rattle.conf_parser.specs.declared.name.Directive.{Directive}
 use Rattle.conf_parser.specs.declared.name.Directive.TheVariants as directive
@@ -46,7 +46,7 @@ abbrev pub with_variables : Settings → Variables → Settings
 with_variables settings variables = record settings { vars = variables }
 
 -- the answer of a step that changes the settings in their place, with the settings after it
-abbrev pub given_after : {E : Type 0} → Result Given E → Settings → Result Onward E
+abbrev pub given_after : {E : Type 0} → Result LineResult E → Settings → Result Onward E
 given_after (Ok given) new = Ok (record { settings = new; given = given })
 given_after (Err why) new = Err why
 

@@ -17,7 +17,7 @@ use Rattle.conf_parser.specs.declared.line.LoadStop.{LoadStop}
 use Rattle.conf_parser.specs.declared.line.LoadStop.TheVariants as stop
 use Rattle.conf_parser.specs.declared.loaded.Loaded.{Loaded}
 use Rattle.conf_parser.specs.declared.reading.Output.{Output}
-use Rattle.conf_parser.specs.declared.reading.Read.{Read}
+use Rattle.conf_parser.specs.declared.reading.ReadSoFar.{ReadSoFar}
 use Rattle.conf_parser.specs.declared.reading.Stopped.{Stopped}
 use Rattle.conf_parser.specs.declared.reading.Stopped.TheVariants as stopped
 use Rattle.conf_parser.specs.declared.reading.At.{At}
@@ -67,7 +67,7 @@ GoesOn host low count next reading (Ok x) = Goes host low (count x) reading (nex
 GoesOn host low count next reading (Err stop) = Stops host low reading stop
 
 -- what was read gives the reading after it
-abbrev pub whole_next : Read → Contents → Ended
+abbrev pub whole_next : ReadSoFar → Contents → Ended
 whole_next read contents = Whole read
 
 -- a file that was not loaded has its cause: a fault was counted, or told files lack the name
@@ -88,7 +88,7 @@ inner contents zero name at read = Whole read
 inner contents (suc left) name at read = file_read contents left name at read
 
 -- a file with these bytes, before its lines are read
-abbrev pub opened_of : ℕ → List ℕ → Read → List ℕ → Opened
+abbrev pub opened_of : ℕ → List ℕ → ReadSoFar → List ℕ → Opened
 opened_of left name read bytes = record {
   source = record { name = name; place = file_count read; depth = 16 - left };
   lines = content_lines bytes;
@@ -136,7 +136,7 @@ pub record AreHandedOut (output : Output) (out : Loaded) : Type 0 where
 
 -- the reading was whole: the variables and what it gives
 pub record IsWhole (ended : Ended) (vars : Variables) (out : Loaded) : Type 0 where
-  pub read : Read
+  pub read : ReadSoFar
   pub whole : ended ≡ Whole read
   pub vars_are : vars ≡ read.settings.vars
   pub out_is : out ≡ loaded_of read

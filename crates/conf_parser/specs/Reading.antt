@@ -11,8 +11,8 @@ use Rattle.std.specs.FinMap as map
 use Rattle.edge_io.specs.Files.{Files}
 use Rattle.net_lists.specs.Variables.{Variables}
 use Rattle.conf_parser.specs.declared.draft.Settings.{Settings}
-use Rattle.conf_parser.specs.declared.given.Given.{Given}
-use Rattle.conf_parser.specs.declared.given.Given.TheVariants.{Nothing, Rule, Skipped, Include}
+use Rattle.conf_parser.specs.declared.given.LineResult.{LineResult}
+use Rattle.conf_parser.specs.declared.given.LineResult.TheVariants.{Nothing, Rule, Skipped, Include}
 use Rattle.conf_parser.specs.declared.given.Onward.{Onward}
 use Rattle.conf_parser.specs.declared.line.Line.{Line}
 use Rattle.conf_parser.specs.declared.line.Warning.{Warning}
@@ -20,18 +20,18 @@ use Rattle.conf_parser.specs.declared.line.ConfFault.{ConfFault}
 use Rattle.conf_parser.specs.declared.line.ConfKind.{ConfKind}
 use Rattle.conf_parser.specs.declared.line.ConfKind.TheVariants.{TooLarge}
 use Rattle.conf_parser.specs.declared.reading.Output.{Output}
-use Rattle.conf_parser.specs.declared.reading.Read.{Read}
+use Rattle.conf_parser.specs.declared.reading.ReadSoFar.{ReadSoFar}
 use Rattle.conf_parser.specs.declared.reading.At.{At}
 use Rattle.conf_parser.specs.declared.reading.Source.{Source}
 use Rattle.conf_parser.specs.Settings.{first_draft}
-use Rattle.net_lists.specs.declared.lines.Numbered.{Numbered}
+use Rattle.net_lists.specs.declared.lines.NumberedLine.{NumberedLine}
 use Rattle.conf_parser.specs.Lines.{content_lines}
 use Rattle.conf_parser.specs.ConfLine.{conf_line}
 
 -- how a reading ends
 pub data Ended : Type 0 where
   -- all lines were read
-  Whole : Read → Ended
+  Whole : ReadSoFar → Ended
   -- a line is refused, or a file, at the line that includes it; what the lines before it hand on
   Refused : ConfFault → Output → Ended
   -- the contents lack this file; what the lines before it hand on
@@ -46,7 +46,7 @@ abbrev pub told : Files → Contents
 told files number name = map.get files name
 
 -- what goes on after a reading that was not ended
-abbrev pub onward : Ended → (Read → Ended) → Ended
+abbrev pub onward : Ended → (ReadSoFar → Ended) → Ended
 onward (Whole read) next = next read
 onward (Refused fault output) next = Refused fault output
 onward (Asks name output) next = Asks name output
@@ -56,11 +56,11 @@ abbrev pub fault_at : At → ConfKind → ConfFault
 fault_at at kind = record { file = at.file; line = at.line; kind = kind }
 
 -- the place of a line
-abbrev pub line_at : Source → Numbered → At
+abbrev pub line_at : Source → NumberedLine → At
 line_at source line = record { file = source.place; line = line.number }
 
 -- how many files were read
-abbrev pub file_count : Read → ℕ
+abbrev pub file_count : ReadSoFar → ℕ
 file_count read = length read.output.files
 
 -- the output with one more file
@@ -68,14 +68,14 @@ abbrev pub with_file : Output → List ℕ → Output
 with_file output name = record output { files = output.files ++ name ∷ [] }
 
 -- the output with one more rule line
-abbrev pub with_rule : Output → Source → Numbered → Output
+abbrev pub with_rule : Output → Source → NumberedLine → Output
 with_rule output source line = record output {
   rules = output.rules
       ++ record { file = source.place; line = line.number; text = line.text } ∷ [];
 }
 
 -- the output with one more warning
-abbrev pub with_warning : Output → Source → Numbered → List ℕ → List ℕ → Output
+abbrev pub with_warning : Output → Source → NumberedLine → List ℕ → List ℕ → Output
 with_warning output source line directive name =
     record output {
       warnings = output.warnings ++ record {
@@ -87,15 +87,15 @@ with_warning output source line directive name =
     }
 
 -- these settings, and what was handed on
-abbrev pub read_with : Settings → Output → Read
+abbrev pub read_with : Settings → Output → ReadSoFar
 read_with settings output = record { settings = settings; output = output }
 
 -- how an included file is read: by its name, where the line is, and what was read before
 abbrev pub Including : Type 0
-Including = List ℕ → At → Read → Ended
+Including = List ℕ → At → ReadSoFar → Ended
 
 -- the reading after what a line hands on
-abbrev pub given_read : Including → Source → Numbered → Settings → Output → Given → Ended
+abbrev pub given_read : Including → Source → NumberedLine → Settings → Output → LineResult → Ended
 given_read including source line settings output Nothing = Whole (read_with settings output)
 given_read including source line settings output Rule = Whole (read_with settings (with_rule output source line))
 given_read including source line settings output (Skipped directive name) =
@@ -103,18 +103,18 @@ given_read including source line settings output (Skipped directive name) =
 given_read including source line settings output (Include name) = including name (line_at source line) (read_with settings output)
 
 -- the reading after the meaning of a line
-abbrev pub meaning_read : Including → Source → Numbered → Output → Result Onward ConfKind → Ended
+abbrev pub meaning_read : Including → Source → NumberedLine → Output → Result Onward ConfKind → Ended
 meaning_read including source line output (Ok after) = given_read including source line after.settings output after.given
 meaning_read including source line output (Err kind) = Refused (fault_at (line_at source line) kind) output
 
 -- the reading after one line
-unfoldable pub line_read : Including → Source → Numbered → Read → Ended
+unfoldable pub line_read : Including → Source → NumberedLine → ReadSoFar → Ended
 line_read including source line read =
     meaning_read including source line read.output (conf_line
     (record { file = source.name; depth = source.depth; files = file_count read }) read.settings line.text)
 
 -- the reading after all lines of a file
-unfoldable pub lines_read : Including → Source → List Numbered → Read → Ended
+unfoldable pub lines_read : Including → Source → List NumberedLine → ReadSoFar → Ended
 lines_read including source [] read = Whole read
 lines_read including source (line ∷ rest) read = onward (line_read including source line read) (lines_read including source rest)
 
@@ -127,7 +127,7 @@ abbrev pub most_bytes : ℕ
 most_bytes = 16777216
 
 -- the reading after a file with these contents
-unfoldable pub contents_read : Including → ℕ → List ℕ → At → Read → Option (List ℕ) → Ended
+unfoldable pub contents_read : Including → ℕ → List ℕ → At → ReadSoFar → Option (List ℕ) → Ended
 contents_read including depth name at read None = Asks name read.output
 contents_read including depth name at read (Some bytes) =
     if nat_le (length bytes) most_bytes
@@ -136,14 +136,14 @@ contents_read including depth name at read (Some bytes) =
     else too_large at name read.output
 
 -- The reading after a file, where includes may nest this many times more. (Where none may, no line is an include.)
-unfoldable pub file_read : Contents → ℕ → List ℕ → At → Read → Ended
+unfoldable pub file_read : Contents → ℕ → List ℕ → At → ReadSoFar → Ended
 file_read contents zero name at read =
     contents_read (λ inner place before. Whole before) 16 name at read (contents (file_count read) name)
 file_read contents (suc left) name at read =
     contents_read (file_read contents left) (15 - left) name at read (contents (file_count read) name)
 
 -- what is read before the first file
-abbrev pub nothing_read : Variables → Read
+abbrev pub nothing_read : Variables → ReadSoFar
 nothing_read variables = record {
   settings = record { vars = variables; draft = first_draft };
   output = record { files = []; rules = []; warnings = [] };

@@ -9,7 +9,7 @@
 use Rattle.std.specs.Prelude.{ℕ, ◌==◌, ◌&&◌, ◌||◌, ◌++◌, Bool, true, false, Option, Some, None, Result, Ok, Err, List, [], ◌∷◌, length, map, is_some, is_none, option_and_then, codes, nat_le, if◌then◌else◌}
 use Rattle.std.specs.List.{list_any}
 use Rattle.net_lists.specs.declared.part.Part.{Part}
-use Rattle.net_lists.specs.declared.part.Bounds.{Bounds}
+use Rattle.net_lists.specs.declared.part.ValueBounds.{ValueBounds}
 use Rattle.net_lists.specs.Parts.{one_port}
 use Rattle.net_lists.specs.Numbers.{number_in}
 use Rattle.net_lists.specs.Variables.{Variables}
@@ -21,8 +21,8 @@ use Rattle.conf_parser.specs.declared.draft.StreamDraft.{StreamDraft}
 use Rattle.conf_parser.specs.declared.draft.StreamGlobal.{StreamGlobal}
 use Rattle.conf_parser.specs.declared.stream5.Partial.{Partial}
 use Rattle.conf_parser.specs.declared.stream5.TcpDraft.{TcpDraft}
-use Rattle.conf_parser.specs.declared.stream5.Side.{Side}
-use Rattle.conf_parser.specs.declared.stream5.Side.TheVariants.{Client, Server, Both}
+use Rattle.conf_parser.specs.declared.stream5.PortsSide.{PortsSide}
+use Rattle.conf_parser.specs.declared.stream5.PortsSide.TheVariants.{Client, Server, Both}
 use Rattle.conf_parser.specs.declared.stream5.GlobalName.{GlobalName}
 use Rattle.conf_parser.specs.declared.stream5.GlobalName.TheVariants as global
 use Rattle.conf_parser.specs.declared.stream5.TcpName.{TcpName}
@@ -181,7 +181,7 @@ unfoldable pub handshake_seconds : List ℕ → Option ℕ
 handshake_seconds value = if is_empty value then Some 0 else number_in 0 86400 value
 
 -- whose ports a `ports` setting gives
-unfoldable pub side : List ℕ → Option Side
+unfoldable pub side : List ℕ → Option PortsSide
 side word =
     if is_word word (codes "client") then Some Client
     else if is_word word (codes "server") then Some Server
@@ -189,18 +189,19 @@ side word =
     else None
 
 -- the ports so far and the one that a word spells
-unfoldable pub port_word : List (Part (Bounds ℕ)) → List ℕ → Result (List (Part (Bounds ℕ))) ConfKind
+unfoldable pub port_word : List (Part (ValueBounds ℕ)) → List ℕ → Result (List (Part (ValueBounds ℕ))) ConfKind
 port_word ports word = mapped (λ port. ports ++ one_port port ∷ []) (or_kind BadValue (number_in 0 65535 word))
 
 -- `all` is every port, a list without parts; `none` is no list; else the numbers of the words
-unfoldable pub port_words : List ℕ → Result (Option (List (Part (Bounds ℕ)))) ConfKind
+unfoldable pub port_words : List ℕ → Result (Option (List (Part (ValueBounds ℕ)))) ConfKind
 port_words value =
     if is_word value (codes "all") then Ok (Some [])
     else if is_word value (codes "none") then Ok None
     else mapped (λ ports. Some ports) (draft_after port_word [] (words value))
 
 -- the ports of both, where a list without parts has every port
-abbrev pub joined_ports : Option (List (Part (Bounds ℕ))) → Option (List (Part (Bounds ℕ))) → Option (List (Part (Bounds ℕ)))
+abbrev pub joined_ports : Option (List (Part (ValueBounds ℕ))) → Option (List (Part (ValueBounds ℕ)))
+    → Option (List (Part (ValueBounds ℕ)))
 joined_ports None more = more
 joined_ports (Some ports) None = Some ports
 joined_ports (Some []) (Some more) = Some []
@@ -208,15 +209,15 @@ joined_ports (Some (port ∷ ports)) (Some []) = Some []
 joined_ports (Some (port ∷ ports)) (Some (next ∷ more)) = Some ((port ∷ ports) ++ next ∷ more)
 
 -- more ports for the client's data
-abbrev pub with_client : TcpDraft → Option (List (Part (Bounds ℕ))) → TcpDraft
+abbrev pub with_client : TcpDraft → Option (List (Part (ValueBounds ℕ))) → TcpDraft
 with_client draft ports = record draft { client = joined_ports draft.client ports; ports_stood = true }
 
 -- more ports for the server's data
-abbrev pub with_server : TcpDraft → Option (List (Part (Bounds ℕ))) → TcpDraft
+abbrev pub with_server : TcpDraft → Option (List (Part (ValueBounds ℕ))) → TcpDraft
 with_server draft ports = record draft { server = joined_ports draft.server ports; ports_stood = true }
 
 -- more ports on a side
-abbrev pub with_ports : TcpDraft → Side → Option (List (Part (Bounds ℕ))) → TcpDraft
+abbrev pub with_ports : TcpDraft → PortsSide → Option (List (Part (ValueBounds ℕ))) → TcpDraft
 with_ports draft Client ports = with_client draft ports
 with_ports draft Server ports = with_server draft ports
 with_ports draft Both ports = with_server (with_client draft ports) ports
@@ -281,7 +282,7 @@ abbrev pub first_tcp : TcpDraft
 first_tcp = record { engine = first_engine; client = None; server = None; ports_stood = false }
 
 -- the client's ports: the default where there is no `ports` setting
-abbrev pub client_ports_of : TcpDraft → Option (List (Part (Bounds ℕ)))
+abbrev pub client_ports_of : TcpDraft → Option (List (Part (ValueBounds ℕ)))
 client_ports_of draft = if draft.ports_stood then draft.client else Some (map one_port default_ports)
 
 -- the engine that a line's settings give

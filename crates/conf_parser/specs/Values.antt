@@ -16,7 +16,7 @@ use Rattle.net_lists.specs.Expansion.{expansion}
 use Rattle.net_lists.specs.declared.fault.ExpandFault.{ExpandFault}
 use Rattle.net_lists.specs.declared.fault.ExpandFault.TheVariants as expand
 use Rattle.net_lists.specs.declared.part.Part.{Part}
-use Rattle.net_lists.specs.declared.part.Bounds.{Bounds}
+use Rattle.net_lists.specs.declared.part.ValueBounds.{ValueBounds}
 use Rattle.net_lists.specs.declared.part.AddrBounds.{AddrBounds}
 use Rattle.net_lists.specs.Addresses.{address_bounds}
 use Rattle.net_lists.specs.Parts.{port_bounds}
@@ -71,7 +71,7 @@ unfoldable pub address_list : List ℕ → Result (List (Part AddrBounds)) ConfK
 address_list text = or_kind BadAddress (list_parts address_bounds text) >>= within_limit
 
 -- the list of ports that a text spells, by the grammar of lists
-unfoldable pub port_list : List ℕ → Result (List (Part (Bounds ℕ))) ConfKind
+unfoldable pub port_list : List ℕ → Result (List (Part (ValueBounds ℕ))) ConfKind
 port_list text = or_kind BadPort (list_parts port_bounds text) >>= within_limit
 
 -- a list of addresses after the expansion of its text

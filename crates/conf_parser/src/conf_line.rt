@@ -8,7 +8,7 @@ use crate::config_lines::{checksum_mode, classification, detection, event_queue}
 use crate::draft::{Draft, Settings, Spot};
 use crate::events::{event_filter, suppress};
 use crate::frag3::{frag3_engine, frag3_global};
-use crate::given::{Given, Onward};
+use crate::given::{LineResult, Onward};
 use crate::line::ConfKind;
 use crate::name::{
     ConfigName, Directive, PreprocessorName, config_name, directive_named, preprocessor_name,
@@ -28,11 +28,11 @@ fn definition_line(
     settings: &mut Settings,
     form: ValueForm,
     rest: &[u8],
-) -> Result<Given, Stop<ConfKind>>
+) -> Result<LineResult, Stop<ConfKind>>
     ensures { Gives (given_after result settings.new) (definition_line settings.old form rest.now) }
 {
     definition(alloc, &mut settings.vars, form, rest)?;
-    Ok(Given::Nothing)
+    Ok(LineResult::Nothing)
 }
 
 /// An include, before its file is read.
@@ -42,11 +42,11 @@ fn include_line(
     settings: &Settings,
     spot: &Spot<'_>,
     rest: &[u8],
-) -> Result<Given, Stop<ConfKind>>
+) -> Result<LineResult, Stop<ConfKind>>
     ensures { Gives (given_after result settings.now) (include_line settings.now spot.now rest.now) }
 {
     let name = include(alloc, &settings.vars, spot, rest)?;
-    Ok(Given::Include(name))
+    Ok(LineResult::Include(name))
 }
 
 /// Changes the draft by a `config` line, by what comes after its colon.
@@ -95,12 +95,12 @@ fn config_value(
 }
 
 /// A line that is skipped with a warning.
-fn skipped(alloc: Global, word: &[u8], name: &[u8]) -> Result<Given, Stop<ConfKind>>
-    ensures { Gives result (Ok (Given.Skipped word.now name.now)) }
+fn skipped(alloc: Global, word: &[u8], name: &[u8]) -> Result<LineResult, Stop<ConfKind>>
+    ensures { Gives result (Ok (LineResult.Skipped word.now name.now)) }
 {
     let directive = Text::copy(alloc, word)?;
     let name = Text::copy(alloc, name)?;
-    Ok(Given::Skipped(directive, name))
+    Ok(LineResult::Skipped(directive, name))
 }
 
 /// A `config` line, by what comes after the word.
@@ -110,7 +110,7 @@ fn config_line(
     settings: &mut Settings,
     word: &[u8],
     rest: &[u8],
-) -> Result<Given, Stop<ConfKind>>
+) -> Result<LineResult, Stop<ConfKind>>
     ensures { Gives (given_after result settings.new) (config_line settings.old word.now rest.now) }
 {
     let (name, after) = name_and_rest(rest);
@@ -118,7 +118,7 @@ fn config_line(
         return skipped(alloc, word, name);
     };
     config_value(alloc, &mut settings.draft, known, after)?;
-    Ok(Given::Nothing)
+    Ok(LineResult::Nothing)
 }
 
 /// Changes the draft by a `preprocessor` line, by what comes after its name.
@@ -149,7 +149,7 @@ fn preprocessor_line(
     settings: &mut Settings,
     word: &[u8],
     rest: &[u8],
-) -> Result<Given, Stop<ConfKind>>
+) -> Result<LineResult, Stop<ConfKind>>
     ensures { Gives (given_after result settings.new) (preprocessor_line settings.old word.now rest.now) }
 {
     let (name, after) = name_and_rest(rest);
@@ -157,16 +157,16 @@ fn preprocessor_line(
         return skipped(alloc, word, name);
     };
     preprocessor_draft(alloc, &settings.vars, &mut settings.draft, known, after)?;
-    Ok(Given::Nothing)
+    Ok(LineResult::Nothing)
 }
 
 /// An `event_filter` line.
 #[tactic(auto, unfolding(crate::specs::ConfLine::filter_line))]
-fn filter_line(settings: &mut Settings, rest: &[u8]) -> Result<Given, Stop<ConfKind>>
+fn filter_line(settings: &mut Settings, rest: &[u8]) -> Result<LineResult, Stop<ConfKind>>
     ensures { Gives (given_after result settings.new) (filter_line settings.old rest.now) }
 {
     event_filter(&mut settings.draft.filters, rest)?;
-    Ok(Given::Nothing)
+    Ok(LineResult::Nothing)
 }
 
 /// A `suppress` line.
@@ -175,11 +175,11 @@ fn suppress_line(
     alloc: Global,
     settings: &mut Settings,
     rest: &[u8],
-) -> Result<Given, Stop<ConfKind>>
+) -> Result<LineResult, Stop<ConfKind>>
     ensures { Gives (given_after result settings.new) (suppress_line settings.old rest.now) }
 {
     suppress(alloc, &settings.vars, &mut settings.draft.suppress, rest)?;
-    Ok(Given::Nothing)
+    Ok(LineResult::Nothing)
 }
 
 /// The table of directives, by the first word and what comes after it: what the line hands on.
@@ -191,11 +191,11 @@ fn directive_line(
     directive: Directive,
     word: &[u8],
     rest: &[u8],
-) -> Result<Given, Stop<ConfKind>>
+) -> Result<LineResult, Stop<ConfKind>>
     ensures { Gives (given_after result settings.new) (directive_line spot.now settings.old directive word.now rest.now) }
 {
     match directive {
-        Directive::Rule => Ok(Given::Rule),
+        Directive::Rule => Ok(LineResult::Rule),
         Directive::Var => definition_line(alloc, settings, ValueForm::Any, rest),
         Directive::IpVar => definition_line(alloc, settings, ValueForm::Addresses, rest),
         Directive::PortVar => definition_line(alloc, settings, ValueForm::Ports, rest),

@@ -55,9 +55,9 @@ fn past_number(value: &[u8]) -> Result<(), Stop<ConfKind>>
 
 /// The settings of `frag3_global`.
 #[derive(Drop)]
-struct GlobalStep;
+struct FragGlobalStep;
 
-impl SettingStep<u32> for GlobalStep {
+impl SettingStep<u32> for FragGlobalStep {
     ghost alone = { λ step name. false };
 
     ghost next_draft = { λ step frags name value. global_setting frags name value };
@@ -95,7 +95,7 @@ pub fn frag3_global(draft: &mut FragDraft, rest: &[u8]) -> Result<(), Stop<ConfK
 {
     let text = setting_text(rest)?;
     let mut frags = 8192;
-    change_by_settings(text, &GlobalStep, &mut frags)?;
+    change_by_settings(text, &FragGlobalStep, &mut frags)?;
     put_max_frags(draft, frags)
 }
 

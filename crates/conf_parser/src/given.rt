@@ -5,7 +5,7 @@ use edge_io::Text;
 
 /// What a line hands on.
 #[derive(Drop)]
-pub enum Given {
+pub enum LineResult {
     Nothing,
     /// The line is a rule.
     Rule,
@@ -19,5 +19,5 @@ pub enum Given {
 #[derive(Drop)]
 pub struct Onward {
     pub settings: Settings,
-    pub given: Given,
+    pub given: LineResult,
 }

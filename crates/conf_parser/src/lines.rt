@@ -5,7 +5,7 @@ ghost use Rattle.net_lists.specs.Lines.{numbered};
 ghost use Rattle.conf_parser.specs.Lines.{is_open, without_last, joined_lines, kept_line, content_lines};
 
 use edge_io::{Items, NoMemory, Text};
-use net_lists::{Numbered, cut_line, has_content, trimmed};
+use net_lists::{NumberedLine, cut_line, has_content, trimmed};
 use std::alloc::Global;
 
 /// Whether the line ends in a backslash.
@@ -74,10 +74,10 @@ fn joined_line<'a>(alloc: Global, text: &'a [u8], number: u32) -> Result<Joined<
 /// The lines so far and one more, without the blanks at its ends, if it is neither empty nor a comment.
 fn with_content(
     alloc: Global,
-    all: Items<Numbered>,
+    all: Items<NumberedLine>,
     number: u32,
     line: &[u8],
-) -> Result<Items<Numbered>, NoMemory>
+) -> Result<Items<NumberedLine>, NoMemory>
     ensures { IfOk result (λ next. next ≡ all ++ kept_line (numbered number line.now)) }
 {
     let text = trimmed(line);
@@ -86,13 +86,13 @@ fn with_content(
     }
     let text = Text::copy(alloc, text)?;
     let mut all = all;
-    all.push(Numbered { number, text })?;
+    all.push(NumberedLine { number, text })?;
     Ok(all)
 }
 
 /// The lines of a file that are read, in order.
 #[tactic(auto, unfolding(crate::specs::Lines::content_lines))]
-pub fn content_lines(alloc: Global, bytes: &[u8]) -> Result<Items<Numbered>, NoMemory>
+pub fn content_lines(alloc: Global, bytes: &[u8]) -> Result<Items<NumberedLine>, NoMemory>
     requires { length bytes.now ≤ 16777216 }
     ensures { IfOk result (λ lines. lines ≡ content_lines bytes.now) }
 {

@@ -15,12 +15,12 @@ use crate::draft::Settings;
 use crate::line::{ConfFault, ConfKind, LoadStop};
 use crate::lines::content_lines;
 use crate::loaded::Loaded;
-use crate::reading::{At, Next, Opened, Output, Read, Source, Stopped};
+use crate::reading::{AfterLine, At, Opened, Output, ReadSoFar, Source, Stopped};
 use crate::settings::{config_of, first_draft};
 use crate::steps::line_step;
 use crate::variables::MOST_DEPTH;
 use edge_io::{Host, Items, LoadFault, NoMemory, Text};
-use net_lists::{Numbered, Vars};
+use net_lists::{NumberedLine, Vars};
 use std::alloc::Global;
 use std::mem;
 
@@ -60,7 +60,7 @@ fn opened(
     alloc: Global,
     left: usize,
     name: Text,
-    read: Read,
+    read: ReadSoFar,
     bytes: &[u8],
 ) -> Result<Opened, NoMemory>
     requires few { file_count read < most_files }
@@ -78,7 +78,7 @@ fn opened(
             depth: MOST_DEPTH - left,
         },
         lines,
-        read: Read { output, ..read },
+        read: ReadSoFar { output, ..read },
     })
 }
 
@@ -120,7 +120,7 @@ fn open_file<H: Host>(
     left: usize,
     name: Text,
     at: At,
-    read: Read,
+    read: ReadSoFar,
 ) -> Result<Opened, Stopped>
     requires name { MayBeRead (file_count read) name }
     requires left { left ≤ 16 }
@@ -149,9 +149,9 @@ fn read_lines<H: Host>(
     host: &mut H,
     left: usize,
     source: &Source,
-    lines: &[Numbered],
-    read: Read,
-) -> Result<Read, Stopped>
+    lines: &[NumberedLine],
+    read: ReadSoFar,
+) -> Result<ReadSoFar, Stopped>
     requires name { is_utf8 source.now.name ≡ true }
     requires few { file_count read ≤ most_files }
     requires left { left ≤ 16 }
@@ -179,9 +179,9 @@ fn read_line<H: Host>(
     host: &mut H,
     left: usize,
     source: &Source,
-    line: &Numbered,
-    read: Read,
-) -> Result<Read, Stopped>
+    line: &NumberedLine,
+    read: ReadSoFar,
+) -> Result<ReadSoFar, Stopped>
     requires name { is_utf8 source.now.name ≡ true }
     requires few { file_count read ≤ most_files }
     requires left { left ≤ 16 }
@@ -194,8 +194,8 @@ fn read_line<H: Host>(
     ensures only_loaded { OnlyLoaded H.Host host.old host.new }
 {
     match line_step(alloc, source, line, read)? {
-        Next::Onward(read) => Ok(read),
-        Next::Included(name, read) => {
+        AfterLine::Onward(read) => Ok(read),
+        AfterLine::Included(name, read) => {
             let at = At {
                 file: source.place,
                 line: line.number,
@@ -214,8 +214,8 @@ fn included<H: Host>(
     left: usize,
     name: Text,
     at: At,
-    read: Read,
-) -> Result<Read, Stopped>
+    read: ReadSoFar,
+) -> Result<ReadSoFar, Stopped>
     requires name { MayBeRead (file_count read) name }
     requires left { left ≤ 16 }
     ensures goes { (seen : Option Files) → MaySee (H.contents host.new) (H.agrees host.new) seen
@@ -240,8 +240,8 @@ fn read_file<H: Host>(
     left: usize,
     name: Text,
     at: At,
-    read: Read,
-) -> Result<Read, Stopped>
+    read: ReadSoFar,
+) -> Result<ReadSoFar, Stopped>
     requires name { MayBeRead (file_count read) name }
     requires left { left ≤ 16 }
     ensures goes { (seen : Option Files) → MaySee (H.contents host.new) (H.agrees host.new) seen
@@ -259,10 +259,10 @@ fn read_file<H: Host>(
 }
 
 /// What is read before the first file.
-fn nothing_read(alloc: Global, vars: Vars) -> Read
+fn nothing_read(alloc: Global, vars: Vars) -> ReadSoFar
     ensures { result ≡ nothing_read vars }
 {
-    Read {
+    ReadSoFar {
         settings: Settings {
             vars,
             draft: first_draft(alloc),
@@ -276,11 +276,11 @@ fn nothing_read(alloc: Global, vars: Vars) -> Read
 }
 
 /// Hands out what a whole reading gives.
-fn hand_out(read: Read, vars: &mut Vars, out: &mut Loaded)
+fn hand_out(read: ReadSoFar, vars: &mut Vars, out: &mut Loaded)
     ensures vars { vars.new ≡ read.settings.vars }
     ensures out { out.new ≡ loaded_of read }
 {
-    let Read { settings, output } = read;
+    let ReadSoFar { settings, output } = read;
     *vars = settings.vars;
     *out = Loaded {
         config: config_of(settings.draft),

@@ -3,7 +3,7 @@
 use crate::draft::Settings;
 use crate::line::{ConfFault, Line, Warning};
 use edge_io::{Items, NoMemory, Text};
-use net_lists::Numbered;
+use net_lists::NumberedLine;
 
 /// What the lines read so far hand on.
 #[derive(Drop)]
@@ -16,7 +16,7 @@ pub struct Output {
 
 /// What the lines read so far gave.
 #[derive(Drop)]
-pub struct Read {
+pub struct ReadSoFar {
     pub settings: Settings,
     pub output: Output,
 }
@@ -62,16 +62,16 @@ pub struct Source {
 
 /// What goes on after a line.
 #[derive(Drop)]
-pub enum Next {
-    Onward(Read),
+pub enum AfterLine {
+    Onward(ReadSoFar),
     /// The file of this name is read here.
-    Included(Text, Read),
+    Included(Text, ReadSoFar),
 }
 
 /// A file that was loaded, before its lines are read.
 #[derive(Drop)]
 pub struct Opened {
     pub source: Source,
-    pub lines: Items<Numbered>,
-    pub read: Read,
+    pub lines: Items<NumberedLine>,
+    pub read: ReadSoFar,
 }

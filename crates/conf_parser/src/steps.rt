@@ -6,11 +6,11 @@ ghost use Rattle.conf_parser.specs.Steps.{next_read, next_count, MayGive, MayGoO
 
 use crate::conf_line::conf_line;
 use crate::draft::{Settings, Spot};
-use crate::given::Given;
+use crate::given::LineResult;
 use crate::line::{ConfFault, ConfKind, Line, Warning};
-use crate::reading::{Next, Output, Read, Source, Stopped};
+use crate::reading::{AfterLine, Output, ReadSoFar, Source, Stopped};
 use edge_io::{NoMemory, Text};
-use net_lists::{Numbered, Stop};
+use net_lists::{NumberedLine, Stop};
 use std::alloc::Global;
 
 /// The output with one more rule line.
@@ -18,7 +18,7 @@ fn with_rule(
     alloc: Global,
     output: Output,
     source: &Source,
-    line: &Numbered,
+    line: &NumberedLine,
 ) -> Result<Output, NoMemory>
     ensures { IfOk result (λ next. next ≡ with_rule output source.now line.now) }
 {
@@ -45,7 +45,7 @@ fn with_rule(
 fn with_warning(
     output: Output,
     source: &Source,
-    line: &Numbered,
+    line: &NumberedLine,
     directive: Text,
     name: Text,
 ) -> Result<Output, NoMemory>
@@ -74,11 +74,11 @@ fn with_warning(
 fn given_next(
     alloc: Global,
     source: &Source,
-    line: &Numbered,
+    line: &NumberedLine,
     settings: Settings,
     output: Output,
-    given: Given,
-) -> Result<Next, NoMemory>
+    given: LineResult,
+) -> Result<AfterLine, NoMemory>
     requires { MayGive (length output.files) given }
     ensures next { IfOk result (λ next. (including : Including)
         → given_read including source.now line.now settings output given ≡ next_read including source.now line.now next) }
@@ -86,21 +86,21 @@ fn given_next(
     ensures may { IfOk result MayGoOn }
 {
     match given {
-        Given::Nothing => Ok(Next::Onward(Read { settings, output })),
-        Given::Rule => {
+        LineResult::Nothing => Ok(AfterLine::Onward(ReadSoFar { settings, output })),
+        LineResult::Rule => {
             let output = with_rule(alloc, output, source, line)?;
-            Ok(Next::Onward(Read { settings, output }))
+            Ok(AfterLine::Onward(ReadSoFar { settings, output }))
         }
-        Given::Skipped(directive, name) => {
+        LineResult::Skipped(directive, name) => {
             let output = with_warning(output, source, line, directive, name)?;
-            Ok(Next::Onward(Read { settings, output }))
+            Ok(AfterLine::Onward(ReadSoFar { settings, output }))
         }
-        Given::Include(name) => Ok(Next::Included(name, Read { settings, output })),
+        LineResult::Include(name) => Ok(AfterLine::Included(name, ReadSoFar { settings, output })),
     }
 }
 
 /// Why the reading stops at a line of this file.
-fn line_stop(source: &Source, line: &Numbered, output: Output, stop: Stop<ConfKind>) -> Stopped
+fn line_stop(source: &Source, line: &NumberedLine, output: Output, stop: Stop<ConfKind>) -> Stopped
     ensures { result ≡ line_stop source.now line.now output stop }
 {
     match stop {
@@ -120,15 +120,15 @@ fn line_stop(source: &Source, line: &Numbered, output: Output, stop: Stop<ConfKi
 pub fn line_step(
     alloc: Global,
     source: &Source,
-    line: &Numbered,
-    read: Read,
-) -> Result<Next, Stopped>
+    line: &NumberedLine,
+    read: ReadSoFar,
+) -> Result<AfterLine, Stopped>
     requires { is_utf8 source.now.name ≡ true }
     ensures steps { StepsTo source.now line.now read result }
     ensures count { IfOk result (λ next. next_count next ≡ file_count read) }
     ensures may { IfOk result MayGoOn }
 {
-    let Read { settings, output } = read;
+    let ReadSoFar { settings, output } = read;
     let spot = Spot {
         file: source.name.bytes(),
         depth: source.depth,

@@ -34,7 +34,7 @@ pub struct TcpDraft {
 
 /// Whose data a `ports` setting speaks of.
 #[derive(Clone, Copy)]
-pub enum Side {
+pub enum PortsSide {
     Client,
     Server,
     Both,
@@ -146,9 +146,9 @@ impl GlobalName {
 
 /// The settings of `stream5_global`.
 #[derive(Drop)]
-struct GlobalStep;
+struct StreamGlobalStep;
 
-impl PartStep<Partial<StreamGlobal>, ConfKind> for GlobalStep {
+impl PartStep<Partial<StreamGlobal>, ConfKind> for StreamGlobalStep {
     ghost next_draft = { λ step partial part. global_part partial part };
 
     #[tactic(auto, unfolding(crate::specs::Stream5::global_part))]
@@ -237,7 +237,7 @@ fn global_values(text: &[u8]) -> Result<StreamGlobal, ConfKind>
         draft: DEFAULT_GLOBAL,
         lacks: false,
     };
-    let partial = stream_parts(text).fold_by(&GlobalStep, first)?;
+    let partial = stream_parts(text).fold_by(&StreamGlobalStep, first)?;
     whole_global(partial)
 }
 

@@ -8,13 +8,13 @@ ghost use Rattle.conf_parser.specs.Stream5.{whole, is_unread_tcp, tcp_name, limi
 
 use crate::draft::StreamDraft;
 use crate::line::ConfKind;
-use crate::stream5::{Partial, Side, TcpDraft, TcpName, stream_parts};
+use crate::stream5::{Partial, PortsSide, TcpDraft, TcpName, stream_parts};
 use crate::value::{put_addresses, put_or_stop, put_some, setting_text};
 use crate::word::is;
 use conf_types::{DEFAULT_PORTS, DEFAULT_STREAM_SETTINGS, StreamEngine, StreamSettings};
 use edge_io::{Items, NoMemory, StreamPolicy};
 use net_lists::{
-    Bounds, Parts, PortList, PortPart, Stop, TryPartStep, Vars, first_word, number_in,
+    Parts, PortList, PortPart, Stop, TryPartStep, ValueBounds, Vars, first_word, number_in,
 };
 use std::alloc::Global;
 
@@ -107,15 +107,15 @@ fn handshake_seconds(value: &[u8]) -> Option<u32>
 
 /// Whose ports a `ports` setting gives.
 #[tactic(auto, unfolding(crate::specs::Stream5::side))]
-fn side(word: &[u8]) -> Option<Side>
+fn side(word: &[u8]) -> Option<PortsSide>
     ensures { result ≡ side word.now }
 {
     if is(word, b"client") {
-        Some(Side::Client)
+        Some(PortsSide::Client)
     } else if is(word, b"server") {
-        Some(Side::Server)
+        Some(PortsSide::Server)
     } else if is(word, b"both") {
-        Some(Side::Both)
+        Some(PortsSide::Both)
     } else {
         None
     }
@@ -127,7 +127,7 @@ fn one_port(port: u16) -> PortPart
 {
     PortPart {
         negated: false,
-        bounds: Bounds {
+        bounds: ValueBounds {
             low: port,
             high: port,
         },
@@ -249,15 +249,15 @@ fn server_value(alloc: Global, draft: &mut TcpDraft, value: &[u8]) -> Result<(),
 fn side_value(
     alloc: Global,
     draft: &mut TcpDraft,
-    side: Side,
+    side: PortsSide,
     value: &[u8],
 ) -> Result<(), Stop<ConfKind>>
     ensures { Gives (with_new result draft.new) (mapped (with_ports draft.old side) (port_words value.now)) }
 {
     match side {
-        Side::Client => client_value(alloc, draft, value),
-        Side::Server => server_value(alloc, draft, value),
-        Side::Both => {
+        PortsSide::Client => client_value(alloc, draft, value),
+        PortsSide::Server => server_value(alloc, draft, value),
+        PortsSide::Both => {
             client_value(alloc, draft, value)?;
             server_value(alloc, draft, value)
         }

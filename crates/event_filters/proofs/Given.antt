@@ -8,8 +8,8 @@ use Rattle.conf_types.specs.declared.config.Config.{Config}
 use Rattle.conf_types.specs.Sound.{IsSound}
 use Rattle.rule_types.specs.declared.rule.Rule.{Rule}
 use Rattle.rule_types.specs.Sound.{IsTriable}
-use Rattle.event_filters.specs.declared.counting.Key.{Key}
-use Rattle.event_filters.specs.declared.counting.Line.{Line}
+use Rattle.event_filters.specs.declared.counting.CountKey.{CountKey}
+use Rattle.event_filters.specs.declared.counting.CountLine.{CountLine}
 use Rattle.event_filters.specs.declared.counting.Window.{Window}
 use Rattle.event_filters.specs.Counting.{Event}
 use Rattle.event_filters.specs.Events.{Item, events_of, places_of, matches, match_key, match_line, own_place, global_place}
@@ -22,7 +22,7 @@ use Rattle.event_filters.proofs.Tallies.{AreSome-matches, AreSome-events}
 use Rattle.event_filters.proofs.Stages.{AreAfter-same}
 
 -- no window stands for no event
-pub AreAfter-none : (key_of : Event → Option Key) (line_at : Key → Line) (entries : List (Key × Window)) → entries ≡ [] → AreAfter key_of line_at [] (window_at entries)
+pub AreAfter-none : (key_of : Event → Option CountKey) (line_at : CountKey → CountLine) (entries : List (CountKey × Window)) → entries ≡ [] → AreAfter key_of line_at [] (window_at entries)
 unfolding AreAfter
 AreAfter-none key_of line_at entries empty = λ key. ap (λ es. window_at es key) empty
 
@@ -51,14 +51,20 @@ lines_with config rules state = record {
   global_places = state.global_places;
 }
 
-pub passes-from : (config : Config) (rules : List Rule) (head : ItemHead) (hits staying_now queue out written : List ℕ) (old new : FiltersState) (matches_mid own_mid global_mid : List (Key × Window))
-    → ((key : Key) → window_at matches_mid key ≡ window_at old.matches key)
-    → ((key : Key) → window_at own_mid key ≡ window_at old.own key)
-    → ((key : Key) → window_at global_mid key ≡ window_at old.global key)
-    → new.sizes ≡ old.sizes → new.own_places ≡ old.own_places → new.global_places ≡ old.global_places
-    → Stays rules head (record { matches = matches_mid; written = [] }) hits (record { matches = new.matches; written = staying_now })
+pub passes-from : (config : Config) (rules : List Rule) (head : ItemHead) (hits staying_now queue out written : List ℕ)
+    (old new : FiltersState)
+    (matches_mid own_mid global_mid : List (CountKey × Window))
+    → ((key : CountKey) → window_at matches_mid key ≡ window_at old.matches key)
+    → ((key : CountKey) → window_at own_mid key ≡ window_at old.own key)
+    → ((key : CountKey) → window_at global_mid key ≡ window_at old.global key)
+    → new.sizes ≡ old.sizes
+    → new.own_places ≡ old.own_places
+    → new.global_places ≡ old.global_places
+    → Stays rules head (record { matches = matches_mid; written = [] }) hits
+    (record { matches = new.matches; written = staying_now })
     → queue ≡ queued_by config.queue rules old.sizes staying_now
-    → Keeps (lines_with config rules old) head (record { own = own_mid; global = global_mid; written = out }) queue (record { own = new.own; global = new.global; written = written })
+    → Keeps (lines_with config rules old) head (record { own = own_mid; global = global_mid; written = out }) queue
+    (record { own = new.own; global = new.global; written = written })
     → Passes config rules old out (record { head = head; hits = hits }) new written
 unfolding IsGiven Stays Keeps arising kept queued
 passes-from config rules head hits staying_now queue out written old new matches_mid own_mid global_mid same_matches same_own

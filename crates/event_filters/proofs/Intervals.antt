@@ -6,8 +6,8 @@ use Rattle.std.proofs.lemmas.Bool.Decides.{nat_tests}
 use Rattle.std.proofs.lemmas.List.{append-nil, map-append}
 use Rattle.std.proofs.lemmas.List.Elements.{filter-append}
 use Rattle.std.proofs.lemmas.List.Sums.{fold-append}
-use Rattle.event_filters.specs.declared.counting.Key.{Key}
-use Rattle.event_filters.specs.declared.counting.Line.{Line}
+use Rattle.event_filters.specs.declared.counting.CountKey.{CountKey}
+use Rattle.event_filters.specs.declared.counting.CountLine.{CountLine}
 use Rattle.event_filters.specs.declared.counting.Window.{Window}
 use Rattle.event_filters.specs.Counting.{Event, moment_of, interval_after, interval_of, windowed, has_key, moments_of}
 use Rattle.event_filters.specs.Windows.{IsWindowOf, next_number, next_window, shown}
@@ -28,7 +28,7 @@ length-more : (start : ℕ) (later : List ℕ) (moment : ℕ) → length ((start
 length-more start later moment = omega (arith, length-append later (moment ∷ []))
 
 -- the interval goes on, or another begins
-goes_on : (line : Line) (start : ℕ) (later : List ℕ) (moment : ℕ) → 0 < line.count → (b : Bool)
+goes_on : (line : CountLine) (start : ℕ) (later : List ℕ) (moment : ℕ) → 0 < line.count → (b : Bool)
     → IsWindowOf line (cond b ((start ∷ later) ++ moment ∷ []) (moment ∷ []))
     (Some (cond b (record { start = start; number = next_number line.kind line.count (shown line.kind line.count (length (start ∷ later))) }) (record { start = moment; number = 1 })))
 goes_on line start later moment some true =
@@ -44,7 +44,7 @@ goes_on line start later moment some false =
     let one : length (moment ∷ []) ≡ 1 = omega arith in
     ap (λ (n : ℕ). Some (record { start = moment; number = n })) (sym (ap (shown line.kind line.count) one ∙ shown-one line.kind line.count some))
 
-pub IsWindowOf-next : (line : Line) (interval : List ℕ) (old : Option Window) (moment : ℕ)
+pub IsWindowOf-next : (line : CountLine) (interval : List ℕ) (old : Option Window) (moment : ℕ)
     → 0 < line.count
     → IsWindowOf line interval old
     → IsWindowOf line (interval_after line.seconds interval moment) (Some (next_window line old moment))
@@ -57,7 +57,7 @@ IsWindowOf-next line (start ∷ later) old moment some is =
     subst (λ (o : Option Window). IsWindowOf line (interval_after line.seconds (start ∷ later) moment) (Some (next_window line o moment))) (sym is) new
 
 -- the number of a window is what its line can tell of its interval's
-pub window_number : (line : Line) (interval : List ℕ) (w : Window) → IsWindowOf line interval (Some w) → (m : ℕ) × (length interval ≡ m + 1) × (w.number ≡ shown line.kind line.count (m + 1))
+pub window_number : (line : CountLine) (interval : List ℕ) (w : Window) → IsWindowOf line interval (Some w) → (m : ℕ) × (length interval ≡ m + 1) × (w.number ≡ shown line.kind line.count (m + 1))
 window_number line [] w is = cc
 window_number line (start ∷ later) w is =
     let long : length (start ∷ later) ≡ length later + 1 = omega arith in
@@ -67,7 +67,7 @@ window_number line (start ∷ later) w is =
     number v same = cc
 
 -- the moments of a key, once one event more has come
-pub moments_of-more : (key_of : Event → Option Key) (key : Key) (events : List Event) (event : Event)
+pub moments_of-more : (key_of : Event → Option CountKey) (key : CountKey) (events : List Event) (event : Event)
     → moments_of key_of key (events ++ event ∷ []) ≡
     moments_of key_of key events ++ cond (has_key key_of key event) (moment_of event ∷ []) []
 moments_of-more key_of key events event =

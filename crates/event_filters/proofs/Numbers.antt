@@ -3,8 +3,8 @@ use Rattle.std.proofs.Common.{◌≡◌, ℕ, ◌+◌, ◌-◌, ◌*◌, ◌/◌
 use Rattle.std.proofs.lemmas.Bool.{cases_lt}
 use Rattle.std.proofs.lemmas.Bool.Decides.{nat_tests}
 use Rattle.std.proofs.lemmas.Nat.{div-add-mod', mod-mul-add, mod_below}
-use Rattle.event_filters.specs.declared.counting.Kind.{Kind}
-use Rattle.event_filters.specs.declared.counting.Kind.TheVariants.{Limit, Threshold, Both, Above}
+use Rattle.event_filters.specs.declared.counting.CountKind.{CountKind}
+use Rattle.event_filters.specs.declared.counting.CountKind.TheVariants.{Limit, Threshold, Both, Above}
 use Rattle.event_filters.specs.Counting.{lets}
 use Rattle.event_filters.specs.Windows.{next_number, shows, shown}
 
@@ -34,7 +34,7 @@ threshold_shows m c some =
       | inr le ↦ let e = mod_over m c some le in grind (arith, nat_tests)
     ]
 
-pub next_number-shown : (kind : Kind) (count m : ℕ) → 0 < count → next_number kind count (shown kind count (m + 1)) ≡ shown kind count (m + 1 + 1)
+pub next_number-shown : (kind : CountKind) (count m : ℕ) → 0 < count → next_number kind count (shown kind count (m + 1)) ≡ shown kind count (m + 1 + 1)
 next_number-shown Limit count m some = omega arith
 next_number-shown Threshold count m some =
     let one : m + 1 - 1 ≡ m = omega arith in
@@ -43,7 +43,7 @@ next_number-shown Threshold count m some =
 next_number-shown Both count m some = omega arith
 next_number-shown Above count m some = omega arith
 
-pub shows-shown : (kind : Kind) (count m : ℕ) → 0 < count → shows kind count (shown kind count (m + 1)) ≡ lets kind count (m + 1)
+pub shows-shown : (kind : CountKind) (count m : ℕ) → 0 < count → shows kind count (shown kind count (m + 1)) ≡ lets kind count (m + 1)
 shows-shown Limit count m some = grind (arith, nat_tests)
 shows-shown Threshold count m some =
     let one : m + 1 - 1 ≡ m = omega arith in
@@ -52,7 +52,7 @@ shows-shown Both count m some = grind (arith, nat_tests)
 shows-shown Above count m some = grind (arith, nat_tests)
 
 -- the first event's number is 1
-pub shown-one : (kind : Kind) (count : ℕ) → 0 < count → shown kind count 1 ≡ 1
+pub shown-one : (kind : CountKind) (count : ℕ) → 0 < count → shown kind count 1 ≡ 1
 shown-one Limit count some = omega arith
 shown-one Threshold count some = omega arith
 shown-one Both count some = omega arith

@@ -9,7 +9,7 @@ use Rattle.edge_io.proofs.Along.{trail_from-append, trail-more}
 use Rattle.packet_decode.specs.declared.item.ItemHead.{ItemHead}
 use Rattle.rule_types.specs.declared.rule.Rule.{Rule}
 use Rattle.event_filters.specs.declared.counting.Count.{Count}
-use Rattle.event_filters.specs.declared.counting.Key.{Key}
+use Rattle.event_filters.specs.declared.counting.CountKey.{CountKey}
 use Rattle.event_filters.specs.declared.counting.Window.{Window}
 use Rattle.event_filters.specs.Counting.{Event, counted}
 use Rattle.event_filters.specs.Counts.{match_count, event_count}
@@ -31,16 +31,16 @@ written-more f earlier front back old mid new first second =
 
 -- ---- detection filters
 
-abbrev matched : List (Key × Window) → List ℕ → Matched
+abbrev matched : List (CountKey × Window) → List ℕ → Matched
 matched matches written = record { matches = matches; written = written }
 
 one_place : (head : ItemHead) (place : ℕ) (b : Bool) → cond b (place ∷ []) [] ≡ places_of (cond b (event_of head place ∷ []) [] ++ [])
 one_place head place true = refl
 one_place head place false = refl
 
-pub Stays-one : (rules : List Rule) (head : ItemHead) (place : ℕ) (old new : List (Key × Window)) (before after : List ℕ) (answer : Bool)
+pub Stays-one : (rules : List Rule) (head : ItemHead) (place : ℕ) (old new : List (CountKey × Window)) (before after : List ℕ) (answer : Bool)
     → answer ≡ answer_of (window_at old) (match_count rules head place) head.moment.nanos
-    → ((key : Key) → window_at new key ≡ windows_after (window_at old) (match_count rules head place) head.moment.nanos key)
+    → ((key : CountKey) → window_at new key ≡ windows_after (window_at old) (match_count rules head place) head.moment.nanos key)
     → after ≡ before ++ cond answer (place ∷ []) []
     → Stays rules head (matched old before) (place ∷ []) (matched new after)
 unfolding Stays
@@ -79,7 +79,7 @@ Stays-more rules head old mid new places place first second = λ some earlier ho
 
 -- ---- event filters
 
-abbrev pub state_of : List (Key × Window) → List (Key × Window) → List ℕ → Filtered
+abbrev pub state_of : List (CountKey × Window) → List (CountKey × Window) → List ℕ → Filtered
 state_of own global written = record { own = own; global = global; written = written }
 
 -- the events at these places were counted, and those that are kept were appended
@@ -126,10 +126,10 @@ Keeps-more lines head old mid new places place first second = λ tables some ear
     )
 
 module _ (lines : Lines) (head : ItemHead) (event : ℕ) (shown : is_suppressed lines.suppress lines.rules head event ≡ false) where
-  abbrev own_key : Event → Option Key
+  abbrev own_key : Event → Option CountKey
   own_key = event_key (own_place lines.filters) lines.filters lines.rules
 
-  abbrev global_key : Event → Option Key
+  abbrev global_key : Event → Option CountKey
   global_key = event_key (global_place lines.filters) lines.filters lines.rules
 
   abbrev own_count : Option Count
@@ -142,7 +142,7 @@ module _ (lines : Lines) (head : ItemHead) (event : ℕ) (shown : is_suppressed 
   alone = ap (λ b. cond (not b) (event ∷ []) []) shown
 
   -- what the event's own filter lets through
-  own_is : (tables : AreTables lines) (some : AreSome (event_line lines.filters)) (earlier : List Event) (own_old : List (Key × Window)) (a : Bool)
+  own_is : (tables : AreTables lines) (some : AreSome (event_line lines.filters)) (earlier : List Event) (own_old : List (CountKey × Window)) (a : Bool)
       → AreAfter own_key (event_line lines.filters) earlier (window_at own_old) → a ≡ answer_of (window_at own_old) own_count head.moment.nanos
       → own_kept lines.filters lines.rules earlier (event_of head event) ≡ cond a (event_of head event ∷ []) []
   own_is tables some earlier own_old a hold is =
@@ -151,9 +151,9 @@ module _ (lines : Lines) (head : ItemHead) (event : ℕ) (shown : is_suppressed 
       ∙ ap (λ b. cond b (event_of head event ∷ []) []) (sym is)
 
   -- the event's own filter drops the event
-  pub Keeps-dropped : (own_old own_new global : List (Key × Window)) (written : List ℕ)
+  pub Keeps-dropped : (own_old own_new global : List (CountKey × Window)) (written : List ℕ)
       → false ≡ answer_of (window_at own_old) own_count head.moment.nanos
-      → ((key : Key) → window_at own_new key ≡ windows_after (window_at own_old) own_count head.moment.nanos key)
+      → ((key : CountKey) → window_at own_new key ≡ windows_after (window_at own_old) own_count head.moment.nanos key)
       → Keeps lines head (state_of own_old global written) (event ∷ []) (state_of own_new global written)
   unfolding filtered
   Keeps-dropped own_old own_new global written is windows =
@@ -178,11 +178,11 @@ module _ (lines : Lines) (head : ItemHead) (event : ℕ) (shown : is_suppressed 
   twice_one_place false = refl
 
   -- the event's own filter lets it through, and the global one decides
-  pub Keeps-passed : (own_old own_new global_old global_new : List (Key × Window)) (before after : List ℕ) (b : Bool)
+  pub Keeps-passed : (own_old own_new global_old global_new : List (CountKey × Window)) (before after : List ℕ) (b : Bool)
       → true ≡ answer_of (window_at own_old) own_count head.moment.nanos
-      → ((key : Key) → window_at own_new key ≡ windows_after (window_at own_old) own_count head.moment.nanos key)
+      → ((key : CountKey) → window_at own_new key ≡ windows_after (window_at own_old) own_count head.moment.nanos key)
       → b ≡ answer_of (window_at global_old) global_count head.moment.nanos
-      → ((key : Key) → window_at global_new key ≡ windows_after (window_at global_old) global_count head.moment.nanos key)
+      → ((key : CountKey) → window_at global_new key ≡ windows_after (window_at global_old) global_count head.moment.nanos key)
       → after ≡ before ++ cond b (event ∷ []) []
       → Keeps lines head (state_of own_old global_old before) (event ∷ []) (state_of own_new global_new after)
   unfolding filtered

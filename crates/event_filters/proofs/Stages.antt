@@ -4,8 +4,8 @@ use Rattle.std.specs.Prelude.{Option}
 use Rattle.std.specs.Option.{option_map_or}
 use Rattle.std.proofs.lemmas.List.{append-nil}
 use Rattle.event_filters.specs.declared.counting.Count.{Count}
-use Rattle.event_filters.specs.declared.counting.Key.{Key}
-use Rattle.event_filters.specs.declared.counting.Line.{Line}
+use Rattle.event_filters.specs.declared.counting.CountKey.{CountKey}
+use Rattle.event_filters.specs.declared.counting.CountLine.{CountLine}
 use Rattle.event_filters.specs.declared.counting.Window.{Window}
 use Rattle.event_filters.specs.Keys.{same_key}
 use Rattle.event_filters.specs.Counting.{Event, moment_of, interval_after, interval_of, windowed, lets, has_key, moments_of, number_of, passes, counted}
@@ -15,14 +15,14 @@ use Rattle.event_filters.proofs.Numbers.{shows-shown}
 use Rattle.event_filters.proofs.Intervals.{interval_of-more, windowed-is, IsWindowOf-next, window_number, moments_of-more}
 
 -- what a window shows is what the line decides by the number in the interval
-shows_is : (line : Line) (interval : List ℕ) (w : Window) → 0 < line.count → IsWindowOf line interval (Some w) → shows line.kind line.count w.number ≡ lets line.kind line.count (length interval)
+shows_is : (line : CountLine) (interval : List ℕ) (w : Window) → 0 < line.count → IsWindowOf line interval (Some w) → shows line.kind line.count w.number ≡ lets line.kind line.count (length interval)
 shows_is line interval w some is =
     let n = window_number line interval w is in
     ap (shows line.kind line.count) n.2 ∙ shows-shown line.kind line.count n.0 some ∙ ap (lets line.kind line.count) (sym n.1)
 
-module _ (key_of : Event → Option Key) (line_at : Key → Line) (some : (key : Key) → 0 < (line_at key).count) where
+module _ (key_of : Event → Option CountKey) (line_at : CountKey → CountLine) (some : (key : CountKey) → 0 < (line_at key).count) where
   -- the window of the event's key, once the event has come
-  window_next : (events : List Event) (event : Event) (windows : Windows) (key : Key)
+  window_next : (events : List Event) (event : Event) (windows : Windows) (key : CountKey)
       → AreAfter key_of line_at events windows
       → IsWindowOf (line_at key)
       (interval_after (line_at key).seconds (interval_of (line_at key).seconds (moments_of key_of key events)) (moment_of event))
@@ -31,7 +31,7 @@ module _ (key_of : Event → Option Key) (line_at : Key → Line) (some : (key :
   window_next events event windows key hold =
       IsWindowOf-next (line_at key) (interval_of (line_at key).seconds (moments_of key_of key events)) (windows key) (moment_of event) (some key) (hold key)
 
-  answer_at : (events : List Event) (event : Event) (windows : Windows) (key : Key) → AreAfter key_of line_at events windows
+  answer_at : (events : List Event) (event : Event) (windows : Windows) (key : CountKey) → AreAfter key_of line_at events windows
       → passes key_of line_at events event (Some key) ≡ shows (line_at key).kind (line_at key).count (next_window (line_at key) (windows key) (moment_of event)).number
   answer_at events event windows key hold =
       ap (lets (line_at key).kind (line_at key).count)
@@ -48,33 +48,33 @@ module _ (key_of : Event → Option Key) (line_at : Key → Line) (some : (key :
   passes-answer events event windows None is hold = ap (passes key_of line_at events event) is
   passes-answer events event windows (Some count) is hold =
       ap (passes key_of line_at events event) is.0 ∙ answer_at events event windows count.key hold
-      ∙ ap (λ (line : Line). shows line.kind line.count (next_window line (windows count.key) (moment_of event)).number) is.1
+      ∙ ap (λ (line : CountLine). shows line.kind line.count (next_window line (windows count.key) (moment_of event)).number) is.1
 
   pub counted-answer : (events : List Event) (event : Event) (windows : Windows) (count : Option Count) → IsCountOf key_of line_at event count → AreAfter key_of line_at events windows
       → counted key_of line_at events event ≡ cond (answer_of windows count (moment_of event)) (event ∷ []) []
   counted-answer events event windows count is hold = ap (λ b. cond b (event ∷ []) []) (passes-answer events event windows count is hold)
 
   -- a key that is not the event's has the same moments
-  same_moments : (events : List Event) (event : Event) (key : Key) → has_key key_of key event ≡ false → moments_of key_of key (events ++ event ∷ []) ≡ moments_of key_of key events
+  same_moments : (events : List Event) (event : Event) (key : CountKey) → has_key key_of key event ≡ false → moments_of key_of key (events ++ event ∷ []) ≡ moments_of key_of key events
   same_moments events event key other =
       moments_of-more key_of key events event ∙ ap (λ b. moments_of key_of key events ++ cond b (moment_of event ∷ []) []) other
       ∙ append-nil (moments_of key_of key events)
 
   -- the event's key has one moment more
-  more_moments : (events : List Event) (event : Event) (key : Key)
+  more_moments : (events : List Event) (event : Event) (key : CountKey)
       → has_key key_of key event ≡ true
       → moments_of key_of key (events ++ event ∷ []) ≡ moments_of key_of key events ++ moment_of event ∷ []
   more_moments events event key own =
       moments_of-more key_of key events event ∙ ap (λ b. moments_of key_of key events ++ cond b (moment_of event ∷ []) []) own
 
-  key_without : (event : Event) (key : Key) → key_of event ≡ None → has_key key_of key event ≡ false
+  key_without : (event : Event) (key : CountKey) → key_of event ≡ None → has_key key_of key event ≡ false
   key_without event key is = ap (λ o. option_map_or (same_key key) o false) is
 
-  key_with : (event : Event) (key other : Key) (b : Bool) → key_of event ≡ Some key → same_key key other ≡ b → has_key key_of other event ≡ b
+  key_with : (event : Event) (key other : CountKey) (b : Bool) → key_of event ≡ Some key → same_key key other ≡ b → has_key key_of other event ≡ b
   key_with event key other b is same = ap (λ o. option_map_or (same_key other) o false) is ∙ same_key-sym other key ∙ same
 
   -- the windows at one key, once the event has come
-  at_key : (events : List Event) (event : Event) (windows : Windows) (key other : Key) (line : Line) (b : Bool)
+  at_key : (events : List Event) (event : Event) (windows : Windows) (key other : CountKey) (line : CountLine) (b : Bool)
       → key_of event ≡ Some key
       → line_at key ≡ line
       → same_key key other ≡ b
@@ -104,7 +104,7 @@ module _ (key_of : Event → Option Key) (line_at : Key → Line) (some : (key :
 
   -- the windows after the event stand for one event more
   pub hold-more : (events : List Event) (event : Event) (old new : Windows) (count : Option Count) → IsCountOf key_of line_at event count → AreAfter key_of line_at events old
-      → ((key : Key) → new key ≡ windows_after old count (moment_of event) key) → AreAfter key_of line_at (events ++ event ∷ []) new
+      → ((key : CountKey) → new key ≡ windows_after old count (moment_of event) key) → AreAfter key_of line_at (events ++ event ∷ []) new
   unfolding AreAfter
   hold-more events event old new None is hold after = λ other.
       let moments = ap (interval_of (line_at other).seconds) (same_moments events event other (key_without event other is)) in
@@ -115,7 +115,7 @@ module _ (key_of : Event → Option Key) (line_at : Key → Line) (some : (key :
       (at_key events event old count.key other count.line (same_key count.key other) is.0 is.1 refl hold)
 
   -- the same windows stand for the same events
-  pub AreAfter-same : (events : List Event) (old new : Windows) → ((key : Key) → new key ≡ old key) → AreAfter key_of line_at events old → AreAfter key_of line_at events new
+  pub AreAfter-same : (events : List Event) (old new : Windows) → ((key : CountKey) → new key ≡ old key) → AreAfter key_of line_at events old → AreAfter key_of line_at events new
   unfolding AreAfter
   AreAfter-same events old new same hold = λ key.
       subst (λ (w : Option Window). IsWindowOf (line_at key) (interval_of (line_at key).seconds (moments_of key_of key events)) w) (sym (same key)) (hold key)

@@ -10,7 +10,7 @@ use Rattle.rule_types.specs.declared.rule.Period.{Period}
 use Rattle.rule_types.specs.declared.rule.Rule.{Rule}
 use Rattle.rule_types.specs.Sound.{IsTriable}
 use Rattle.event_filters.specs.declared.counting.Count.{Count}
-use Rattle.event_filters.specs.declared.counting.Key.{Key}
+use Rattle.event_filters.specs.declared.counting.CountKey.{CountKey}
 use Rattle.event_filters.specs.Counting.{Event}
 use Rattle.event_filters.specs.Counts.{period_count, match_count, count_by, placed, event_count}
 use Rattle.event_filters.specs.Events.{event_of, no_line, period_key, period_line, match_key, match_line, filter_key, filter_line, event_key, event_line}
@@ -19,7 +19,7 @@ use Rattle.event_filters.specs.Windows.{IsCountOf}
 
 -- a match, by its rule's detection filter
 module _ (rules : List Rule) (head : ItemHead) (place : ℕ) where
-  abbrev keys : Option Rule → Option Key
+  abbrev keys : Option Rule → Option CountKey
   keys o = option_and_then (λ (rule : Rule). option_map (period_key place rule head) rule.period) o
 
   abbrev IsMatch : Option Count → Type 0
@@ -41,13 +41,13 @@ module _ (rules : List Rule) (head : ItemHead) (place : ℕ) where
 
 -- an event, by the filter that the table has for its rule
 module _ (lines : List EventFilter) (place_for : Rule → Option ℕ) (rules : List Rule) (places : List (Option ℕ)) (head : ItemHead) (event : ℕ) (table : places ≡ map place_for rules) where
-  abbrev line_keys : Rule → ℕ → Option EventFilter → Option Key
+  abbrev line_keys : Rule → ℕ → Option EventFilter → Option CountKey
   line_keys rule place o = option_map (filter_key place rule head) o
 
-  abbrev place_keys : Rule → Option ℕ → Option Key
+  abbrev place_keys : Rule → Option ℕ → Option CountKey
   place_keys rule o = option_and_then (λ place. line_keys rule place (slice_get lines place)) o
 
-  abbrev rule_keys : Option Rule → Option Key
+  abbrev rule_keys : Option Rule → Option CountKey
   rule_keys o = option_and_then (λ (rule : Rule). place_keys rule (place_for rule)) o
 
   abbrev IsEvent : Option Count → Type 0
@@ -91,13 +91,13 @@ AreSome-matches rules all = λ key. at key (slice_get rules key.place) refl
         let both = subst (λ (o : Option Period). IfSome o (λ p. (1 ≤ p.count) × (1 ≤ p.seconds))) is triable.period in
         omega (arith, both.0)
 
-    at : (key : Key) (o : Option Rule) → slice_get rules key.place ≡ o → 0 < (unwrap_or (option_and_then (λ (rule : Rule). option_map period_line rule.period) o) no_line).count
+    at : (key : CountKey) (o : Option Rule) → slice_get rules key.place ≡ o → 0 < (unwrap_or (option_and_then (λ (rule : Rule). option_map period_line rule.period) o) no_line).count
     at key None is = omega arith
     at key (Some rule) is = periods rule (all_at IsTriable rules key.place rule all is) rule.period refl
 
 pub AreSome-events : (lines : List EventFilter) → All IsFilter lines → AreSome (event_line lines)
 AreSome-events lines all = λ key. at key (slice_get lines key.place) refl
   where
-    at : (key : Key) (o : Option EventFilter) → slice_get lines key.place ≡ o → 0 < (unwrap_or (option_map filter_line o) no_line).count
+    at : (key : CountKey) (o : Option EventFilter) → slice_get lines key.place ≡ o → 0 < (unwrap_or (option_map filter_line o) no_line).count
     at key None is = omega arith
     at key (Some line) is = let sound = all_at IsFilter lines key.place line all is in omega (arith, sound.count.0)

@@ -11,10 +11,10 @@ use Rattle.std.specs.Prelude.{ℕ, ◌+◌, ◌*◌, ◌%◌, ◌==◌, Bool, tr
 use Rattle.std.specs.List.{filter}
 use Rattle.std.specs.Option.{option_map_or}
 use Rattle.packet_decode.specs.declared.item.ItemHead.{ItemHead}
-use Rattle.event_filters.specs.declared.counting.Key.{Key}
-use Rattle.event_filters.specs.declared.counting.Kind.{Kind}
-use Rattle.event_filters.specs.declared.counting.Kind.TheVariants.{Limit, Threshold, Both, Above}
-use Rattle.event_filters.specs.declared.counting.Line.{Line}
+use Rattle.event_filters.specs.declared.counting.CountKey.{CountKey}
+use Rattle.event_filters.specs.declared.counting.CountKind.{CountKind}
+use Rattle.event_filters.specs.declared.counting.CountKind.TheVariants.{Limit, Threshold, Both, Above}
+use Rattle.event_filters.specs.declared.counting.CountLine.{CountLine}
 use Rattle.event_filters.specs.Keys.{same_key}
 
 -- a rule, by its place among the rules, and the head of an item that it matches
@@ -42,31 +42,31 @@ windowed earlier moment seconds = length (interval_of seconds (earlier ++ moment
 
 -- whether a line lets an event with this number in its interval through: the first `count` events, every
 -- `count`th, the `count`th alone, or those above the `count`th
-abbrev pub lets : Kind → ℕ → ℕ → Bool
+abbrev pub lets : CountKind → ℕ → ℕ → Bool
 lets Limit count number = nat_le number count
 lets Threshold count number = number % count == 0
 lets Both count number = number == count
 lets Above count number = nat_lt count number
 
 -- the event has this key
-abbrev pub has_key : (Event → Option Key) → Key → Event → Bool
+abbrev pub has_key : (Event → Option CountKey) → CountKey → Event → Bool
 has_key key_of key event = option_map_or (same_key key) (key_of event) false
 
 -- when the events of this key came
-abbrev pub moments_of : (Event → Option Key) → Key → List Event → List ℕ
+abbrev pub moments_of : (Event → Option CountKey) → CountKey → List Event → List ℕ
 moments_of key_of key events = map moment_of (filter (has_key key_of key) events)
 
 -- the number of this event among the earlier ones of its key, in their interval
-abbrev pub number_of : (Event → Option Key) → ℕ → Key → List Event → Event → ℕ
+abbrev pub number_of : (Event → Option CountKey) → ℕ → CountKey → List Event → Event → ℕ
 number_of key_of seconds key earlier event = windowed (moments_of key_of key earlier) (moment_of event) seconds
 
 -- whether the line of this key lets the event through; an event without a key is not counted
-abbrev pub passes : (Event → Option Key) → (Key → Line) → List Event → Event → Option Key → Bool
+abbrev pub passes : (Event → Option CountKey) → (CountKey → CountLine) → List Event → Event → Option CountKey → Bool
 passes key_of line_at earlier event None = true
 passes key_of line_at earlier event (Some key) =
     lets (line_at key).kind (line_at key).count (number_of key_of (line_at key).seconds key earlier event)
 
 -- the event where its line lets it through, after these earlier events that came as far
-abbrev pub counted : (Event → Option Key) → (Key → Line) → List Event → Event → List Event
+abbrev pub counted : (Event → Option CountKey) → (CountKey → CountLine) → List Event → Event → List Event
 counted key_of line_at earlier event =
     if passes key_of line_at earlier event (key_of event) then event ∷ [] else []

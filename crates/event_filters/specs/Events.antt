@@ -34,10 +34,10 @@ use Rattle.conf_types.specs.declared.filter.Track.{Track}
 use Rattle.conf_types.specs.declared.filter.Track.TheVariants.{BySrc, ByDst}
 use Rattle.rule_types.specs.declared.rule.Period.{Period}
 use Rattle.rule_types.specs.declared.rule.Rule.{Rule}
-use Rattle.event_filters.specs.declared.counting.Key.{Key}
-use Rattle.event_filters.specs.declared.counting.Kind.{Kind}
-use Rattle.event_filters.specs.declared.counting.Kind.TheVariants.{Limit, Threshold, Both, Above}
-use Rattle.event_filters.specs.declared.counting.Line.{Line}
+use Rattle.event_filters.specs.declared.counting.CountKey.{CountKey}
+use Rattle.event_filters.specs.declared.counting.CountKind.{CountKind}
+use Rattle.event_filters.specs.declared.counting.CountKind.TheVariants.{Limit, Threshold, Both, Above}
+use Rattle.event_filters.specs.declared.counting.CountLine.{CountLine}
 use Rattle.event_filters.specs.Keys.{tracked}
 use Rattle.event_filters.specs.Counting.{Event, counted}
 use Rattle.event_filters.specs.Queue.{queued}
@@ -67,26 +67,26 @@ abbrev pub places_of : List Event → List ℕ
 places_of events = map (λ (event : Event). event.rule) events
 
 -- what takes the place of a line where there is none; no event has such a key
-abbrev pub no_line : Line
+abbrev pub no_line : CountLine
 no_line = record { kind = Above; count = 1; seconds = 1 }
 
 -- ---- 1. detection filters
 
 -- what a detection filter counts by, at the rule of this place
-abbrev pub period_key : ℕ → Rule → ItemHead → Period → Key
+abbrev pub period_key : ℕ → Rule → ItemHead → Period → CountKey
 period_key place rule head period = record { place = place; gid = rule.gid; sid = rule.sid; addr = tracked period.by_src head }
 
 -- how a detection filter counts
-abbrev pub period_line : Period → Line
+abbrev pub period_line : Period → CountLine
 period_line period = record { kind = Above; count = period.count; seconds = period.seconds }
 
 -- the key of a match, where its rule has a detection filter
-abbrev pub match_key : List Rule → Event → Option Key
+abbrev pub match_key : List Rule → Event → Option CountKey
 match_key rules event =
     option_and_then (λ (rule : Rule). option_map (period_key event.rule rule event.head) rule.period) (slice_get rules event.rule)
 
 -- how the matches of a key are counted
-abbrev pub match_line : List Rule → Key → Line
+abbrev pub match_line : List Rule → CountKey → CountLine
 match_line rules key =
     unwrap_or (option_and_then (λ (rule : Rule). option_map period_line rule.period) (slice_get rules key.place)) no_line
 
@@ -132,16 +132,16 @@ arising config rules before item =
 -- ---- 4. and 5. event filters
 
 -- how a filter counts
-abbrev pub kind_of : FilterKind → Kind
+abbrev pub kind_of : FilterKind → CountKind
 kind_of filters.Limit = Limit
 kind_of filters.Threshold = Threshold
 kind_of filters.Both = Both
 
-abbrev pub filter_line : EventFilter → Line
+abbrev pub filter_line : EventFilter → CountLine
 filter_line line = record { kind = kind_of line.kind; count = line.count; seconds = line.seconds }
 
 -- what the filter at this place counts by
-abbrev pub filter_key : ℕ → Rule → ItemHead → EventFilter → Key
+abbrev pub filter_key : ℕ → Rule → ItemHead → EventFilter → CountKey
 filter_key place rule head line = record { place = place; gid = rule.gid; sid = rule.sid; addr = tracked line.by_src head }
 
 -- the place of the filter with this gid and sid
@@ -156,14 +156,14 @@ abbrev pub global_place : List EventFilter → Rule → Option ℕ
 global_place lines rule = option_or (filter_place lines rule.gid 0) (filter_place lines 0 0)
 
 -- the key of an event, where there is a filter that is chosen for its rule
-abbrev pub event_key : (Rule → Option ℕ) → List EventFilter → List Rule → Event → Option Key
+abbrev pub event_key : (Rule → Option ℕ) → List EventFilter → List Rule → Event → Option CountKey
 event_key place_for lines rules event =
     option_and_then (λ (rule : Rule).
     option_and_then (λ place. option_map (filter_key place rule event.head) (slice_get lines place)) (place_for rule))
     (slice_get rules event.rule)
 
 -- how the events of a key are counted
-abbrev pub event_line : List EventFilter → Key → Line
+abbrev pub event_line : List EventFilter → CountKey → CountLine
 event_line lines key = unwrap_or (option_map filter_line (slice_get lines key.place)) no_line
 
 -- the event where its own filter lets it through, after the earlier events that came as far

@@ -6,7 +6,7 @@ use Rattle.conf_types.specs.declared.config.Config.{Config}
 use Rattle.conf_types.specs.Sound.{IsSound}
 use Rattle.rule_types.specs.declared.rule.Rule.{Rule}
 use Rattle.rule_types.specs.Sound.{IsTriable}
-use Rattle.event_filters.specs.declared.counting.Key.{Key}
+use Rattle.event_filters.specs.declared.counting.CountKey.{CountKey}
 use Rattle.event_filters.specs.declared.counting.Window.{Window}
 use Rattle.event_filters.specs.Queue.{longest_content}
 use Rattle.event_filters.specs.Events.{Item, matches, match_key, match_line, own_place, global_place, event_key, event_line, arising, own_kept, kept}
@@ -17,9 +17,9 @@ pub record FiltersState : Type 0 where
   pub sizes : List ℕ
   pub own_places : List (Option ℕ)
   pub global_places : List (Option ℕ)
-  pub matches : List (Key × Window)
-  pub own : List (Key × Window)
-  pub global : List (Key × Window)
+  pub matches : List (CountKey × Window)
+  pub own : List (CountKey × Window)
+  pub global : List (CountKey × Window)
 
 -- the filters of this configuration and these rules, once they were given these items
 unfoldable pub IsGiven : Config → List Rule → List Item → FiltersState → Type 0
@@ -51,6 +51,6 @@ pub record IsSame (old new : FiltersState) : Type 0 where
   pub sizes : new.sizes ≡ old.sizes
   pub own_places : new.own_places ≡ old.own_places
   pub global_places : new.global_places ≡ old.global_places
-  pub matches : (key : Key) → window_at new.matches key ≡ window_at old.matches key
-  pub own : (key : Key) → window_at new.own key ≡ window_at old.own key
-  pub global : (key : Key) → window_at new.global key ≡ window_at old.global key
+  pub matches : (key : CountKey) → window_at new.matches key ≡ window_at old.matches key
+  pub own : (key : CountKey) → window_at new.own key ≡ window_at old.own key
+  pub global : (key : CountKey) → window_at new.global key ≡ window_at old.global key

@@ -7,10 +7,10 @@ use Rattle.std.specs.Prelude.{Bool, ◌&&◌, ◌==◌, if◌then◌else◌}
 use Rattle.edge_io.specs.declared.address.Addr.{Addr}
 use Rattle.edge_io.specs.Addresses.{same_addr}
 use Rattle.packet_decode.specs.declared.item.ItemHead.{ItemHead}
-use Rattle.event_filters.specs.declared.counting.Key.{Key}
+use Rattle.event_filters.specs.declared.counting.CountKey.{CountKey}
 
 -- the two keys are one
-abbrev pub same_key : Key → Key → Bool
+abbrev pub same_key : CountKey → CountKey → Bool
 same_key a b = (a.place == b.place) && (a.gid == b.gid) && (a.sid == b.sid) && same_addr a.addr b.addr
 
 -- the address of an item that is tracked: its source, or else its destination

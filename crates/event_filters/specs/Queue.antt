@@ -11,7 +11,7 @@ use Rattle.std.specs.Prelude.{ℕ, Bool, true, false, not, ◌&&◌, if◌then�
 use Rattle.std.specs.List.{filter, list_any}
 use Rattle.std.specs.Option.{option_map, option_map_or}
 use Rattle.conf_types.specs.declared.config.QueueLimits.{QueueLimits}
-use Rattle.event_filters.specs.declared.queue.Order.{Order}
+use Rattle.event_filters.specs.declared.queue.QueueOrder.{QueueOrder}
 use Rattle.rule_types.specs.declared.option.Opt.{Opt}
 use Rattle.rule_types.specs.declared.option.Opt.TheVariants as opt
 use Rattle.rule_types.specs.declared.rule.Action.{Action}
@@ -52,7 +52,7 @@ comes_before by_priority rules sizes first second =
     else nat_lt (slice_index sizes second) (slice_index sizes first)
 
 -- the first event comes before the second, in the code's order
-abbrev pub order_of : Order → ℕ → ℕ → Bool
+abbrev pub order_of : QueueOrder → ℕ → ℕ → Bool
 order_of order = comes_before order.by_priority order.rules.now order.sizes.now
 
 -- an event joins others in their order: it is put before the first one that it comes before

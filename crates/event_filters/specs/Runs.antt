@@ -6,21 +6,21 @@ use Rattle.packet_decode.specs.declared.item.ItemHead.{ItemHead}
 use Rattle.conf_types.specs.declared.filter.EventFilter.{EventFilter}
 use Rattle.conf_types.specs.declared.filter.Suppress.{Suppress}
 use Rattle.rule_types.specs.declared.rule.Rule.{Rule}
-use Rattle.event_filters.specs.declared.counting.Key.{Key}
-use Rattle.event_filters.specs.declared.counting.Line.{Line}
+use Rattle.event_filters.specs.declared.counting.CountKey.{CountKey}
+use Rattle.event_filters.specs.declared.counting.CountLine.{CountLine}
 use Rattle.event_filters.specs.declared.counting.Window.{Window}
-use Rattle.event_filters.specs.declared.filtering.Lines.{Lines as CodeLines}
+use Rattle.event_filters.specs.declared.filtering.FilterLines.{FilterLines}
 use Rattle.event_filters.specs.Counting.{Event}
 use Rattle.event_filters.specs.Events.{events_of, places_of, match_key, match_line, match_stays, own_place, global_place, event_key, event_line, own_kept, filtered, is_suppressed}
 use Rattle.event_filters.specs.Windows.{window_at, AreAfter}
 
 -- every line lets an event through before its count is used up
-abbrev pub AreSome : (Key → Line) → Type 0
-AreSome line_at = (key : Key) → 0 < (line_at key).count
+abbrev pub AreSome : (CountKey → CountLine) → Type 0
+AreSome line_at = (key : CountKey) → 0 < (line_at key).count
 
 -- the windows of detection filters, and what was written
 pub record Matched : Type 0 where
-  pub matches : List (Key × Window)
+  pub matches : List (CountKey × Window)
   pub written : List ℕ
 
 -- the matches at these places were counted, and those that stay were appended
@@ -40,7 +40,7 @@ pub record Lines : Type 0 where
   pub global_places : List (Option ℕ)
 
 -- what the code's lines are, as these definitions see them
-abbrev pub lines_of : CodeLines → Lines
+abbrev pub lines_of : FilterLines → Lines
 lines_of lines = record {
   filters = lines.filters.now;
   suppress = lines.suppress.now;
@@ -56,8 +56,8 @@ pub record AreTables (lines : Lines) : Type 0 where
 
 -- the windows of event filters, and what was written
 pub record Filtered : Type 0 where
-  pub own : List (Key × Window)
-  pub global : List (Key × Window)
+  pub own : List (CountKey × Window)
+  pub global : List (CountKey × Window)
   pub written : List ℕ
 
 -- the events that no suppress line drops

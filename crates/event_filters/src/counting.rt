@@ -2,17 +2,17 @@
 ghost use Rattle.std.specs.Prelude.{◌≡◌, ◌+◌, ◌*◌, ◌≤◌, ◌<◌, OnOk, Some, nat_lt, if◌then◌else◌};
 ghost use Rattle.std.specs.HashMap.{spare};
 ghost use Rattle.event_filters.specs.Keys.{tracked, same_key};
-ghost use Rattle.event_filters.specs.declared.counting.Key.{Key};
+ghost use Rattle.event_filters.specs.declared.counting.CountKey.{CountKey};
 ghost use Rattle.event_filters.specs.Windows.{answer_of, next_number, next_window, shows, window_at, windows_after};
 
-use crate::seed::Seed;
+use crate::seed::CountSeed;
 use edge_io::{Addr, Moment, NoMemory};
 use packet_decode::ItemHead;
 use std::collections::HashMap;
 
 /// How a line decides by the number of an event in its interval.
 #[derive(Clone, Copy, Debug, PartialEq, Eq)]
-pub(crate) enum Kind {
+pub(crate) enum CountKind {
     /// The first `count` events are let through.
     Limit,
     /// Every `count`th event is.
@@ -25,8 +25,8 @@ pub(crate) enum Kind {
 
 /// A line that counts events in intervals of this many seconds.
 #[derive(Clone, Copy, Debug, PartialEq, Eq)]
-pub(crate) struct Line {
-    pub kind: Kind,
+pub(crate) struct CountLine {
+    pub kind: CountKind,
     pub count: u32,
     pub seconds: u32,
 }
@@ -34,7 +34,7 @@ pub(crate) struct Line {
 /// What events are counted by: the place of the line, or of the rule with a detection filter, the
 /// event's generator and number, the tracked address.
 #[derive(Clone, Copy, Debug, PartialEq, Eq, Hash)]
-pub(crate) struct Key {
+pub(crate) struct CountKey {
     pub place: u32,
     pub gid: u32,
     pub sid: u32,
@@ -44,8 +44,8 @@ pub(crate) struct Key {
 /// How an event is counted.
 #[derive(Clone, Copy, Debug)]
 pub(crate) struct Count {
-    pub key: Key,
-    pub line: Line,
+    pub key: CountKey,
+    pub line: CountLine,
 }
 
 /// An interval at hand: when it began, in nanoseconds, and the number of its last event as far as the
@@ -58,7 +58,7 @@ pub(crate) struct Window {
 
 /// Makes room for this many keys more.
 pub(crate) fn reserve(windows: &mut Windows, keys: usize) -> Result<(), NoMemory>
-    ensures same { (key : Key) → window_at windows.new.entries key
+    ensures same { (key : CountKey) → window_at windows.new.entries key
         ≡ window_at windows.old.entries key }
     ensures room { OnOk result (keys ≤ spare windows.new) }
 {
@@ -67,7 +67,7 @@ pub(crate) fn reserve(windows: &mut Windows, keys: usize) -> Result<(), NoMemory
 }
 
 /// The windows of all keys.
-pub(crate) type Windows = HashMap<Key, Window, Seed>;
+pub(crate) type Windows = HashMap<CountKey, Window, CountSeed>;
 
 /// The tracked address of an item.
 pub(crate) fn tracked(by_src: bool, head: &ItemHead) -> Addr
@@ -77,37 +77,37 @@ pub(crate) fn tracked(by_src: bool, head: &ItemHead) -> Addr
 }
 
 /// The number after this one.
-fn next_number(line: Line, number: u64) -> u64
+fn next_number(line: CountLine, number: u64) -> u64
     ensures { result ≡ next_number line.kind line.count number }
 {
     let count = u64::from(line.count);
     match line.kind {
-        Kind::Threshold => { if number < count { number + 1 } else { 1 } }
-        Kind::Limit | Kind::Both | Kind::Above => number.min(count) + 1,
+        CountKind::Threshold => { if number < count { number + 1 } else { 1 } }
+        CountKind::Limit | CountKind::Both | CountKind::Above => number.min(count) + 1,
     }
 }
 
 /// Whether the line lets through an event with this number.
-fn shows(line: Line, number: u64) -> bool
+fn shows(line: CountLine, number: u64) -> bool
     ensures { result ≡ shows line.kind line.count number }
 {
     let count = u64::from(line.count);
     match line.kind {
-        Kind::Limit => number <= count,
-        Kind::Threshold | Kind::Both => number == count,
-        Kind::Above => count < number,
+        CountKind::Limit => number <= count,
+        CountKind::Threshold | CountKind::Both => number == count,
+        CountKind::Above => count < number,
     }
 }
 
 /// Whether the moment lies in the window's interval.
-fn is_within(line: Line, window: Window, moment: u64) -> bool
+fn is_within(line: CountLine, window: Window, moment: u64) -> bool
     ensures { result ≡ nat_lt moment (window.start + line.seconds * 1000000000) }
 {
     u128::from(moment) < u128::from(window.start) + u128::from(line.seconds) * 1_000_000_000
 }
 
 /// The window once an event has come at this moment.
-fn next_window(line: Line, window: Option<Window>, moment: u64) -> Window
+fn next_window(line: CountLine, window: Option<Window>, moment: u64) -> Window
     ensures { result ≡ next_window line window moment }
 {
     if let Some(window) = window {
@@ -128,7 +128,7 @@ fn next_window(line: Line, window: Option<Window>, moment: u64) -> Window
 pub(crate) fn lets_through(windows: &mut Windows, count: Option<Count>, moment: Moment) -> bool
     requires { 0 < spare windows.old }
     ensures answer { result ≡ answer_of (window_at windows.old.entries) count moment.nanos }
-    ensures after { (key : Key) → window_at windows.new.entries key
+    ensures after { (key : CountKey) → window_at windows.new.entries key
         ≡ windows_after (window_at windows.old.entries) count moment.nanos key }
     ensures room { spare windows.old ≤ spare windows.new + 1 }
 {
@@ -143,7 +143,7 @@ fn counted_window(windows: &mut Windows, count: Count, moment: Moment) -> Window
     requires { 0 < spare windows.old }
     ensures window { result
         ≡ next_window count.line (window_at windows.old.entries count.key) moment.nanos }
-    ensures after { (key : Key) → window_at windows.new.entries key
+    ensures after { (key : CountKey) → window_at windows.new.entries key
         ≡ (if same_key count.key key then Some result else window_at windows.old.entries key) }
     ensures room { spare windows.old ≤ spare windows.new + 1 }
 {

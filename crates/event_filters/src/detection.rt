@@ -5,7 +5,7 @@ ghost use Rattle.std.specs.Option.{option_map};
 ghost use Rattle.event_filters.specs.Counts.{match_count, period_count};
 ghost use Rattle.event_filters.specs.Runs.{Stays};
 
-use crate::counting::{Count, Key, Kind, Line, Windows, lets_through, tracked};
+use crate::counting::{Count, CountKey, CountKind, CountLine, Windows, lets_through, tracked};
 use packet_decode::ItemHead;
 use rule_types::Rule;
 
@@ -15,14 +15,14 @@ fn period_count(rule: &Rule, head: &ItemHead, place: u32) -> Option<Count>
 {
     match rule.period {
         Some(period) => Some(Count {
-            key: Key {
+            key: CountKey {
                 place,
                 gid: rule.gid,
                 sid: rule.sid,
                 addr: tracked(period.by_src, head),
             },
-            line: Line {
-                kind: Kind::Above,
+            line: CountLine {
+                kind: CountKind::Above,
                 count: period.count,
                 seconds: period.seconds,
             },

@@ -4,7 +4,7 @@ ghost use Rattle.std.specs.HashMap.{spare};
 ghost use Rattle.event_filters.specs.Counts.{count_by, event_count, placed};
 ghost use Rattle.event_filters.specs.Runs.{Keeps, lines_of};
 
-use crate::counting::{Count, Key, Windows, lets_through, tracked};
+use crate::counting::{Count, CountKey, Windows, lets_through, tracked};
 use crate::detection::push;
 use crate::lines::filter_line;
 use crate::suppress::is_suppressed;
@@ -14,7 +14,7 @@ use rule_types::Rule;
 
 /// The lines that events go through, the rules, and of each rule the places of its filters.
 #[derive(Clone, Copy)]
-pub(crate) struct Lines<'a> {
+pub(crate) struct FilterLines<'a> {
     pub filters: &'a [EventFilter],
     pub suppress: &'a [Suppress],
     pub rules: &'a [Rule],
@@ -28,7 +28,7 @@ fn count_by(filters: &[EventFilter], rule: &Rule, head: &ItemHead, place: u32) -
 {
     match filters.get(place as usize) {
         Some(filter) => Some(Count {
-            key: Key {
+            key: CountKey {
                 place,
                 gid: rule.gid,
                 sid: rule.sid,
@@ -69,7 +69,7 @@ fn event_count(
 fn keep(
     own: &mut Windows,
     global: &mut Windows,
-    lines: Lines<'_>,
+    lines: FilterLines<'_>,
     head: &ItemHead,
     event: u32,
     out: &mut Vec<u32>,
@@ -104,7 +104,7 @@ fn keep(
 pub(crate) fn keep_all(
     own: &mut Windows,
     global: &mut Windows,
-    lines: Lines<'_>,
+    lines: FilterLines<'_>,
     head: &ItemHead,
     events: &[u32],
     out: &mut Vec<u32>,

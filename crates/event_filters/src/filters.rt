@@ -4,10 +4,10 @@ ghost use Rattle.event_filters.specs.Filtering.{IsMade, IsSame, Passes};
 
 use crate::counting::{Windows, reserve};
 use crate::detection::stay_all;
-use crate::filtering::{Lines, keep_all};
+use crate::filtering::{FilterLines, keep_all};
 use crate::lines::{global_places, own_places, sizes_of};
-use crate::queue::{Order, gather};
-use crate::seed::Seed;
+use crate::queue::{QueueOrder, gather};
+use crate::seed::CountSeed;
 use conf_types::Config;
 use edge_io::NoMemory;
 use packet_decode::ItemHead;
@@ -57,7 +57,7 @@ impl Filters {
         ensures { IfOk result (IsMade config.now rules.now) }
     {
         let filters = config.filters.as_slice();
-        let seed = Seed::of(rules);
+        let seed = CountSeed::of(rules);
         Ok(Filters {
             sizes: sizes_of(alloc, rules)?,
             own_places: own_places(alloc, filters, rules)?,
@@ -98,13 +98,13 @@ impl Filters {
         self.queue.reserve(count)?;
         out.reserve(count)?;
         stay_all(&mut self.matches, rules, head, hits, &mut self.staying);
-        let order = Order {
+        let order = QueueOrder {
             by_priority: config.queue.by_priority,
             rules,
             sizes: &self.sizes,
         };
         gather(config.queue, order, &self.staying, &mut self.queue);
-        let lines = Lines {
+        let lines = FilterLines {
             filters: config.filters.as_slice(),
             suppress: config.suppress.as_slice(),
             rules,

@@ -3,28 +3,28 @@ ghost use Rattle.std.specs.Prelude.{◌≡◌, ◌<◌, ◌≤◌, ◌&&◌, ◌
 ghost use Rattle.event_filters.specs.Events.{filter_line, filter_place, global_place, kind_of, own_place};
 ghost use Rattle.event_filters.specs.Queue.{longest_content};
 
-use crate::counting::{Kind, Line};
+use crate::counting::{CountKind, CountLine};
 use crate::queue::longest_content;
 use conf_types::{EventFilter, FilterKind};
 use edge_io::NoMemory;
 use rule_types::Rule;
 use std::alloc::Global;
 
-fn kind_of(kind: FilterKind) -> Kind
+fn kind_of(kind: FilterKind) -> CountKind
     ensures { result ≡ kind_of kind }
 {
     match kind {
-        FilterKind::Limit => Kind::Limit,
-        FilterKind::Threshold => Kind::Threshold,
-        FilterKind::Both => Kind::Both,
+        FilterKind::Limit => CountKind::Limit,
+        FilterKind::Threshold => CountKind::Threshold,
+        FilterKind::Both => CountKind::Both,
     }
 }
 
 /// How a filter counts.
-pub(crate) fn filter_line(filter: &EventFilter) -> Line
+pub(crate) fn filter_line(filter: &EventFilter) -> CountLine
     ensures { result ≡ filter_line filter.now }
 {
-    Line {
+    CountLine {
         kind: kind_of(filter.kind),
         count: filter.count,
         seconds: filter.seconds,

@@ -82,14 +82,14 @@ fn size_at(sizes: &[usize], place: u32) -> usize
 
 /// How the events of a queue are ordered: by priority, or else by the sizes of the longest contents.
 #[derive(Clone, Copy)]
-pub(crate) struct Order<'a> {
+pub(crate) struct QueueOrder<'a> {
     pub by_priority: bool,
     pub rules: &'a [Rule],
     pub sizes: &'a [usize],
 }
 
 /// Whether the first event comes before the second, whatever the order of their rules.
-fn comes_before(order: Order<'_>, first: u32, second: u32) -> bool
+fn comes_before(order: QueueOrder<'_>, first: u32, second: u32) -> bool
     ensures { result ≡ order_of order.entry first second }
 {
     if order.by_priority {
@@ -100,7 +100,7 @@ fn comes_before(order: Order<'_>, first: u32, second: u32) -> bool
 }
 
 /// The place of an event among others in their order.
-fn place_for(order: Order<'_>, queue: &[u32], event: u32) -> usize
+fn place_for(order: QueueOrder<'_>, queue: &[u32], event: u32) -> usize
     ensures place { result ≡ position_or_len (order_of order.entry event) queue.now }
     ensures within { result ≤ length queue.now }
 {
@@ -113,7 +113,7 @@ fn place_for(order: Order<'_>, queue: &[u32], event: u32) -> usize
 }
 
 /// Puts an event among others in their order; there is room for it.
-fn join(order: Order<'_>, queue: &mut Vec<u32>, event: u32)
+fn join(order: QueueOrder<'_>, queue: &mut Vec<u32>, event: u32)
     requires { vec_len queue.old < vec_capacity queue.old }
     ensures joined { queue.new.items ≡ joined (order_of order.entry) queue.old.items event }
     ensures longer { vec_len queue.new ≡ vec_len queue.old + 1 }
@@ -129,7 +129,7 @@ fn join(order: Order<'_>, queue: &mut Vec<u32>, event: u32)
 
 /// Puts the event of the rule at this place among others in their order, where the rule gives one and
 /// no more than `most` are there; there is room for it.
-fn add(order: Order<'_>, most: u32, queue: &mut Vec<u32>, place: u32)
+fn add(order: QueueOrder<'_>, most: u32, queue: &mut Vec<u32>, place: u32)
     requires { vec_len queue.old < vec_capacity queue.old }
     ensures added { queue.new.items
         ≡ with_event (order_of order.entry) most order.entry.rules.now queue.old.items place }
@@ -142,7 +142,7 @@ fn add(order: Order<'_>, most: u32, queue: &mut Vec<u32>, place: u32)
 }
 
 /// Puts the first events of these rules into the queue, in order.
-fn fill(order: Order<'_>, most: u32, places: &[u32], queue: &mut Vec<u32>)
+fn fill(order: QueueOrder<'_>, most: u32, places: &[u32], queue: &mut Vec<u32>)
     requires empty { queue.old.items ≡ [] }
     requires room { length places.now ≤ vec_capacity queue.old }
     ensures filled { queue.new.items
@@ -163,7 +163,12 @@ fn any_passes(rules: &[Rule], places: &[u32]) -> bool
 
 /// Puts the events that these rules give into the empty queue: none where a pass rule is among them;
 /// else the first ones, ordered, and no more than are logged. There is room for them.
-pub(crate) fn gather(limits: QueueLimits, order: Order<'_>, places: &[u32], queue: &mut Vec<u32>)
+pub(crate) fn gather(
+    limits: QueueLimits,
+    order: QueueOrder<'_>,
+    places: &[u32],
+    queue: &mut Vec<u32>,
+)
     requires order { order.by_priority ≡ limits.by_priority }
     requires empty { queue.old.items ≡ [] }
     requires room { length places.now ≤ vec_capacity queue.old }

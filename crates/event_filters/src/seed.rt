@@ -7,18 +7,18 @@ use std::hash::{BuildHasher, DefaultHasher, Hash, Hasher};
 /// So who doesn't know them can't choose addresses whose keys have one hash. No contract speaks of it, since
 /// no answer depends on a hash.
 #[derive(Clone, Copy)]
-pub(crate) struct Seed {
+pub(crate) struct CountSeed {
     initial: DefaultHasher,
 }
 
-impl Seed {
+impl CountSeed {
     /// The seed of these rules: their numbers, messages and contents.
-    pub fn of(rules: &[Rule]) -> Seed {
+    pub fn of(rules: &[Rule]) -> CountSeed {
         let mut initial = DefaultHasher::new();
         for rule in rules {
             take_rule(&mut initial, rule);
         }
-        Seed { initial }
+        CountSeed { initial }
     }
 }
 
@@ -35,7 +35,7 @@ fn take_rule(hasher: &mut DefaultHasher, rule: &Rule) {
     }
 }
 
-impl BuildHasher for Seed {
+impl BuildHasher for CountSeed {
     type Hasher = DefaultHasher;
 
     ghost build_hasher = { λ seed. seed.initial };

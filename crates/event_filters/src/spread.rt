@@ -1,13 +1,13 @@
 //! For a test of how the keys of windows are hashed.
 
-use crate::counting::Key;
-use crate::seed::Seed;
+use crate::counting::CountKey;
+use crate::seed::CountSeed;
 use edge_io::Addr;
 use std::hash::{BuildHasher, BuildHasherDefault, FoldHasher};
 
 /// The key of events of one rule, of an address.
-fn key_of(addr: Addr) -> Key {
-    Key {
+fn key_of(addr: Addr) -> CountKey {
+    CountKey {
         place: 0,
         gid: 1,
         sid: 1,
@@ -23,5 +23,5 @@ pub fn usual_hash(addr: Addr) -> u64 {
 
 /// The hash of the key by the hasher whose seed no rule has a part in.
 pub fn seeded_hash(addr: Addr) -> u64 {
-    Seed::of(&[]).hash_one(key_of(addr))
+    CountSeed::of(&[]).hash_one(key_of(addr))
 }

@@ -8,9 +8,9 @@
 -- to 80 and 81 (162), and 80 alone (161). The list 80:95 is the block 80:95 alone, with the number 176.
 use Rattle.std.specs.Prelude.{◌≡◌, ℕ, zero, suc, ◌+◌, ◌-◌, ◌*◌, ◌^◌, ◌<◌, ◌≤◌, ◌==◌, Bool, not, ◌&&◌, ◌||◌, List, ◌++◌, All, length, map, nat_lt, nat_le, take, slice_index_or, if◌then◌else◌}
 use Rattle.std.specs.List.{list_any, list_all}
-use Rattle.net_lists.specs.declared.part.Bounds.{Bounds}
+use Rattle.net_lists.specs.declared.part.ValueBounds.{ValueBounds}
 use Rattle.net_lists.specs.declared.part.Part.{Part}
-use Rattle.fast_pattern.specs.declared.index.Entry.{Entry}
+use Rattle.fast_pattern.specs.declared.index.IndexEntry.{IndexEntry}
 use Rattle.fast_pattern.specs.declared.index.PortIndex.{PortIndex}
 use Rattle.net_lists.specs.Membership.{has_port}
 use Rattle.pattern_search.specs.Owned.{AreOwned}
@@ -29,21 +29,21 @@ lies_in zero low port block = block == number 0 low
 lies_in (suc bits) low port block = (block == number (suc bits) low) || lies_in bits (half_with bits low port) port block
 
 -- the part has all ports from the one to the other
-abbrev pub has_whole : ℕ → ℕ → Part (Bounds ℕ) → Bool
+abbrev pub has_whole : ℕ → ℕ → Part (ValueBounds ℕ) → Bool
 has_whole low high part = nat_le part.bounds.low low && nat_le high part.bounds.high
 
 -- the part has some of them
-abbrev pub meets : ℕ → ℕ → Part (Bounds ℕ) → Bool
+abbrev pub meets : ℕ → ℕ → Part (ValueBounds ℕ) → Bool
 meets low high part = nat_le part.bounds.low high && nat_le low part.bounds.high
 
 -- some part that isn't negated passes the one test, or all are negated, and no negated part passes the other
-unfoldable pub verdict : (Part (Bounds ℕ) → Bool) → (Part (Bounds ℕ) → Bool) → List (Part (Bounds ℕ)) → Bool
+unfoldable pub verdict : (Part (ValueBounds ℕ) → Bool) → (Part (ValueBounds ℕ) → Bool) → List (Part (ValueBounds ℕ)) → Bool
 verdict wanted barred parts =
     (list_any (λ part. not part.negated && wanted part) parts || list_all (λ part. part.negated) parts)
     && not (list_any (λ part. part.negated && barred part) parts)
 
 -- blocks within that of 2 ^ bits ports from `low` on were added, in which exactly the listed ports lie
-pub record AddBlocks (parts : List (Part (Bounds ℕ))) (bits low : ℕ) (old new : List ℕ) : Type 0 where
+pub record AddBlocks (parts : List (Part (ValueBounds ℕ))) (bits low : ℕ) (old new : List ℕ) : Type 0 where
   pub added : List ℕ
   pub is : new ≡ old ++ added
   pub within : All (λ block. (2 * low < block) × (block < 2 * low + 2 * 2 ^ bits)) added
@@ -54,19 +54,19 @@ abbrev pub has : List ℕ → ℕ → Bool
 has xs place = list_any (λ x. x == place) xs
 
 -- the entry is one of the place, at a block that passes the test
-abbrev pub is_of : (ℕ → Bool) → ℕ → Entry → Bool
+abbrev pub is_of : (ℕ → Bool) → ℕ → IndexEntry → Bool
 is_of test place entry = test entry.block && (entry.place == place)
 
 -- some entry is
-abbrev pub is_filed : (ℕ → Bool) → List Entry → ℕ → Bool
+abbrev pub is_filed : (ℕ → Bool) → List IndexEntry → ℕ → Bool
 is_filed test entries place = list_any (is_of test place) entries
 
 -- the blocks of entries
-abbrev pub blocks_of : List Entry → List ℕ
+abbrev pub blocks_of : List IndexEntry → List ℕ
 blocks_of entries = map (λ entry. entry.block) entries
 
 -- each entry's block is one
-abbrev pub AreBlocks : List Entry → Type 0
+abbrev pub AreBlocks : List IndexEntry → Type 0
 AreBlocks entries = All (λ entry. (0 < entry.block) × (entry.block < 131072)) entries
 
 -- the entries of each block form a chain
@@ -78,7 +78,7 @@ pub record AddFiled (index : PortIndex) (test : ℕ → Bool) (old new : List �
   pub added : IsChained index → (place : ℕ) → has new place ≡ (has old place || is_filed test index.entries.items place)
 
 -- the entry at a place of the list
-abbrev pub entry_at : List Entry → ℕ → Entry
+abbrev pub entry_at : List IndexEntry → ℕ → IndexEntry
 entry_at entries at = slice_index_or entries at (record { block = 0; place = 0 })
 
 -- the entries of a block below the last one that was read, plus one, are still to be added
@@ -90,5 +90,5 @@ pub record IsFollowed (index : PortIndex) (block : ℕ) (old : List ℕ) (at : �
       ≡ (has old place || is_filed (λ other. other == block) index.entries.items place)
 
 -- an entry of the place at each block
-abbrev pub entries_of : ℕ → List ℕ → List Entry
+abbrev pub entries_of : ℕ → List ℕ → List IndexEntry
 entries_of place blocks = map (λ block. record { block = block; place = place }) blocks

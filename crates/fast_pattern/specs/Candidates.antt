@@ -8,7 +8,7 @@
 use Rattle.std.specs.Prelude.{◌≡◌, ℕ, ◌+◌, Bool, true, false, ◌&&◌, ◌||◌, List, [], ◌∷◌, Option, Some, None, slice_get, if◌then◌else◌}
 use Rattle.edge_io.specs.Matching.{folded}
 use Rattle.memchr.specs.Find.{OccursAt}
-use Rattle.net_lists.specs.declared.part.Bounds.{Bounds}
+use Rattle.net_lists.specs.declared.part.ValueBounds.{ValueBounds}
 use Rattle.net_lists.specs.declared.part.Part.{Part}
 use Rattle.net_lists.specs.Membership.{has_port}
 use Rattle.packet_decode.specs.declared.packet.Body.{Body}
@@ -23,13 +23,13 @@ use Rattle.pattern_search.specs.Occurring.{occurs}
 use Rattle.fast_pattern.specs.FastPattern.{pattern_of}
 
 -- the source and destination ports are listed; under `<>` they may be exchanged
-abbrev pub ports_fit : List (Part (Bounds ℕ)) → List (Part (Bounds ℕ)) → Bool → ℕ → ℕ → Bool
+abbrev pub ports_fit : List (Part (ValueBounds ℕ)) → List (Part (ValueBounds ℕ)) → Bool → ℕ → ℕ → Bool
 ports_fit sports dports both sport dport =
     (has_port sports sport && has_port dports dport)
     || (both && (has_port sports dport && has_port dports sport))
 
 -- the protocol and the ports fit: a stretch of a stream is TCP, and a rule of ip fits every item
-abbrev pub header_fits : Proto → List (Part (Bounds ℕ)) → List (Part (Bounds ℕ)) → Bool → Body → Bool
+abbrev pub header_fits : Proto → List (Part (ValueBounds ℕ)) → List (Part (ValueBounds ℕ)) → Bool → Body → Bool
 header_fits proto.Tcp sports dports both (body.Tcp head) = ports_fit sports dports both head.sport head.dport
 header_fits proto.Tcp sports dports both (body.Stream sport dport) = ports_fit sports dports both sport dport
 header_fits proto.Udp sports dports both (body.Udp sport dport) = ports_fit sports dports both sport dport

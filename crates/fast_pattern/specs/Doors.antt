@@ -5,11 +5,11 @@
 -- To try it on: with the one rule `tcp any any -> any 80` a packet of TCP to port 80 is let in; one to port 81
 -- isn't, and no packet of UDP is.
 use Rattle.std.specs.Prelude.{◌≡◌, ℕ, ◌+◌, ◌*◌, ◌<◌, Bool, true, ◌&&◌, ◌||◌, List, length, nat_lt}
-use Rattle.net_lists.specs.declared.part.Bounds.{Bounds}
+use Rattle.net_lists.specs.declared.part.ValueBounds.{ValueBounds}
 use Rattle.net_lists.specs.declared.part.Part.{Part}
 use Rattle.packet_decode.specs.declared.packet.Body.{Body}
 use Rattle.packet_decode.specs.declared.packet.Body.TheVariants as body
-use Rattle.fast_pattern.specs.declared.header.Asked.{Asked}
+use Rattle.fast_pattern.specs.declared.header.RuleHead.{RuleHead}
 use Rattle.net_lists.specs.Membership.{is_in, has_port}
 use Rattle.fast_pattern.specs.Candidates.{header_fits}
 use Rattle.pattern_search.specs.Slots.{slot_bit, table_words, KeepsSlots}
@@ -43,14 +43,14 @@ pub record OpensAll (old : List ℕ) (part : ℕ) (new : List ℕ) : Type 0 wher
   pub own : is_all new part ≡ true
 
 -- each port that a part of a list has is let in; of a negated one all are
-abbrev pub OpensPart : ℕ → List ℕ → Part (Bounds ℕ) → Type 0
+abbrev pub OpensPart : ℕ → List ℕ → Part (ValueBounds ℕ) → Type 0
 OpensPart part table ports = (port : ℕ) → (ports.negated || is_in port ports) ≡ true → is_open table part port ≡ true
 
 -- each port that a list has is let in
-abbrev pub Opens : List (Part (Bounds ℕ)) → ℕ → List ℕ → Type 0
+abbrev pub Opens : List (Part (ValueBounds ℕ)) → ℕ → List ℕ → Type 0
 Opens ports part table = (port : ℕ) → has_port ports port ≡ true → is_open table part port ≡ true
 
 -- each item that a rule's header fits is let in
-abbrev pub LetsIn : Asked → List ℕ → Type 0
+abbrev pub LetsIn : RuleHead → List ℕ → Type 0
 LetsIn asked table =
     (carried : Body) → header_fits asked.proto asked.sports asked.dports asked.both carried ≡ true → lets_in table carried ≡ true

@@ -7,8 +7,8 @@ use Rattle.std.specs.Prelude.{◌≡◌, ℕ, Bool, true, false, ◌&&◌, ◌||
 use Rattle.packet_decode.specs.declared.item.ItemHead.{ItemHead}
 use Rattle.packet_decode.specs.declared.packet.Body.{Body}
 use Rattle.rule_types.specs.declared.rule.Rule.{Rule}
-use Rattle.fast_pattern.specs.declared.header.Asked.{Asked}
-use Rattle.fast_pattern.specs.declared.header.Kind.TheVariants as kinds
+use Rattle.fast_pattern.specs.declared.header.RuleHead.{RuleHead}
+use Rattle.fast_pattern.specs.declared.header.Transport.TheVariants as kinds
 use Rattle.fast_pattern.specs.declared.groups.Groups.{Groups}
 use Rattle.fast_pattern.specs.FastPattern.{pattern_of}
 use Rattle.fast_pattern.specs.Candidates.{header_fits, candidates}
@@ -21,19 +21,19 @@ use Rattle.pattern_search.specs.Slots.{table_words}
 use Rattle.fast_pattern.specs.Doors.{lets_in}
 
 -- what is kept of a rule's header
-abbrev pub asked_of : Rule → Asked
+abbrev pub asked_of : Rule → RuleHead
 asked_of rule = record { proto = rule.proto; sports = rule.sports; dports = rule.dports; both = rule.both }
 
 -- the header of the rule at a place fits the item
-abbrev pub fits_some : Body → Option Asked → Bool
+abbrev pub fits_some : Body → Option RuleHead → Bool
 fits_some carried None = false
 fits_some carried (Some asked) = header_fits asked.proto asked.sports asked.dports asked.both carried
 
-unfoldable pub fits_at : List Asked → Body → ℕ → Bool
+unfoldable pub fits_at : List RuleHead → Body → ℕ → Bool
 fits_at rules carried place = fits_some carried (slice_get rules place)
 
 -- the rule at a place has no pattern, and is asked for by the item
-unfoldable pub is_due_at : List Asked → List (List ℕ) → Body → ℕ → Bool
+unfoldable pub is_due_at : List RuleHead → List (List ℕ) → Body → ℕ → Bool
 is_due_at rules patterns carried place = is_plain rules patterns (kind_of carried) place && is_due carried (slice_get rules place)
 
 -- a rule's pattern as bytes; none is the empty one
@@ -45,7 +45,7 @@ abbrev pub texts_of : List Rule → List (List ℕ)
 texts_of rules = map (λ rule. text_of (pattern_of rule.opts)) rules
 
 -- each item that the header of one of these rules fits is let in
-pub record Guards (table : List ℕ) (rules : List Asked) : Type 0 where
+pub record Guards (table : List ℕ) (rules : List RuleHead) : Type 0 where
   pub sized : length table ≡ table_words
   pub guards : (carried : Body) (place : ℕ) → fits_at rules carried place ≡ true → lets_in table carried ≡ true
 

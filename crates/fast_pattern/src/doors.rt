@@ -8,7 +8,7 @@ ghost use Rattle.pattern_search.specs.Slots.{table_words, KeepsSlots};
 ghost use Rattle.fast_pattern.specs.Grouping.{Guards};
 ghost use Rattle.fast_pattern.specs.Doors.{is_all, is_open, lets_in, LetsIn, Opens, OpensAll, OpensPart};
 
-use crate::header::Asked;
+use crate::header::RuleHead;
 use edge_io::NoMemory;
 use net_lists::PortPart;
 use packet_decode::Body;
@@ -89,7 +89,7 @@ fn open_list(table: &mut [u32], part: u32, ports: &[PortPart])
 }
 
 /// Lets the ports of both sides in.
-fn open_sides(table: &mut [u32], from: u32, to: u32, asked: &Asked)
+fn open_sides(table: &mut [u32], from: u32, to: u32, asked: &RuleHead)
     requires table { length table.old ≡ table_words }
     requires from { from < 4 }
     requires to { to < 4 }
@@ -107,7 +107,7 @@ fn open_sides(table: &mut [u32], from: u32, to: u32, asked: &Asked)
 }
 
 /// Lets in what a rule's header fits.
-fn open_rule(table: &mut [u32], asked: &Asked)
+fn open_rule(table: &mut [u32], asked: &RuleHead)
     requires table { length table.old ≡ table_words }
     ensures keeps { KeepsSlots table.old table.new }
     ensures opens { LetsIn asked.now table.new }
@@ -128,7 +128,7 @@ fn open_rule(table: &mut [u32], asked: &Asked)
 }
 
 /// Lets in what the headers of these rules fit.
-fn open_rules(table: &mut [u32], rules: &[Asked])
+fn open_rules(table: &mut [u32], rules: &[RuleHead])
     requires table { length table.old ≡ table_words }
     ensures keeps { KeepsSlots table.old table.new }
     ensures guards { Guards table.new rules.now }
@@ -159,7 +159,7 @@ fn is_open(table: &[u32], part: u32, port: u16) -> bool
 }
 
 /// A table in which nothing is let in but what the headers of these rules fit.
-pub fn door_table(alloc: Global, rules: &[Asked]) -> Result<Vec<u32>, NoMemory>
+pub fn door_table(alloc: Global, rules: &[RuleHead]) -> Result<Vec<u32>, NoMemory>
     ensures { IfOk result (λ table. Guards table.items rules.now) }
 {
     let mut table = vec![in alloc; 0; TABLE_WORDS]?;

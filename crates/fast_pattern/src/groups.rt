@@ -7,7 +7,7 @@ ghost use Rattle.fast_pattern.specs.Candidates.{occurs_if_any, ContentsOccur};
 
 use crate::choice::chosen;
 use crate::doors::{door_table, lets_in};
-use crate::header::{Asked, Kind};
+use crate::header::{RuleHead, Transport};
 use crate::sides::{Sides, is_plain};
 use edge_io::{NoMemory, Text};
 use packet_decode::{Body, ItemHead};
@@ -19,7 +19,7 @@ use std::alloc::{AllocError, Global};
 /// those that have none are in indexes by port, or in a list where an item has no ports.
 #[derive(Drop)]
 pub struct Groups {
-    rules: Vec<Asked>,
+    rules: Vec<RuleHead>,
     doors: Vec<u32>,
     automaton: Automaton,
     tcp: Sides,
@@ -81,12 +81,12 @@ impl Groups {
     }
 
     /// What is asked of the rules' headers.
-    fn headers(alloc: Global, rules: &[Rule]) -> Result<Vec<Asked>, NoMemory>
+    fn headers(alloc: Global, rules: &[Rule]) -> Result<Vec<RuleHead>, NoMemory>
         ensures { IfOk result (λ headers. headers.items ≡ map asked_of rules.now) }
     {
         let mut headers = Vec::new(alloc);
         for rule in rules {
-            headers.push(Asked::of(alloc, rule)?)?;
+            headers.push(RuleHead::of(alloc, rule)?)?;
         }
         Ok(headers)
     }
@@ -94,9 +94,9 @@ impl Groups {
     /// The rules without a pattern that may fit the kind.
     fn plain(
         alloc: Global,
-        rules: &[Asked],
+        rules: &[RuleHead],
         patterns: &[Text],
-        kind: Kind,
+        kind: Transport,
     ) -> Result<Vec<u32>, NoMemory>
         requires same { length rules.now ≡ length patterns.now }
         requires few { length rules.now ≤ 65536 }
@@ -121,10 +121,10 @@ impl Groups {
         Ok(Groups {
             doors: door_table(alloc, &headers)?,
             automaton: Automaton::of(alloc, &patterns)?,
-            tcp: Sides::of(alloc, &headers, &patterns, Kind::Tcp)?,
-            udp: Sides::of(alloc, &headers, &patterns, Kind::Udp)?,
-            icmp: Groups::plain(alloc, &headers, &patterns, Kind::Icmp)?,
-            other: Groups::plain(alloc, &headers, &patterns, Kind::Other)?,
+            tcp: Sides::of(alloc, &headers, &patterns, Transport::Tcp)?,
+            udp: Sides::of(alloc, &headers, &patterns, Transport::Udp)?,
+            icmp: Groups::plain(alloc, &headers, &patterns, Transport::Icmp)?,
+            other: Groups::plain(alloc, &headers, &patterns, Transport::Other)?,
             rules: headers,
         })
     }
@@ -146,7 +146,7 @@ impl Groups {
 
     /// Whether the header of the rule at a place fits.
     #[tactic(auto, unfolding(crate::specs::Grouping::fits_at))]
-    fn fits_at(rules: &[Asked], place: u32, body: &Body) -> bool
+    fn fits_at(rules: &[RuleHead], place: u32, body: &Body) -> bool
         ensures { result ≡ fits_at rules.now body.now place }
     {
         if rules.len() <= place as usize {
@@ -158,7 +158,7 @@ impl Groups {
     /// Of these places those whose rules' headers fit.
     fn fitting(
         alloc: Global,
-        rules: &[Asked],
+        rules: &[RuleHead],
         places: &[u32],
         body: &Body,
     ) -> Result<Vec<u32>, NoMemory>

@@ -11,7 +11,7 @@ use std::alloc::Global;
 
 /// What decides it: the protocol, the ports and the direction of a rule.
 #[derive(Drop)]
-pub struct Asked {
+pub struct RuleHead {
     pub proto: Proto,
     pub sports: PortList,
     pub dports: PortList,
@@ -20,7 +20,7 @@ pub struct Asked {
 
 /// What an item carries, as far as a rule without ports asks.
 #[derive(Clone, Copy)]
-pub enum Kind {
+pub enum Transport {
     Tcp,
     Udp,
     Icmp,
@@ -34,7 +34,7 @@ fn copied(alloc: Global, ports: &PortList) -> Result<PortList, NoMemory>
     Ok(PortList::from_vec(Vec::from_slice(alloc, ports.parts())?))
 }
 
-impl Kind {
+impl Transport {
     ghost use Rattle.fast_pattern.specs.Kinds.{is_for};
 
     /// Whether rules of the protocol may fit the kind.
@@ -43,22 +43,22 @@ impl Kind {
     {
         match (self, proto) {
             (_, Proto::Ip) => true,
-            (Kind::Tcp, Proto::Tcp) => true,
-            (Kind::Udp, Proto::Udp) => true,
-            (Kind::Icmp, Proto::Icmp) => true,
+            (Transport::Tcp, Proto::Tcp) => true,
+            (Transport::Udp, Proto::Udp) => true,
+            (Transport::Icmp, Proto::Icmp) => true,
             _ => false,
         }
     }
 }
 
-impl Asked {
+impl RuleHead {
     ghost use Rattle.fast_pattern.specs.Grouping.{asked_of};
 
     /// What is asked of the rule's header.
-    pub fn of(alloc: Global, rule: &Rule) -> Result<Asked, NoMemory>
+    pub fn of(alloc: Global, rule: &Rule) -> Result<RuleHead, NoMemory>
         ensures { IfOk result (λ asked. asked ≡ asked_of rule.now) }
     {
-        Ok(Asked {
+        Ok(RuleHead {
             proto: rule.proto,
             sports: copied(alloc, &rule.sports)?,
             dports: copied(alloc, &rule.dports)?,

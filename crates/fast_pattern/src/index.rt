@@ -16,7 +16,7 @@ const BLOCKS: usize = 131072;
 
 /// A place, at a block of the ports that it is asked for at.
 #[derive(Clone, Copy)]
-pub struct Entry {
+pub struct IndexEntry {
     pub block: u32,
     pub place: u32,
 }
@@ -25,7 +25,7 @@ pub struct Entry {
 #[derive(Drop)]
 pub struct PortIndex {
     /// The places, each with a block; a place is there once for each of its blocks.
-    pub entries: Vec<Entry>,
+    pub entries: Vec<IndexEntry>,
     /// The last entry of each block: its place in the list, plus one.
     pub heads: Vec<u32>,
     /// The entry of the same block before each one: its place in the list, plus one.
@@ -33,7 +33,7 @@ pub struct PortIndex {
 }
 
 /// The place of an entry; 0 where there is none.
-fn place_at(entries: &[Entry], at: usize) -> u32
+fn place_at(entries: &[IndexEntry], at: usize) -> u32
     ensures { result ≡ (entry_at entries.now at).place }
 {
     if entries.len() <= at {
@@ -43,7 +43,7 @@ fn place_at(entries: &[Entry], at: usize) -> u32
 }
 
 /// The blocks of the entries.
-fn blocks_of(alloc: Global, entries: &[Entry]) -> Result<Vec<u32>, AllocError>
+fn blocks_of(alloc: Global, entries: &[IndexEntry]) -> Result<Vec<u32>, AllocError>
     ensures { IfOk result (λ blocks. blocks.items ≡ blocks_of entries.now) }
 {
     let mut blocks = Vec::new(alloc);
@@ -54,11 +54,15 @@ fn blocks_of(alloc: Global, entries: &[Entry]) -> Result<Vec<u32>, AllocError>
 }
 
 /// Adds an entry of the place at each block.
-pub fn push_entries(entries: &mut Vec<Entry>, blocks: &[u32], place: u32) -> Result<(), AllocError>
+pub fn push_entries(
+    entries: &mut Vec<IndexEntry>,
+    blocks: &[u32],
+    place: u32,
+) -> Result<(), AllocError>
     ensures { OnOk result (entries.new.items ≡ entries.old.items ++ entries_of place blocks.now) }
 {
     for block in blocks {
-        entries.push(Entry {
+        entries.push(IndexEntry {
             block: *block,
             place,
         })?;
@@ -70,7 +74,7 @@ impl PortIndex {
     ghost use Rattle.fast_pattern.specs.Blocks.{IsChained, AddFiled};
 
     /// The index of these entries.
-    pub fn of(alloc: Global, entries: Vec<Entry>) -> Result<PortIndex, NoMemory>
+    pub fn of(alloc: Global, entries: Vec<IndexEntry>) -> Result<PortIndex, NoMemory>
         requires { AreBlocks entries.items }
         ensures chained { IfOk result (λ index. IsChained index) }
         ensures entries { IfOk result (λ index. index.entries.items ≡ entries.items) }

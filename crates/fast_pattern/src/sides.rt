@@ -5,8 +5,8 @@ ghost use Rattle.fast_pattern.specs.Kinds.{is_plain};
 ghost use Rattle.fast_pattern.specs.Sides.{is_ip, key_of, belongs_in, belongs_at, AreSoughtAt, AreFiled, IsSide};
 
 use crate::blocks::push_blocks;
-use crate::header::{Asked, Kind};
-use crate::index::{Entry, PortIndex, push_entries};
+use crate::header::{RuleHead, Transport};
+use crate::index::{IndexEntry, PortIndex, push_entries};
 use edge_io::{NoMemory, Text};
 use net_lists::PortPart;
 use rule_types::Proto;
@@ -14,7 +14,7 @@ use std::alloc::{AllocError, Global};
 
 /// The side of a packet whose port is looked at.
 #[derive(Clone, Copy)]
-pub enum Side {
+pub enum PacketSide {
     Source,
     Destination,
 }
@@ -34,7 +34,7 @@ fn is_ip(proto: Proto) -> bool
 
 /// The list of ports that tells.
 #[tactic(auto, unfolding(crate::specs::Sides::key_of))]
-fn key_of(asked: &Asked) -> &[PortPart]
+fn key_of(asked: &RuleHead) -> &[PortPart]
     ensures { result.now ≡ key_of asked.now }
 {
     if is_ip(asked.proto) {
@@ -48,21 +48,21 @@ fn key_of(asked: &Asked) -> &[PortPart]
 
 /// Whether the rule is in the index of a side.
 #[tactic(auto, unfolding(crate::specs::Sides::belongs_in))]
-fn belongs_in(side: Side, asked: &Asked) -> bool
+fn belongs_in(side: PacketSide, asked: &RuleHead) -> bool
     ensures { result ≡ belongs_in side asked.now }
 {
     let ip = is_ip(asked.proto);
     let from_any = asked.sports.parts().is_empty();
     let to_any = asked.dports.parts().is_empty();
     match side {
-        Side::Destination => ip || asked.both || !to_any || from_any,
-        Side::Source => !ip && if to_any { !from_any } else { asked.both },
+        PacketSide::Destination => ip || asked.both || !to_any || from_any,
+        PacketSide::Source => !ip && if to_any { !from_any } else { asked.both },
     }
 }
 
 /// Whether the rule at a place has no pattern, and may fit the kind.
 #[tactic(auto, unfolding(crate::specs::Kinds::is_plain))]
-pub fn is_plain(rules: &[Asked], patterns: &[Text], kind: Kind, place: usize) -> bool
+pub fn is_plain(rules: &[RuleHead], patterns: &[Text], kind: Transport, place: usize) -> bool
     requires { length rules.now ≡ length patterns.now }
     ensures { result ≡ is_plain rules.now patterns.now kind place }
 {
@@ -73,7 +73,13 @@ pub fn is_plain(rules: &[Asked], patterns: &[Text], kind: Kind, place: usize) ->
 }
 
 /// Whether the rule at a place has no pattern, may fit the kind, and is in the index of a side.
-fn belongs_at(rules: &[Asked], patterns: &[Text], kind: Kind, side: Side, place: usize) -> bool
+fn belongs_at(
+    rules: &[RuleHead],
+    patterns: &[Text],
+    kind: Transport,
+    side: PacketSide,
+    place: usize,
+) -> bool
     requires same { length rules.now ≡ length patterns.now }
     requires within { place < length rules.now }
     ensures { result ≡ belongs_at rules.now patterns.now kind side place }
@@ -84,10 +90,10 @@ fn belongs_at(rules: &[Asked], patterns: &[Text], kind: Kind, side: Side, place:
 /// The blocks at which a rule without a pattern is filed in the index of a side; none where it isn't.
 fn blocks_at(
     alloc: Global,
-    rules: &[Asked],
+    rules: &[RuleHead],
     patterns: &[Text],
-    kind: Kind,
-    side: Side,
+    kind: Transport,
+    side: PacketSide,
     place: usize,
 ) -> Result<Vec<u32>, AllocError>
     requires same { length rules.now ≡ length patterns.now }
@@ -105,11 +111,11 @@ fn blocks_at(
 /// The entries of the rules without a pattern that may fit the kind, for the index of a side.
 fn entries_by(
     alloc: Global,
-    rules: &[Asked],
+    rules: &[RuleHead],
     patterns: &[Text],
-    kind: Kind,
-    side: Side,
-) -> Result<Vec<Entry>, AllocError>
+    kind: Transport,
+    side: PacketSide,
+) -> Result<Vec<IndexEntry>, AllocError>
     requires same { length rules.now ≡ length patterns.now }
     requires few { length rules.now ≤ 65536 }
     ensures { IfOk result (λ entries. AreFiled rules.now patterns.now kind side entries.items (length rules.now)) }
@@ -125,10 +131,10 @@ fn entries_by(
 /// The index of a side.
 fn index_by(
     alloc: Global,
-    rules: &[Asked],
+    rules: &[RuleHead],
     patterns: &[Text],
-    kind: Kind,
-    side: Side,
+    kind: Transport,
+    side: PacketSide,
 ) -> Result<PortIndex, NoMemory>
     requires same { length rules.now ≡ length patterns.now }
     requires few { length rules.now ≤ 65536 }
@@ -145,17 +151,17 @@ impl Sides {
     /// The rules without a pattern that may fit the kind.
     pub fn of(
         alloc: Global,
-        rules: &[Asked],
+        rules: &[RuleHead],
         patterns: &[Text],
-        kind: Kind,
+        kind: Transport,
     ) -> Result<Sides, NoMemory>
         requires same { length rules.now ≡ length patterns.now }
         requires few { length rules.now ≤ 65536 }
         ensures { IfOk result (λ sides. AreSides rules.now patterns.now kind sides) }
     {
         Ok(Sides {
-            source: index_by(alloc, rules, patterns, kind, Side::Source)?,
-            destination: index_by(alloc, rules, patterns, kind, Side::Destination)?,
+            source: index_by(alloc, rules, patterns, kind, PacketSide::Source)?,
+            destination: index_by(alloc, rules, patterns, kind, PacketSide::Destination)?,
         })
     }
 

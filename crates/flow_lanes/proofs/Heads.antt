@@ -26,10 +26,10 @@ use Rattle.flow_lanes.specs.ItemHits.{bits_after_item, hit, hits_of}
 use Rattle.flow_lanes.specs.Items.{JobItems, acked_items, both_sides, closing_items, finish_items, head_between, held_items}
 use Rattle.flow_lanes.specs.Items.{is_queued, left_items, own_items, packet_items, packet_item, session_after, session_items}
 use Rattle.flow_lanes.specs.Items.{stream_items}
-use Rattle.flow_lanes.specs.Sessions.{Packet, Session, ack_of, acked_side, after_ack, after_data, begun_session, client_end}
+use Rattle.flow_lanes.specs.Sessions.{Packet, FlowSession, ack_of, acked_side, after_ack, after_data, begun_session, client_end}
 use Rattle.flow_lanes.specs.Sessions.{is_from_client, receiver, sender, seq_of, server_end, session_of, settled, sizes_of}
 use Rattle.flow_lanes.specs.Sessions.{state_of, step_of, with_bases}
-use Rattle.flow_lanes.specs.Sides.{Side, acked_payloads, held_payloads, left_payloads, side_after_ack, side_after_data, with_base, without_left}
+use Rattle.flow_lanes.specs.Sides.{SessionSide, acked_payloads, held_payloads, left_payloads, side_after_ack, side_after_data, with_base, without_left}
 
 -- something holds of a head, and of what a job and an item have of heads
 abbrev pub OfItemHead : (IpHead → Body → Type 0) → ItemHead → Type 0
@@ -52,14 +52,14 @@ module _ (OfHead : IpHead → Body → Type 0) (OfEnds : End → End → Type 0)
     (told_ends : (ip : IpHead) (carried : Body) (len : ℕ) (moment : Moment) → OfHead ip carried → OfEnds (segment_of ip carried len moment).sender (segment_of ip carried len moment).receiver)
     (stream_head : (from to : End) (of_client : Bool) (moment : Moment) (sizes : ℕ × ℕ) → OfEnds from to → OfItemHead OfHead (head_between from to of_client moment sizes)) where
   -- a side, a session, and a session that may be there
-  abbrev OfSide : Side → Type 0
+  abbrev OfSide : SessionSide → Type 0
   OfSide side = OfEnds side.from side.to
 
-  record OfSession (session : Session) : Type 0 where
+  record OfSession (session : FlowSession) : Type 0 where
     client : OfSide session.client
     server : OfSide session.server
 
-  abbrev OfMaybe : Option Session → Type 0
+  abbrev OfMaybe : Option FlowSession → Type 0
   OfMaybe None = ⊤
   OfMaybe (Some session) = OfSession session
 
@@ -69,42 +69,42 @@ module _ (OfHead : IpHead → Body → Type 0) (OfEnds : End → End → Type 0)
 
   -- ---- what happens to a side
 
-  choose : (test : Bool) (a b : Side) → OfSide a → OfSide b → OfSide (if test then a else b)
+  choose : (test : Bool) (a b : SessionSide) → OfSide a → OfSide b → OfSide (if test then a else b)
   choose true a b one other = one
   choose false a b one other = other
 
-  based : (side : Side) (base : Option ℕ) → OfSide side → OfSide (with_base side base)
+  based : (side : SessionSide) (base : Option ℕ) → OfSide side → OfSide (with_base side base)
   based side None has = has
   based side (Some seq) has = has
 
-  left_without : (side : Side) → OfSide side → OfSide (without_left side)
+  left_without : (side : SessionSide) → OfSide side → OfSide (without_left side)
   left_without side has = choose side.on side _ has has
 
-  acked : (side : Side) (ack : ℕ) → OfSide side → OfSide (side_after_ack side ack)
+  acked : (side : SessionSide) (ack : ℕ) → OfSide side → OfSide (side_after_ack side ack)
   unfolding side_after_ack
   acked side ack has = choose _ _ side has has
 
-  given : (side : Side) (seq : ℕ) (bytes : List ℕ) → OfSide side → OfSide (side_after_data side seq bytes)
+  given : (side : SessionSide) (seq : ℕ) (bytes : List ℕ) → OfSide side → OfSide (side_after_data side seq bytes)
   unfolding side_after_data
   given side seq [] has = has
   given side seq (byte ∷ bytes) has = has
 
   -- ---- what happens to a session
 
-  pick : (test : Bool) (a b : Session) → OfSession a → OfSession b → OfSession (if test then a else b)
+  pick : (test : Bool) (a b : FlowSession) → OfSession a → OfSession b → OfSession (if test then a else b)
   pick true a b one other = one
   pick false a b one other = other
 
-  based_session : (step : Step) (session : Session) → OfSession session → OfSession (with_bases step session)
+  based_session : (step : Step) (session : FlowSession) → OfSession session → OfSession (with_bases step session)
   based_session step session has = record {
     client = based session.client step.client_base has.client;
     server = based session.server step.server_base has.server;
   }
 
-  settled_has : (session : Session) → OfSession session → OfSession (settled session)
+  settled_has : (session : FlowSession) → OfSession session → OfSession (settled session)
   settled_has session has = record { client = left_without session.client has.client; server = left_without session.server has.server }
 
-  after_ack_has : (p : Packet) (step : Step) (session : Session) → OfSession session → OfSession (after_ack p step session)
+  after_ack_has : (p : Packet) (step : Step) (session : FlowSession) → OfSession session → OfSession (after_ack p step session)
   unfolding after_ack
   after_ack_has p step session has =
       pick (not step.counts_ack) session _ has
@@ -112,7 +112,7 @@ module _ (OfHead : IpHead → Body → Type 0) (OfEnds : End → End → Type 0)
       (record { client = has.client; server = acked session.server (ack_of p) has.server })
       (record { client = acked session.client (ack_of p) has.client; server = has.server }))
 
-  after_data_has : (p : Packet) (step : Step) (session : Session) → OfSession session → OfSession (after_data p step session)
+  after_data_has : (p : Packet) (step : Step) (session : FlowSession) → OfSession session → OfSession (after_data p step session)
   unfolding after_data
   after_data_has p step session has =
       pick (not step.takes_data) session _ has
@@ -121,7 +121,7 @@ module _ (OfHead : IpHead → Body → Type 0) (OfEnds : End → End → Type 0)
       (record { client = given session.client (seq_of p) p.payload has.client; server = has.server })
       (record { client = has.client; server = given session.server (seq_of p) p.payload has.server }))
 
-  steered_has : (rules : List Rule) (items : List Hits) (session : Session) → OfSession session → OfSession (steered rules items session)
+  steered_has : (rules : List Rule) (items : List Hits) (session : FlowSession) → OfSession session → OfSession (steered rules items session)
   unfolding steered
   steered_has rules items session has = record { client = has.client; server = has.server }
 
@@ -137,44 +137,44 @@ module _ (OfHead : IpHead → Body → Type 0) (OfEnds : End → End → Type 0)
       let ends = chosen (is_from_client step) (sender p) (receiver p) (told_ends p.head.ip p.head.body (length p.payload) p.moment has) in
       record { client = ends; server = turned_ends (client_end p step) (server_end p step) ends }
 
-  pick_maybe : (test : Bool) (a b : Option Session) → OfMaybe a → OfMaybe b → OfMaybe (if test then a else b)
+  pick_maybe : (test : Bool) (a b : Option FlowSession) → OfMaybe a → OfMaybe b → OfMaybe (if test then a else b)
   pick_maybe true a b one other = one
   pick_maybe false a b one other = other
 
-  mapped : (f : Session → Session) (found : Option Session) → ((session : Session) → OfSession session → OfSession (f session)) → OfMaybe found
+  mapped : (f : FlowSession → FlowSession) (found : Option FlowSession) → ((session : FlowSession) → OfSession session → OfSession (f session)) → OfMaybe found
       → OfMaybe (option_map f found)
   mapped f None each has = tt
   mapped f (Some session) each has = each session has
 
-  own_session : (making : Making) (p : Packet) (found : Option Session) (step : Step) (state : State) → OfItemHead OfHead p.head → OfMaybe found
+  own_session : (making : Making) (p : Packet) (found : Option FlowSession) (step : Step) (state : State) → OfItemHead OfHead p.head → OfMaybe found
       → OfMaybe (session_of making p found step state)
   unfolding session_of
   own_session making p found step state head has =
       pick_maybe (not step.tracked) None _ tt
       (pick_maybe step.begun (Some (with_bases step (begun_session making p step state))) _
       (based_session step (begun_session making p step state) (begun_has making p step state head))
-      (mapped (λ (session : Session). with_bases step (record (settled session) { state = state })) found
+      (mapped (λ (session : FlowSession). with_bases step (record (settled session) { state = state })) found
       (λ session it. let settled_one = settled_has session it in
       based_session step (record (settled session) { state = state }) (record { client = settled_one.client; server = settled_one.server })) has))
 
-  has_after_packet : (p : Packet) (step : Step) (session : Option Session) → OfMaybe session → OfMaybe (session_after p step session)
+  has_after_packet : (p : Packet) (step : Step) (session : Option FlowSession) → OfMaybe session → OfMaybe (session_after p step session)
   has_after_packet p step session has =
-      mapped (λ (s : Session). after_data p step (after_ack p step s)) session (λ s it. after_data_has p step (after_ack p step s) (after_ack_has p step s it)) has
+      mapped (λ (s : FlowSession). after_data p step (after_ack p step s)) session (λ s it. after_data_has p step (after_ack p step s) (after_ack_has p step s it)) has
 
   -- ---- items
 
-  stream_has : (side : Side) (of_client : Bool) (moment : Moment) (sizes : ℕ × ℕ) (payloads : List (List ℕ)) → OfSide side → All OfItem (stream_items side of_client moment sizes payloads)
+  stream_has : (side : SessionSide) (of_client : Bool) (moment : Moment) (sizes : ℕ × ℕ) (payloads : List (List ℕ)) → OfSide side → All OfItem (stream_items side of_client moment sizes payloads)
   stream_has side of_client moment sizes payloads has =
       All-map OfItem (λ (payload : List ℕ). record { head = head_between side.from side.to of_client moment sizes; payload = payload }) payloads
       (λ k d lt. stream_head side.from side.to of_client moment sizes has)
 
-  both_have : (payloads : Side → List (List ℕ)) (session : Session) (moment : Moment) (sizes : ℕ × ℕ) → OfSession session → All OfItem (both_sides payloads session moment sizes)
+  both_have : (payloads : SessionSide → List (List ℕ)) (session : FlowSession) (moment : Moment) (sizes : ℕ × ℕ) → OfSession session → All OfItem (both_sides payloads session moment sizes)
   both_have payloads session moment sizes has =
       All-append OfItem (stream_items session.client true moment sizes (payloads session.client)) (stream_items session.server false moment sizes (payloads session.server))
       (stream_has session.client true moment sizes (payloads session.client) has.client)
       (stream_has session.server false moment sizes (payloads session.server) has.server)
 
-  closing_have : (session : Session) (moment : Moment) → OfSession session → All OfItem (closing_items session moment)
+  closing_have : (session : FlowSession) (moment : Moment) → OfSession session → All OfItem (closing_items session moment)
   unfolding closing_items
   closing_have session moment has =
       All-append OfItem (left_items session moment (sizes_of session)) (held_items (settled session) moment (sizes_of session))
@@ -182,7 +182,7 @@ module _ (OfHead : IpHead → Body → Type 0) (OfEnds : End → End → Type 0)
       (both_have held_payloads (settled session) moment (sizes_of session) (settled_has session has))
 
   -- the items of a session that may be there
-  maybe_have : (f : Session → List Item) (found : Option Session) → ((session : Session) → OfSession session → All OfItem (f session)) → OfMaybe found
+  maybe_have : (f : FlowSession → List Item) (found : Option FlowSession) → ((session : FlowSession) → OfSession session → All OfItem (f session)) → OfMaybe found
       → All OfItem (option_map_or f found [])
   maybe_have f None each has = All-nil OfItem
   maybe_have f (Some session) each has = each session has
@@ -191,7 +191,7 @@ module _ (OfHead : IpHead → Body → Type 0) (OfEnds : End → End → Type 0)
   pick_items true a b one other = one
   pick_items false a b one other = other
 
-  acked_have : (p : Packet) (step : Step) (session : Session) (sizes : ℕ × ℕ) → OfSession session → All OfItem (acked_items p step session sizes)
+  acked_have : (p : Packet) (step : Step) (session : FlowSession) (sizes : ℕ × ℕ) → OfSession session → All OfItem (acked_items p step session sizes)
   acked_have p step session sizes has =
       pick_items step.counts_ack _ []
       (stream_has (acked_side step session) (not (unwrap_or step.from_client true)) p.moment sizes
@@ -199,30 +199,30 @@ module _ (OfHead : IpHead → Body → Type 0) (OfEnds : End → End → Type 0)
       (choose (is_from_client step) session.server session.client has.server has.client))
       (All-nil OfItem)
 
-  own_have : (making : Making) (p : Packet) (step : Step) (session after : Option Session) → OfItemHead OfHead p.head → All OfItem (own_items making p step session after)
+  own_have : (making : Making) (p : Packet) (step : Step) (session after : Option FlowSession) → OfItemHead OfHead p.head → All OfItem (own_items making p step session after)
   own_have making p step session after has =
       pick_items (is_queued p step session && not making.inserts) [] (packet_item p step after ∷ []) (All-nil OfItem)
       (All-cons OfItem (packet_item p step after) []
       has (All-nil OfItem))
 
-  session_have : (making : Making) (p : Packet) (step : Step) (found session after : Option Session) → OfItemHead OfHead p.head → OfMaybe found → OfMaybe session → OfMaybe after
+  session_have : (making : Making) (p : Packet) (step : Step) (found session after : Option FlowSession) → OfItemHead OfHead p.head → OfMaybe found → OfMaybe session → OfMaybe after
       → All OfItem (session_items making p step found session after)
   session_have making p step found session after head found_has session_has after_has =
       let sizes : ℕ × ℕ = option_map_or sizes_of after (0, 0) in
       let one : List Item =
-      if step.ended_before then [] else option_map_or (λ (s : Session). left_items s p.moment sizes) found [] in
-      let two : List Item = option_map_or (λ (s : Session). acked_items p step s sizes) session [] in
-      let three : List Item = if step.ends then option_map_or (λ (s : Session). held_items s p.moment sizes) after [] else [] in
+      if step.ended_before then [] else option_map_or (λ (s : FlowSession). left_items s p.moment sizes) found [] in
+      let two : List Item = option_map_or (λ (s : FlowSession). acked_items p step s sizes) session [] in
+      let three : List Item = if step.ends then option_map_or (λ (s : FlowSession). held_items s p.moment sizes) after [] else [] in
       let four = own_items making p step session after in
       let first : All OfItem one =
       pick_items step.ended_before [] _ (All-nil OfItem)
-      (maybe_have (λ (s : Session). left_items s p.moment sizes) found
+      (maybe_have (λ (s : FlowSession). left_items s p.moment sizes) found
       (λ s it. both_have left_payloads s p.moment sizes it) found_has) in
       let second : All OfItem two =
-      maybe_have (λ (s : Session). acked_items p step s sizes) session (λ s it. acked_have p step s sizes it) session_has in
+      maybe_have (λ (s : FlowSession). acked_items p step s sizes) session (λ s it. acked_have p step s sizes it) session_has in
       let third : All OfItem three =
       pick_items step.ends _ []
-      (maybe_have (λ (s : Session). held_items s p.moment sizes) after
+      (maybe_have (λ (s : FlowSession). held_items s p.moment sizes) after
       (λ s it. both_have held_payloads s p.moment sizes it) after_has)
       (All-nil OfItem) in
       All-append OfItem (one ++ two ++ three) four
@@ -235,7 +235,7 @@ module _ (OfHead : IpHead → Body → Type 0) (OfEnds : End → End → Type 0)
     current : All OfItem items.current
     session : OfMaybe items.session
 
-  packet_has : (making : Making) (p : Packet) (found : Option Session) → OfItemHead OfHead p.head → OfMaybe found → OfItems (packet_items making p found)
+  packet_has : (making : Making) (p : Packet) (found : Option FlowSession) → OfItemHead OfHead p.head → OfMaybe found → OfItems (packet_items making p found)
   unfolding packet_items
   packet_has making p found head has =
       let step = step_of making p found in
@@ -245,20 +245,20 @@ module _ (OfHead : IpHead → Body → Type 0) (OfEnds : End → End → Type 0)
       let after = session_after p step session in
       let after_has = has_after_packet p step session session_has in
       record {
-        ended = pick_items step.ended_before _ [] (maybe_have (λ (s : Session). closing_items s p.moment) found (λ s it. closing_have s p.moment it) has) (All-nil OfItem);
+        ended = pick_items step.ended_before _ [] (maybe_have (λ (s : FlowSession). closing_items s p.moment) found (λ s it. closing_have s p.moment it) has) (All-nil OfItem);
         current = session_have making p step found session after head has session_has after_has;
         session = pick_maybe step.ends None after tt after_has;
       }
 
-  finish_has : (moment : Moment) (found : Option Session) → OfMaybe found → OfItems (finish_items moment found)
+  finish_has : (moment : Moment) (found : Option FlowSession) → OfMaybe found → OfItems (finish_items moment found)
   unfolding finish_items
   finish_has moment found has = record {
-    ended = maybe_have (λ (s : Session). closing_items s moment) found (λ s it. closing_have s moment it) has;
+    ended = maybe_have (λ (s : FlowSession). closing_items s moment) found (λ s it. closing_have s moment it) has;
     current = All-nil OfItem;
     session = tt;
   }
 
-  work_has : (making : Making) (moment : Moment) (todo : Work) (found : Option Session) → OfWork OfHead todo → OfMaybe found → OfItems (work_items making moment todo found)
+  work_has : (making : Making) (moment : Moment) (todo : Work) (found : Option FlowSession) → OfWork OfHead todo → OfMaybe found → OfItems (work_items making moment todo found)
   work_has making moment (work.Alone head payload) found head_has has = record {
     ended = All-nil OfItem;
     current = All-cons OfItem (record { head = head; payload = payload }) [] head_has (All-nil OfItem);
@@ -278,7 +278,7 @@ module _ (OfHead : IpHead → Body → Type 0) (OfEnds : End → End → Type 0)
   at_hand None has = tt
   at_hand (Some state) has = has
 
-  state_by : (trying : Trying) (items : JobItems) (found : Option FlowState) (session : Option Session) → items.session ≡ session → OfMaybe session
+  state_by : (trying : Trying) (items : JobItems) (found : Option FlowState) (session : Option FlowSession) → items.session ≡ session → OfMaybe session
       → OfState (state_after trying items found)
   unfolding state_after
   state_by trying items found None is has = rw (state_after, is) tt

@@ -13,7 +13,7 @@ use Rattle.flow_lanes.specs.declared.answer.BatchOut.{BatchOut}
 use Rattle.flow_lanes.specs.declared.answer.JobFound.{JobFound}
 use Rattle.flow_lanes.specs.declared.answer.Matches.{Matches}
 use Rattle.flow_lanes.specs.declared.job.Job.{Job}
-use Rattle.flow_lanes.specs.declared.worker.Share.{Share}
+use Rattle.flow_lanes.specs.declared.worker.LanePlace.{LanePlace}
 use Rattle.flow_lanes.specs.declared.worker.Worker.{Worker}
 use Rattle.flow_lanes.specs.Flows.{Detection, answer, answer_tries, items, same_flow}
 use Rattle.flow_lanes.specs.Given.{Inspection}
@@ -81,7 +81,7 @@ pub record AddsFound {P : Type 0} (by : Inspection P) (job : Job) (old : LaneSta
   pub learns : LearnsJob old job new
 
 -- a job of a batch is looked at by one lane of several, with which only its own jobs go on
-abbrev pub AddsOwn : {P : Type 0} → Inspection P → Share → Job → LaneState → List (Numbered JobFound) → LaneState
+abbrev pub AddsOwn : {P : Type 0} → Inspection P → LanePlace → Job → LaneState → List (Numbered JobFound) → LaneState
     → List (Numbered JobFound) → Type 0
 AddsOwn by share job old outs new more =
     (start : LaneState) (front : List Job) → GoesOn by start (own_jobs share.count share.place front) outs old

@@ -13,12 +13,12 @@ use Rattle.flow_lanes.specs.Engines.{Making}
 use Rattle.flow_lanes.specs.Flows.{FlowState, bits_at_hand, session_at_hand, state_after, steered}
 use Rattle.flow_lanes.specs.ItemHits.{bits_after_items, hits_of}
 use Rattle.flow_lanes.specs.Items.{packet_items, session_after}
-use Rattle.flow_lanes.specs.Sessions.{Packet, Session, session_of, state_of}
+use Rattle.flow_lanes.specs.Sessions.{Packet, FlowSession, session_of, state_of}
 use Rattle.flow_lanes.specs.Tried.{Gain, of_job, of_session}
 use Rattle.flow_lanes.specs.Working.{items_on}
 
 -- a session after items that found these bits: as their rules ask, and with the bits that they leave
-abbrev pub after_items : Trying → Option Bits → List Item → Session → FlowState
+abbrev pub after_items : Trying → Option Bits → List Item → FlowSession → FlowState
 after_items trying bits items session = record {
   session = steered trying.rules (hits_of trying bits items) session;
   bits = unwrap_or (bits_after_items trying bits items) empty;

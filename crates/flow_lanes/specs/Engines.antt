@@ -6,7 +6,7 @@
 -- To try it on: where no line gives an engine, the data that a client sends to port 80 are put together,
 -- and those of its server are not.
 use Rattle.std.specs.Prelude.{ℕ, Bool, false, List, Option, Some, None, if◌then◌else◌}
-use Rattle.net_lists.specs.declared.part.Bounds.{Bounds}
+use Rattle.net_lists.specs.declared.part.ValueBounds.{ValueBounds}
 use Rattle.net_lists.specs.declared.part.Part.{Part}
 use Rattle.conf_types.specs.declared.config.StreamConfig.{StreamConfig}
 use Rattle.conf_types.specs.declared.config.StreamEngine.{StreamEngine}
@@ -38,6 +38,6 @@ abbrev pub timeout_to : Making → Bool → ℕ → ℕ
 timeout_to making tcp place = if tcp then (engine_for making place).timeout else making.stream.udp_timeout
 
 -- the port is listed; no list has no port
-abbrev pub is_listed : Option (List (Part (Bounds ℕ))) → ℕ → Bool
+abbrev pub is_listed : Option (List (Part (ValueBounds ℕ))) → ℕ → Bool
 is_listed None port = false
 is_listed (Some ports) port = has_port ports port

@@ -14,7 +14,7 @@ use Rattle.edge_io.specs.declared.moment.Moment.{Moment}
 use Rattle.edge_io.specs.Along.{within}
 use Rattle.rule_types.specs.declared.option.Opt.{Opt}
 use Rattle.rule_types.specs.declared.option.Opt.TheVariants as opt
-use Rattle.rule_types.specs.declared.option.Side.{Side as Named}
+use Rattle.rule_types.specs.declared.option.Side.{Side}
 use Rattle.rule_types.specs.declared.option.Side.TheVariants as named
 use Rattle.rule_types.specs.declared.rule.Rule.{Rule}
 use Rattle.fast_pattern.specs.Candidates.{candidates}
@@ -30,7 +30,7 @@ pub use Rattle.flow_lanes.specs.declared.steering.SidesOn.{SidesOn}
 use Rattle.flow_lanes.specs.Engines.{Making}
 use Rattle.flow_lanes.specs.ItemHits.{bits_after_items, hits_of}
 use Rattle.flow_lanes.specs.Items.{JobItems, alone_items, finish_items, packet_items}
-use Rattle.flow_lanes.specs.Sessions.{Session}
+use Rattle.flow_lanes.specs.Sessions.{FlowSession}
 use Rattle.flow_lanes.specs.Sides.{turned}
 
 -- what items are made by, and which rules are tried on them
@@ -40,11 +40,11 @@ pub record Detection : Type 0 where
 
 -- The items of a job.
 
-abbrev pub session_at_hand : Option FlowState → Option Session
+abbrev pub session_at_hand : Option FlowState → Option FlowSession
 session_at_hand found = option_map (λ (s : FlowState). s.session) found
 
 -- the items of a job that finds this session
-abbrev pub work_items : Making → Moment → Work → Option Session → JobItems
+abbrev pub work_items : Making → Moment → Work → Option FlowSession → JobItems
 work_items making moment (work.Alone head payload) found = alone_items head payload
 work_items making moment (work.Packet flow head payload to_dst to_src) found =
     packet_items making (record { head = head; payload = payload; moment = moment; to_dst = to_dst; to_src = to_src }) found
@@ -64,7 +64,7 @@ bits_found items found =
 -- What rules ask of reassembly.
 
 -- a side that is named is turned on or off
-abbrev pub with_side : Bool → Named → SidesOn → SidesOn
+abbrev pub with_side : Bool → Side → SidesOn → SidesOn
 with_side on named.Client sides = record sides { client = on }
 with_side on named.Server sides = record sides { server = on }
 with_side on _ sides = record { client = on; server = on }
@@ -82,7 +82,7 @@ abbrev pub sides_after_hit : List Rule → SidesOn → Hits → SidesOn
 sides_after_hit rules sides hit = fold (sides_after_rule rules) sides hit.rules
 
 -- the session as the changes of a job leave it: those of its own items in that job
-unfoldable pub steered : List Rule → List Hits → Session → Session
+unfoldable pub steered : List Rule → List Hits → FlowSession → FlowSession
 steered rules hits session =
     let sides : SidesOn = fold (sides_after_hit rules) (record { client = session.client.on; server = session.server.on }) hits in
     record session { client = turned sides.client session.client; server = turned sides.server session.server }

@@ -7,14 +7,14 @@ use Rattle.conf_types.specs.declared.config.StreamConfig.{StreamConfig}
 use Rattle.option_eval.specs.RuleSet.{Rules}
 use Rattle.flow_lanes.specs.declared.arrival.Arrival.{Arrival}
 use Rattle.flow_lanes.specs.declared.inspector.Inspector.{Inspector}
-use Rattle.flow_lanes.specs.declared.settings.Settings.{Settings}
+use Rattle.flow_lanes.specs.declared.settings.LaneSettings.{LaneSettings}
 use Rattle.flow_lanes.specs.Engines.{Making}
 use Rattle.flow_lanes.specs.Sessions.{Packet}
 
 abbrev pub packet_of : Arrival → Packet
 packet_of p = record { head = p.head.now; payload = p.payload.now; moment = p.moment; to_dst = p.to_dst; to_src = p.to_src }
 
-abbrev pub making_of : Settings → Making
+abbrev pub making_of : LaneSettings → Making
 making_of settings = record { flush = settings.flush; inserts = settings.inserts; stream = settings.stream.now }
 
 -- by what jobs are answered: what the made patterns find, the configuration of streams, the rules, and whether

@@ -7,21 +7,21 @@ use Rattle.std.specs.Option.{option_map_or}
 use Rattle.flow_lanes.specs.declared.keeping.Flow.TheInside.{Inside}
 use Rattle.flow_lanes.specs.Flows.{FlowState, session_at_hand}
 use Rattle.flow_lanes.specs.Reach.{IsWithin}
-use Rattle.flow_lanes.specs.Sessions.{Packet, Session}
+use Rattle.flow_lanes.specs.Sessions.{Packet, FlowSession}
 use Rattle.flow_lanes.specs.Sound.{FlowFacts, ends_of}
 use Rattle.flow_lanes.specs.LanesAfter.{KeptFlow}
 
 -- the session, if there is one, is of this protocol
-abbrev pub IsOf : Bool → Option Session → Type 0
-IsOf tcp found = IfSome found (λ (session : Session). session.state.tcp ≡ tcp)
+abbrev pub IsOf : Bool → Option FlowSession → Type 0
+IsOf tcp found = IfSome found (λ (session : FlowSession). session.state.tcp ≡ tcp)
 
 -- the session, if there is one, is of this protocol and reaches `places` places at most
-pub record IsFound (tcp : Bool) (places : ℕ) (found : Option Session) : Type 0 where
+pub record IsFound (tcp : Bool) (places : ℕ) (found : Option FlowSession) : Type 0 where
   pub same : IsOf tcp found
   pub within : IsWithin found places
 
 -- the session of a flow is of the flow's protocol, and has come no further than the flow's packets allow
-pub record IsKeptBy (facts : FlowFacts) (found : Option Session) : Type 0 where
+pub record IsKeptBy (facts : FlowFacts) (found : Option FlowSession) : Type 0 where
   pub few : facts.packets ≤ 2 ^ 32
   pub kept : IsFound facts.ends.key.tcp (facts.packets * 2 ^ 31) found
 

@@ -1,8 +1,8 @@
 -- The bytes of a payload, whoever owns them.
 use Rattle.std.specs.Prelude.{ℕ, List}
-use Rattle.flow_lanes.specs.declared.payload.Held.{Held}
-use Rattle.flow_lanes.specs.declared.payload.Held.TheVariants.{Lent, Own}
+use Rattle.flow_lanes.specs.declared.payload.PayloadBytes.{PayloadBytes}
+use Rattle.flow_lanes.specs.declared.payload.PayloadBytes.TheVariants.{Lent, Own}
 
-abbrev pub bytes_held : Held → List ℕ
+abbrev pub bytes_held : PayloadBytes → List ℕ
 bytes_held (Lent bytes) = bytes.now
 bytes_held (Own bytes) = bytes

@@ -19,8 +19,8 @@ use Rattle.stream5_sessions.specs.Keys.{same_end}
 use Rattle.stream5_sessions.specs.Phases.{no_session, segment_of, session_step}
 use Rattle.flow_lanes.specs.declared.job.Toward.{Toward}
 use Rattle.flow_lanes.specs.Engines.{Making, engine_for, is_listed, limits_to, timeout_to}
-pub use Rattle.flow_lanes.specs.declared.session.Session.{Session}
-use Rattle.flow_lanes.specs.Sides.{Side, side_after_ack, side_after_data, side_at_begin, with_base, without_left}
+pub use Rattle.flow_lanes.specs.declared.session.FlowSession.{FlowSession}
+use Rattle.flow_lanes.specs.Sides.{SessionSide, side_after_ack, side_after_data, side_at_begin, with_base, without_left}
 
 -- a packet of a flow, with its moment and what goes by its two ends
 pub record Packet : Type 0 where
@@ -53,17 +53,17 @@ abbrev pub toward : Packet → End → Toward
 toward p end = if same_end end (receiver p) then p.to_dst else p.to_src
 
 -- the state of the session that the packet finds
-abbrev pub state_found : Packet → Option Session → State
+abbrev pub state_found : Packet → Option FlowSession → State
 state_found p None = no_session (is_tcp p.head.body) (record { nanos = 0 })
 state_found p (Some session) = session.state
 
 -- the end to which the session's first packet went; it is the packet's own where there is no session
-abbrev pub opening_end : Packet → Option Session → End
+abbrev pub opening_end : Packet → Option FlowSession → End
 opening_end p None = receiver p
 opening_end p (Some session) = session.opened_to
 
 -- the settings by which the packet is read
-abbrev pub session_rules : Making → Packet → Option Session → SessionRules
+abbrev pub session_rules : Making → Packet → Option FlowSession → SessionRules
 session_rules making p found = record {
   timeout = timeout_to making (is_tcp p.head.body) (toward p (opening_end p found)).engine;
   needed = (toward p (opening_end p found)).needed;
@@ -71,11 +71,11 @@ session_rules making p found = record {
 }
 
 -- what the packet tells of its session, and the session's state after it
-unfoldable pub step_of : Making → Packet → Option Session → Step
+unfoldable pub step_of : Making → Packet → Option FlowSession → Step
 step_of making p found = (session_step (state_found p found) (segment_of p.head.ip p.head.body (length p.payload) p.moment)
     (session_rules making p found)).step
 
-unfoldable pub state_of : Making → Packet → Option Session → State
+unfoldable pub state_of : Making → Packet → Option FlowSession → State
 state_of making p found = (session_step (state_found p found) (segment_of p.head.ip p.head.body (length p.payload) p.moment)
     (session_rules making p found)).state
 
@@ -91,21 +91,21 @@ abbrev pub server_end : Packet → Step → End
 server_end p step = if is_from_client step then receiver p else sender p
 
 -- the client's side at the begin: its data go to the server, and count by the server's port
-abbrev pub client_at_begin : Making → Packet → End → End → Side
+abbrev pub client_at_begin : Making → Packet → End → End → SessionSide
 client_at_begin making p client server =
     let to : Toward = toward p server in
     side_at_begin client server (limits_to making to.engine) to.preference
     (is_listed (engine_for making to.engine).client_ports server.port)
 
 -- the server's side: its data go to the client, and count by the server's port as well
-abbrev pub server_at_begin : Making → Packet → End → End → Side
+abbrev pub server_at_begin : Making → Packet → End → End → SessionSide
 server_at_begin making p client server =
     let to : Toward = toward p client in
     side_at_begin server client (limits_to making to.engine) to.preference
     (is_listed (engine_for making to.engine).server_ports server.port)
 
 -- a session that the packet begins
-unfoldable pub begun_session : Making → Packet → Step → State → Session
+unfoldable pub begun_session : Making → Packet → Step → State → FlowSession
 begun_session making p step state = record {
   state = state;
   opened_to = receiver p;
@@ -114,44 +114,44 @@ begun_session making p step state = record {
 }
 
 -- the session with the bases that the packet sets
-abbrev pub with_bases : Step → Session → Session
+abbrev pub with_bases : Step → FlowSession → FlowSession
 with_bases step session = record session {
   client = with_base session.client step.client_base;
   server = with_base session.server step.server_base;
 }
 
 -- the session without what is left of stretches that have ended
-abbrev pub settled : Session → Session
+abbrev pub settled : FlowSession → FlowSession
 settled session = record session { client = without_left session.client; server = without_left session.server }
 
 -- the session of the packet, if it has one: before its acknowledgement and its data
-unfoldable pub session_of : Making → Packet → Option Session → Step → State → Option Session
+unfoldable pub session_of : Making → Packet → Option FlowSession → Step → State → Option FlowSession
 session_of making p found step state =
     if not step.tracked then None
     else if step.begun then Some (with_bases step (begun_session making p step state))
-    else option_map (λ (session : Session). with_bases step (record (settled session) { state = state })) found
+    else option_map (λ (session : FlowSession). with_bases step (record (settled session) { state = state })) found
 
 -- the side whose data the packet acknowledges, and the side that sent it
-abbrev pub acked_side : Step → Session → Side
+abbrev pub acked_side : Step → FlowSession → SessionSide
 acked_side step session = if is_from_client step then session.server else session.client
 
-abbrev pub sending_side : Step → Session → Side
+abbrev pub sending_side : Step → FlowSession → SessionSide
 sending_side step session = if is_from_client step then session.client else session.server
 
 -- the session after the packet's acknowledgement, where that counts
-unfoldable pub after_ack : Packet → Step → Session → Session
+unfoldable pub after_ack : Packet → Step → FlowSession → FlowSession
 after_ack p step session =
     if not step.counts_ack then session
     else if is_from_client step then record session { server = side_after_ack session.server (ack_of p) }
     else record session { client = side_after_ack session.client (ack_of p) }
 
 -- the session after the packet's data, where those count
-unfoldable pub after_data : Packet → Step → Session → Session
+unfoldable pub after_data : Packet → Step → FlowSession → FlowSession
 after_data p step session =
     if not step.takes_data then session
     else if is_from_client step then record session { client = side_after_data session.client (seq_of p) p.payload }
     else record session { server = side_after_data session.server (seq_of p) p.payload }
 
 -- how far the data of the client and of the server reach
-abbrev pub sizes_of : Session → ℕ × ℕ
+abbrev pub sizes_of : FlowSession → ℕ × ℕ
 sizes_of session = (session.client.extent.size, session.server.extent.size)

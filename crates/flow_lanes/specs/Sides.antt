@@ -17,10 +17,10 @@ use Rattle.stream5_reassembly.specs.declared.limits.Limits.{Limits}
 use Rattle.stream5_reassembly.specs.Extents.{extent_after, extent_from, unknown}
 use Rattle.stream5_reassembly.specs.Segments.{DirectionState, ack_flushes, ack_place, after_fate, flushed_to, idle, segment_fate, started_at, top}
 use Rattle.flow_lanes.specs.Streams.{flushed_payloads}
-pub use Rattle.flow_lanes.specs.declared.side.Side.{Side}
+pub use Rattle.flow_lanes.specs.declared.side.SessionSide.{SessionSide}
 
 -- a side at its session's begin
-abbrev pub side_at_begin : End → End → Limits → Preference → Bool → Side
+abbrev pub side_at_begin : End → End → Limits → Preference → Bool → SessionSide
 side_at_begin from to limits preference on = record {
   from = from;
   to = to;
@@ -31,7 +31,7 @@ side_at_begin from to limits preference on = record {
 }
 
 -- a packet sets the side's base, or sets none
-abbrev pub with_base : Side → Option ℕ → Side
+abbrev pub with_base : SessionSide → Option ℕ → SessionSide
 with_base side None = side
 with_base side (Some seq) = record side {
   direction = (if side.since_begin then started_at side.direction seq else side.direction);
@@ -47,11 +47,11 @@ abbrev pub with_data : DirectionState → ℕ → List ℕ → DirectionState
 with_data direction seq bytes = after_fate (segment_fate direction seq bytes) direction seq bytes
 
 -- the side's direction after data that count
-abbrev pub direction_after_data : Side → ℕ → List ℕ → DirectionState
+abbrev pub direction_after_data : SessionSide → ℕ → List ℕ → DirectionState
 direction_after_data side seq bytes = if side.on then with_data (started_by side.direction seq) seq bytes else side.direction
 
 -- the side after data that count; no bytes are no data
-unfoldable pub side_after_data : Side → ℕ → List ℕ → Side
+unfoldable pub side_after_data : SessionSide → ℕ → List ℕ → SessionSide
 side_after_data side seq [] = side
 side_after_data side seq bytes = record side {
   direction = direction_after_data side seq bytes;
@@ -64,34 +64,34 @@ is_held Queued = true
 is_held fate = false
 
 -- data that count are queued
-unfoldable pub queues : Side → ℕ → List ℕ → Bool
+unfoldable pub queues : SessionSide → ℕ → List ℕ → Bool
 queues side seq [] = false
 queues side seq bytes = side.on && is_held (segment_fate (started_by side.direction seq) seq bytes)
 
 -- what an acknowledgement of the side's data flushes
-unfoldable pub acked_payloads : Side → ℕ → List (List ℕ)
+unfoldable pub acked_payloads : SessionSide → ℕ → List (List ℕ)
 acked_payloads side ack =
     if ack_flushes side.direction ack then flushed_payloads side.direction (ack_place side.direction ack) else []
 
 -- the side after an acknowledgement
-unfoldable pub side_after_ack : Side → ℕ → Side
+unfoldable pub side_after_ack : SessionSide → ℕ → SessionSide
 side_after_ack side ack =
     if ack_flushes side.direction ack
     then record side { direction = flushed_to side.direction (ack_place side.direction ack) }
     else side
 
 -- all that is held
-unfoldable pub held_payloads : Side → List (List ℕ)
+unfoldable pub held_payloads : SessionSide → List (List ℕ)
 held_payloads side = flushed_payloads side.direction (top side.direction)
 
 -- what is left of a stretch that was ended by turning the side off
-abbrev pub left_payloads : Side → List (List ℕ)
+abbrev pub left_payloads : SessionSide → List (List ℕ)
 left_payloads side = if side.on then [] else held_payloads side
 
 -- the side without it
-abbrev pub without_left : Side → Side
+abbrev pub without_left : SessionSide → SessionSide
 without_left side = if side.on then side else record side { direction = idle side.direction.limits side.direction.preference }
 
 -- the side turned on or off: a stretch that this begins did not begin with the session
-abbrev pub turned : Bool → Side → Side
+abbrev pub turned : Bool → SessionSide → SessionSide
 turned on side = record side { on = on; since_begin = side.since_begin && on }

@@ -8,7 +8,7 @@ use Rattle.std.specs.Prelude.{◌≡◌, true, false, Option, Some, None}
 use Rattle.stream5_sessions.specs.declared.step.Step.{Step}
 use Rattle.flow_lanes.specs.Engines.{Making}
 use Rattle.flow_lanes.specs.Flows.{FlowState, bits_at_hand, session_at_hand}
-use Rattle.flow_lanes.specs.Sessions.{Packet, Session, session_of, state_of, step_of}
+use Rattle.flow_lanes.specs.Sessions.{Packet, FlowSession, session_of, state_of, step_of}
 use Rattle.flow_lanes.specs.Working.{HasNoneLeft, TellsLeftAt}
 
 -- the packet has a session, which it neither begins nor ends, and none ended before it
@@ -21,7 +21,7 @@ pub record IsWithinSession (step : Step) : Type 0 where
   pub server_base : step.server_base ≡ None
 
 -- the packet tells this of the session, of which it changes the state alone
-pub record StaysIn (making : Making) (p : Packet) (old : Session) (step : Step) (new : Session) : Type 0 where
+pub record StaysIn (making : Making) (p : Packet) (old : FlowSession) (step : Step) (new : FlowSession) : Type 0 where
   pub step_is : step ≡ step_of making p (Some old)
   pub session_is : new ≡ record old { state = state_of making p (Some old) }
   pub kind : IsWithinSession step

@@ -13,7 +13,7 @@ use Rattle.option_eval.specs.RuleSet.{FindWhatIsMeant, Rules}
 use Rattle.rule_eval.specs.declared.item.Item.{Item}
 use Rattle.rule_eval.specs.Hits.{Bits, Tells, Trying}
 use Rattle.flow_lanes.specs.declared.answer.Hits.{Hits}
-use Rattle.flow_lanes.specs.declared.tally.Tally.{Tally}
+use Rattle.flow_lanes.specs.declared.tally.JobTally.{JobTally}
 use Rattle.flow_lanes.specs.Flows.{FlowState, all_items, hits_in}
 use Rattle.flow_lanes.specs.Given.{Inspection}
 use Rattle.flow_lanes.specs.ItemHits.{bits_after_items, hits_of, told}
@@ -55,7 +55,7 @@ pub record SoFar : Type 0 where
   pub tries : ℕ
   pub visits : ℕ
 
-abbrev pub so_far : {L : Type 0} → Tally L → SoFar
+abbrev pub so_far : {L : Type 0} → JobTally L → SoFar
 so_far tally = record { hits = tally.hits.items; items = tally.items; tries = tally.tries; visits = tally.visits }
 
 -- a tally gains this

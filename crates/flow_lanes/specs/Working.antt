@@ -12,22 +12,22 @@ use Rattle.flow_lanes.specs.declared.cutting.Stretch.{Stretch}
 use Rattle.flow_lanes.specs.declared.session.Stretches.{Stretches}
 use Rattle.flow_lanes.specs.Engines.{Making}
 use Rattle.flow_lanes.specs.Items.{acked_items, closing_items, facts_of, head_between, held_items, left_items, own_items, session_after}
-use Rattle.flow_lanes.specs.Sessions.{Packet, Session, after_ack, after_data, session_of, sizes_of}
-use Rattle.flow_lanes.specs.Sides.{Side, left_payloads, without_left}
+use Rattle.flow_lanes.specs.Sessions.{Packet, FlowSession, after_ack, after_data, session_of, sizes_of}
+use Rattle.flow_lanes.specs.Sides.{SessionSide, left_payloads, without_left}
 
 -- one side of a session: the client's, or the server's
-abbrev pub side_of : Bool → Session → Side
+abbrev pub side_of : Bool → FlowSession → SessionSide
 side_of of_client session = if of_client then session.client else session.server
 
-abbrev pub with_side : Bool → Side → Session → Session
+abbrev pub with_side : Bool → SessionSide → FlowSession → FlowSession
 with_side of_client side session = if of_client then record session { client = side } else record session { server = side }
 
 -- payloads of a side's data
-abbrev pub stretch_of : Side → List (List ℕ) → Stretch
+abbrev pub stretch_of : SessionSide → List (List ℕ) → Stretch
 stretch_of side payloads = record { from = side.from; to = side.to; payloads = payloads }
 
 -- stretches of payloads of both sides of a session
-abbrev pub stretches_of : (Side → List (List ℕ)) → Session → Stretches
+abbrev pub stretches_of : (SessionSide → List (List ℕ)) → FlowSession → Stretches
 stretches_of payloads session = record {
   client = stretch_of session.client (payloads session.client);
   server = stretch_of session.server (payloads session.server);
@@ -48,41 +48,41 @@ abbrev pub maybe_items : Moment → ℕ × ℕ → Option Stretches → List Ite
 maybe_items moment sizes both = option_map_or (stretches_items moment sizes) both []
 
 -- nothing is left of a stretch of this side that has ended, and none is taken
-abbrev pub HasNoneLeft : Side → Type 0
+abbrev pub HasNoneLeft : SessionSide → Type 0
 HasNoneLeft side = (left_payloads side ≡ []) × (without_left side ≡ side)
 
 -- these stretches give the items of what is left of a session's stretches that have ended
-abbrev pub TellsLeft : Session → Option Stretches → Type 0
+abbrev pub TellsLeft : FlowSession → Option Stretches → Type 0
 TellsLeft session left = (moment : Moment) (sizes : ℕ × ℕ) → maybe_items moment sizes left ≡ left_items session moment sizes
 
 -- these stretches give the items of what is left of the session at hand, if there is one
-abbrev pub TellsLeftAt : Option Session → Option Stretches → Type 0
+abbrev pub TellsLeftAt : Option FlowSession → Option Stretches → Type 0
 TellsLeftAt found left =
     (moment : Moment) (sizes : ℕ × ℕ) → maybe_items moment sizes left ≡ option_map_or (λ s. left_items s moment sizes) found []
 
 -- how far the data of a session reach, if there is one
-abbrev pub sizes_after : Option Session → ℕ × ℕ
+abbrev pub sizes_after : Option FlowSession → ℕ × ℕ
 sizes_after after = option_map_or sizes_of after (0, 0)
 
 -- the session after a packet's acknowledgement and its data
-abbrev pub after_packet : Packet → Step → Session → Session
+abbrev pub after_packet : Packet → Step → FlowSession → FlowSession
 after_packet p step session = after_data p step (after_ack p step session)
 
 -- the streams of the packet's session, where this was left before
-abbrev pub streams_told : Packet → Step → Option Stretches → Session → List Item
+abbrev pub streams_told : Packet → Step → Option Stretches → FlowSession → List Item
 streams_told p step left session =
-    let after : Session = after_packet p step session in
+    let after : FlowSession = after_packet p step session in
     maybe_items p.moment (sizes_of after) left
     ++ acked_items p step session (sizes_of after)
     ++ (if step.ends then held_items after p.moment (sizes_of after) else [])
 
 -- the streams of the packet's session, if it has one
-abbrev pub streams_of : Packet → Step → Option Stretches → Option Session → List Item
+abbrev pub streams_of : Packet → Step → Option Stretches → Option FlowSession → List Item
 streams_of p step left None = maybe_items p.moment (0, 0) left
 streams_of p step left (Some session) = streams_told p step left session
 
 -- the session facts of the packet's own item, unless its data were queued and such packets are no items
-abbrev pub own_facts : Bool → Packet → Step → Bool → Option Session → Option SessionFacts
+abbrev pub own_facts : Bool → Packet → Step → Bool → Option FlowSession → Option SessionFacts
 own_facts inserts p step queued after = if queued && not inserts then None else Some (facts_of p step after)
 
 -- the packet with these facts of its session
@@ -95,7 +95,7 @@ own_item p None = []
 own_item p (Some facts) = item_with p facts ∷ []
 
 -- the items of a session that ended before the packet, if one did
-abbrev pub ended_items : Moment → Bool → Option Session → List Item
+abbrev pub ended_items : Moment → Bool → Option FlowSession → List Item
 ended_items moment ended found = if ended then option_map_or (λ s. closing_items s moment) found [] else []
 
 -- the session at hand, unless it ended before the packet
@@ -103,10 +103,10 @@ abbrev pub unless_ended : {A : Type 0} → Bool → Option A → Option A
 unless_ended ended found = if ended then None else found
 
 -- the items of the packet's session, which goes on from this one or begins
-abbrev pub items_on : Making → Packet → Step → State → Option Session → List Item
+abbrev pub items_on : Making → Packet → Step → State → Option FlowSession → List Item
 items_on making p step state found =
-    let session : Option Session = session_of making p found step state in
-    let after : Option Session = session_after p step session in
+    let session : Option FlowSession = session_of making p found step state in
+    let after : Option FlowSession = session_after p step session in
     let sizes : ℕ × ℕ = sizes_after after in
     option_map_or (λ s. left_items s p.moment sizes) found []
     ++ option_map_or (λ s. acked_items p step s sizes) session []

@@ -16,7 +16,7 @@ use crate::inspector::Inspector;
 use crate::job::Job;
 use crate::runner::{MOST_LANES, Runner, busy_lanes};
 use crate::spread::for_each_spread;
-use crate::worker::{Share, Worker};
+use crate::worker::{LanePlace, Worker};
 use crate::worth::thought_beside;
 use conf_types::StreamConfig;
 use edge_io::{Gate, Items, NoMemory, Pattern};
@@ -82,7 +82,7 @@ fn run_all<P: Pattern, G: Gate, R: Threads + Sync>(
                 × AreSoundIn (length inspector.now.stream.now.engines) count place worker.old.lane jobs.now }
             ensures { IfOk worker.new.outs (λ outs. GoesOn (inspection_of P.finds inspector.entry.now)
                 worker.old.lane (own_jobs count place jobs.entry.now) outs.items worker.new.lane) }
-        { worker.run(Share { count, place }, jobs, inspector, gate) },
+        { worker.run(LanePlace { count, place }, jobs, inspector, gate) },
     );
 }
 

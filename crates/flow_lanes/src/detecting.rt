@@ -15,7 +15,7 @@ use crate::entering::leave;
 use crate::inspector::Inspector;
 use crate::keeping::FlowState;
 use crate::steering::steer;
-use crate::tally::{Tally, try_items, try_own};
+use crate::tally::{JobTally, try_items, try_own};
 use edge_io::{NoMemory, Pattern};
 use flowbit_state::Bits;
 use packet_decode::SessionFacts;
@@ -63,7 +63,7 @@ fn try_current<P: Pattern, L: Ledger>(
     own: &Option<SessionFacts>,
     p: &Arrival,
     bits: &mut Option<Bits>,
-    tally: &mut Tally<L>,
+    tally: &mut JobTally<L>,
 ) -> Result<(), NoMemory>
     ensures { OnOk result (Tries (inspection_of P.finds inspector.now) (streams.now ++ own_item (packet_of p.now) own.now)
         bits.old bits.new (so_far tally.old) (so_far tally.new)) }
@@ -122,7 +122,7 @@ pub(crate) fn try_at_end<P: Pattern, L: Ledger>(
     inspector: &Inspector<'_, P>,
     items: &[Item],
     found: &mut Option<FlowState>,
-    tally: &mut Tally<L>,
+    tally: &mut JobTally<L>,
 ) -> Result<(), NoMemory>
     ensures tallies { OnOk result (Tallies (inspection_of P.finds inspector.now)
         (of_session (bits_at_hand found.old) items.now) (so_far tally.old) (so_far tally.new)) }
@@ -145,7 +145,7 @@ pub(crate) fn try_and_settle<P: Pattern, L: Ledger>(
     p: &Arrival,
     step: &Step,
     found: &mut Option<FlowState>,
-    tally: &mut Tally<L>,
+    tally: &mut JobTally<L>,
 ) -> Result<(), NoMemory>
     ensures tallies { OnOk result (Tallies (inspection_of P.finds inspector.now)
         (of_session (bits_now step.now.tracked found.old) (streams.now ++ own_item (packet_of p.now) own.now))

@@ -9,24 +9,24 @@ ghost use Rattle.flow_lanes.specs.Given.{making_of, packet_of};
 ghost use Rattle.flow_lanes.specs.Items.{facts_of, is_queued, session_after};
 ghost use Rattle.flow_lanes.specs.Kept.{GrowsFound, IsFound, IsOf, KeepsFound};
 ghost use Rattle.flow_lanes.specs.Reach.{AreWithin, IsWithin};
-ghost use Rattle.flow_lanes.specs.Sessions.{Session as Point, begun_session, session_of, settled, sizes_of, with_bases};
+ghost use Rattle.flow_lanes.specs.Sessions.{FlowSession, begun_session, session_of, settled, sizes_of, with_bases};
 ghost use Rattle.flow_lanes.specs.Staying.{StaysAt};
 ghost use Rattle.flow_lanes.specs.Working.{TellsLeftAt, items_on, own_facts, own_item, streams_of};
 
 use crate::arrival::Arrival;
 use crate::keeping::FlowState;
-use crate::session::{Left, Session};
-use crate::settings::Settings;
+use crate::session::{FlowSession, Leftover};
+use crate::settings::LaneSettings;
 use crate::streams::push_maybe;
 use edge_io::NoMemory;
 use flowbit_state::Bits;
 use packet_decode::SessionFacts;
 use rule_eval::Item;
 use std::alloc::Global;
-use stream5_sessions::{Session as Phases, Step};
+use stream5_sessions::{Session, Step};
 
 /// Takes what is left of stretches that rules have ended.
-fn take_left_stretches(alloc: Global, found: &mut Option<FlowState>) -> Result<Left, NoMemory>
+fn take_left_stretches(alloc: Global, found: &mut Option<FlowState>) -> Result<Leftover, NoMemory>
     requires { IsWithin (session_at_hand found.old) (2 ^ 63) }
     ensures left { IfOk result (TellsLeftAt (session_at_hand found.old)) }
     ensures session { OnOk result (session_at_hand found.new ≡ option_map settled (session_at_hand found.old)) }
@@ -34,7 +34,7 @@ fn take_left_stretches(alloc: Global, found: &mut Option<FlowState>) -> Result<L
     ensures keeps { KeepsFound found.old found.new }
 {
     match found {
-        None => Ok(Left::none()),
+        None => Ok(Leftover::none()),
         Some(kept) => kept.session.take_left(alloc),
     }
 }
@@ -43,7 +43,7 @@ fn take_left_stretches(alloc: Global, found: &mut Option<FlowState>) -> Result<L
 /// what it tells. Of any other packet the answer is false, and nothing changes. Takes no memory.
 #[inline(always)]
 pub(crate) fn stay(
-    settings: &Settings,
+    settings: &LaneSettings,
     p: &Arrival,
     found: &mut Option<FlowState>,
     step: &mut Step,
@@ -62,10 +62,10 @@ pub(crate) fn stay(
 /// A session that the packet begins, before the bases that it sets. No bit of it is set.
 fn state_at_begin(
     alloc: Global,
-    settings: &Settings,
+    settings: &LaneSettings,
     p: &Arrival,
     step: &Step,
-    state: &Phases,
+    state: &Session,
 ) -> FlowState
     ensures state { result ≡ record {
       session = begun_session (making_of settings.now) (packet_of p.now) step.now state.now;
@@ -74,7 +74,7 @@ fn state_at_begin(
     ensures within { AreWithin result.session 0 0 }
 {
     FlowState {
-        session: Session::begin(alloc, settings, p, step, state),
+        session: FlowSession::begin(alloc, settings, p, step, state),
         bits: Bits::new(),
     }
 }
@@ -86,10 +86,10 @@ fn state_at_begin(
 #[inline(never)]
 fn begin(
     alloc: Global,
-    settings: &Settings,
+    settings: &LaneSettings,
     p: &Arrival,
     step: &Step,
-    state: &Phases,
+    state: &Session,
     found: &mut Option<FlowState>,
 )
     ensures state { found.new ≡ Some (record {
@@ -130,13 +130,13 @@ pub(crate) fn leave(found: &mut Option<FlowState>)
 #[tactic(auto, unfolding(crate::specs::Sessions::session_of, crate::specs::Sessions::begun_session))]
 fn enter(
     alloc: Global,
-    settings: &Settings,
+    settings: &LaneSettings,
     p: &Arrival,
     step: &Step,
-    state: &Phases,
+    state: &Session,
     found: &mut Option<FlowState>,
 )
-    ensures session { (before : Option Point) → session_at_hand found.old ≡ option_map settled before
+    ensures session { (before : Option FlowSession) → session_at_hand found.old ≡ option_map settled before
         → session_at_hand found.new ≡ session_of (making_of settings.now) (packet_of p.now) before step.now state.now }
     ensures bits { bits_at_hand found.new
         ≡ (if step.now.tracked then (if step.now.begun then Some empty else bits_at_hand found.old) else None) }
@@ -159,7 +159,7 @@ pub(crate) fn accept_packet(
     alloc: Global,
     p: &Arrival,
     step: &Step,
-    left: Left,
+    left: Leftover,
     found: &mut Option<FlowState>,
     out: &mut Vec<Item>,
 ) -> Result<bool, NoMemory>
@@ -187,7 +187,7 @@ pub(crate) fn accept_packet(
 /// The session facts of a packet: sizes are told of a TCP session that is established.
 #[inline(always)]
 fn facts_of(p: &Arrival, step: &Step, after: &Option<FlowState>) -> SessionFacts
-    ensures { (told : Option Point) → option_map sizes_of (session_at_hand after.now) ≡ option_map sizes_of told
+    ensures { (told : Option FlowSession) → option_map sizes_of (session_at_hand after.now) ≡ option_map sizes_of told
         → result ≡ facts_of (packet_of p.now) step.now told }
 {
     let sizes = match after {
@@ -211,7 +211,7 @@ pub(crate) fn own_facts(
     queued: bool,
     after: &Option<FlowState>,
 ) -> Option<SessionFacts>
-    ensures { (told : Option Point) → option_map sizes_of (session_at_hand after.now) ≡ option_map sizes_of told
+    ensures { (told : Option FlowSession) → option_map sizes_of (session_at_hand after.now) ≡ option_map sizes_of told
         → result ≡ own_facts inserts (packet_of p.now) step.now queued told }
 {
     if queued && !inserts {
@@ -224,10 +224,10 @@ pub(crate) fn own_facts(
 /// session facts of the packet's own item, if it is one.
 pub(crate) fn push_current(
     alloc: Global,
-    settings: &Settings,
+    settings: &LaneSettings,
     p: &Arrival,
     step: &Step,
-    state: &Phases,
+    state: &Session,
     found: &mut Option<FlowState>,
     out: &mut Vec<Item>,
 ) -> Result<Option<SessionFacts>, NoMemory>

@@ -6,7 +6,7 @@ ghost use Rattle.flow_lanes.specs.Sound.{ends_of};
 
 use crate::arrival::Arrival;
 use crate::facts::{FlowFacts, ends_of};
-use crate::session::Session;
+use crate::session::FlowSession;
 use flowbit_state::Bits;
 use std::collections::HashMap;
 use std::marker::Model;
@@ -14,7 +14,7 @@ use std::marker::Model;
 /// A session that is there between two jobs, and its bits.
 #[derive(Drop)]
 pub(crate) struct FlowState {
-    pub session: Session,
+    pub session: FlowSession,
     pub bits: Bits,
 }
 
@@ -43,7 +43,7 @@ impl Model for Flow {
 }
 
 /// The flows that have not ended, by their numbers.
-pub(crate) type Flows = HashMap<u64, Flow>;
+pub(crate) type OpenFlows = HashMap<u64, Flow>;
 
 impl Flow {
     /// The flow of a packet before its first packet.

@@ -13,9 +13,9 @@ ghost use Rattle.flow_lanes.specs.Work.{CountsVisits};
 use crate::answer::{JobCounted, JobFound, JobHits, JobOut};
 use crate::inspector::Inspector;
 use crate::job::Job;
-use crate::keeping::Flows;
-use crate::settings::Settings;
-use crate::tally::Tally;
+use crate::keeping::OpenFlows;
+use crate::settings::LaneSettings;
+use crate::tally::JobTally;
 use crate::working::do_work;
 use conf_types::StreamConfig;
 use edge_io::{Items, NoMemory, Pattern};
@@ -32,7 +32,7 @@ use std::sync::ledger::{Blank, Ledger};
 pub struct Lane {
     flush: u32,
     inserts: bool,
-    flows: Flows,
+    flows: OpenFlows,
     /// About what all its jobs cost, in nanoseconds. No contract speaks of it.
     cost: u64,
 }
@@ -54,20 +54,20 @@ impl Model for Lane {
 
 /// What is found of a job, and how many visits of payloads that took.
 #[derive(Drop)]
-struct Counted<L: Ledger> {
+struct CountedJob<L: Ledger> {
     found: JobFound,
     visits: Steps<L>,
 }
 
 /// What was found of a job.
-fn job_found<L: Ledger>(job: &Job, tally: Tally<L>) -> Counted<L>
+fn job_found<L: Ledger>(job: &Job, tally: JobTally<L>) -> CountedJob<L>
     ensures number { result.found.hits.number ≡ job.now.number }
     ensures told { result.found.hits.items ≡ tally.hits.items }
     ensures items { result.found.items ≡ tally.items }
     ensures tries { result.found.tries ≡ tally.tries }
     ensures visits { result.visits ≡ tally.visits }
 {
-    let Tally {
+    let JobTally {
         hits,
         items,
         tries,
@@ -82,7 +82,7 @@ fn job_found<L: Ledger>(job: &Job, tally: Tally<L>) -> Counted<L>
         items,
         tries,
     };
-    Counted { found, visits }
+    CountedJob { found, visits }
 }
 
 impl Lane {
@@ -168,7 +168,7 @@ impl Lane {
             all: true,
         };
         let counted = self.search_counted(job, &inspector, visits)?;
-        let Counted { found, visits } = counted;
+        let CountedJob { found, visits } = counted;
         Ok(JobCounted {
             hits: found.hits,
             tries: found.tries,
@@ -221,7 +221,7 @@ impl Lane {
         job: &Job,
         inspector: &Inspector<'_, P>,
         visits: Steps<L>,
-    ) -> Result<Counted<L>, NoMemory>
+    ) -> Result<CountedJob<L>, NoMemory>
         requires sound { IsSoundFor (length inspector.now.stream.now.engines) (known_of self.old job.now) job.now }
         requires none { visits ≡ 0 }
         ensures finds { IfOk result (λ counted. SearchesJob (inspection_of P.finds inspector.now) self.old job.now
@@ -230,7 +230,7 @@ impl Lane {
         ensures visits { IfOk result (λ counted. CountsVisits P.finds inspector.now.stream.now inspector.now.set.now
             self.old job.now counted.visits) }
     {
-        let settings = Settings {
+        let settings = LaneSettings {
             flush: self.flush,
             inserts: self.inserts,
             stream: inspector.stream,

@@ -19,16 +19,16 @@ use crate::detecting::{try_and_settle, try_at_end};
 use crate::entering::{accept_packet, own_facts, push_current, stay};
 use crate::inspector::Inspector;
 use crate::keeping::{Flow, FlowState};
-use crate::session::Left;
-use crate::settings::Settings;
+use crate::session::Leftover;
+use crate::settings::LaneSettings;
 use crate::steps::{state_found, take_step};
-use crate::tally::Tally;
+use crate::tally::JobTally;
 use edge_io::{Moment, NoMemory, Pattern};
 use option_eval::Steps;
 use rule_eval::Item;
 use std::alloc::Global;
 use std::sync::ledger::Ledger;
-use stream5_sessions::{Session as Phases, Step};
+use stream5_sessions::{Session, Step};
 
 /// Appends the items of the session at hand, which has ended.
 fn push_closing_items(
@@ -53,7 +53,7 @@ pub(crate) fn end_session<P: Pattern, L: Ledger>(
     inspector: &Inspector<'_, P>,
     moment: Moment,
     found: &mut Option<FlowState>,
-    tally: &mut Tally<L>,
+    tally: &mut JobTally<L>,
 ) -> Result<(), NoMemory>
     requires { IsWithin (session_at_hand found.old) (2 ^ 63) }
     ensures tallies { OnOk result (Tallies (inspection_of P.finds inspector.now) (of_session (bits_at_hand found.old)
@@ -73,7 +73,7 @@ fn end_before<P: Pattern, L: Ledger>(
     moment: Moment,
     ended: bool,
     found: &mut Option<FlowState>,
-    tally: &mut Tally<L>,
+    tally: &mut JobTally<L>,
 ) -> Result<(), NoMemory>
     requires { IsWithin (session_at_hand found.old) (2 ^ 63) }
     ensures tallies { OnOk result (Tallies (inspection_of P.finds inspector.now) (of_session (bits_at_hand found.old)
@@ -90,12 +90,12 @@ fn end_before<P: Pattern, L: Ledger>(
 /// The packet's session begins or goes on: the rules are tried on its items.
 fn go_on<P: Pattern, L: Ledger>(
     inspector: &Inspector<'_, P>,
-    settings: &Settings,
+    settings: &LaneSettings,
     p: &Arrival,
     step: &Step,
-    state: &Phases,
+    state: &Session,
     found: &mut Option<FlowState>,
-    tally: &mut Tally<L>,
+    tally: &mut JobTally<L>,
 ) -> Result<(), NoMemory>
     requires within { IsWithin (session_at_hand found.old) (2 ^ 63 - 2 ^ 31) }
     requires size { length p.now.payload.now ≤ 65535 }
@@ -117,11 +117,11 @@ fn go_on<P: Pattern, L: Ledger>(
 #[inline(always)]
 fn packet_stays<P: Pattern, L: Ledger>(
     inspector: &Inspector<'_, P>,
-    settings: &Settings,
+    settings: &LaneSettings,
     p: &Arrival,
     step: &Step,
     found: &mut Option<FlowState>,
-    tally: &mut Tally<L>,
+    tally: &mut JobTally<L>,
 ) -> Result<(), NoMemory>
     requires within { IsWithin (session_at_hand found.old) (2 ^ 63 - 2 ^ 31) }
     requires size { length p.now.payload.now ≤ 65535 }
@@ -134,7 +134,14 @@ fn packet_stays<P: Pattern, L: Ledger>(
     ensures grows { GrowsFound found.old found.new }
 {
     let mut items = Vec::new(inspector.alloc);
-    let queued = accept_packet(inspector.alloc, p, step, Left::none(), found, &mut items)?;
+    let queued = accept_packet(
+        inspector.alloc,
+        p,
+        step,
+        Leftover::none(),
+        found,
+        &mut items,
+    )?;
     let own = own_facts(settings.inserts, p, step, queued, found);
     try_and_settle(inspector, &items, &own, p, step, found, tally)?;
     Ok(())
@@ -145,10 +152,10 @@ fn packet_stays<P: Pattern, L: Ledger>(
 #[inline(never)]
 fn packet_on<P: Pattern, L: Ledger>(
     inspector: &Inspector<'_, P>,
-    settings: &Settings,
+    settings: &LaneSettings,
     p: &Arrival,
     found: &mut Option<FlowState>,
-    tally: &mut Tally<L>,
+    tally: &mut JobTally<L>,
 ) -> Result<(), NoMemory>
     requires protocol { HasSessions p.now.head.now.body }
     requires found { IsFound (is_tcp p.now.head.now.body) (2 ^ 63 - 2 ^ 31) (session_at_hand found.old) }
@@ -173,10 +180,10 @@ fn packet_on<P: Pattern, L: Ledger>(
 #[inline(always)]
 fn packet_found<P: Pattern, L: Ledger>(
     inspector: &Inspector<'_, P>,
-    settings: &Settings,
+    settings: &LaneSettings,
     p: &Arrival,
     found: &mut Option<FlowState>,
-    tally: &mut Tally<L>,
+    tally: &mut JobTally<L>,
 ) -> Result<(), NoMemory>
     requires protocol { HasSessions p.now.head.now.body }
     requires found { IsFound (is_tcp p.now.head.now.body) (2 ^ 63 - 2 ^ 31) (session_at_hand found.old) }
@@ -205,10 +212,10 @@ impl Flow {
     pub fn packet<P: Pattern, L: Ledger>(
         &mut self,
         inspector: &Inspector<'_, P>,
-        settings: &Settings,
+        settings: &LaneSettings,
         p: &Arrival,
         visits: Steps<L>,
-    ) -> Result<Tally<L>, NoMemory>
+    ) -> Result<JobTally<L>, NoMemory>
         requires sound { IsSoundPacket (length settings.now.stream.now.engines) (Some self.old.facts)
             (packet_of p.now) }
         requires none { visits ≡ 0 }
@@ -219,7 +226,7 @@ impl Flow {
         ensures facts { self.new.facts ≡ record { ends = self.old.facts.ends; packets = self.old.facts.packets + 1 } }
     {
         self.facts.packets += 1;
-        let mut tally = Tally::new(inspector.alloc, visits);
+        let mut tally = JobTally::new(inspector.alloc, visits);
         packet_found(inspector, settings, p, &mut self.found, &mut tally)?;
         Ok(tally)
     }
@@ -228,10 +235,10 @@ impl Flow {
     pub fn begin<P: Pattern, L: Ledger>(
         &mut self,
         inspector: &Inspector<'_, P>,
-        settings: &Settings,
+        settings: &LaneSettings,
         p: &Arrival,
         visits: Steps<L>,
-    ) -> Result<Tally<L>, NoMemory>
+    ) -> Result<JobTally<L>, NoMemory>
         requires sound { IsSoundPacket (length settings.now.stream.now.engines) (Some self.old.facts)
             (packet_of p.now) }
         requires none { visits ≡ 0 }
@@ -242,7 +249,7 @@ impl Flow {
         ensures facts { self.new.facts ≡ record { ends = self.old.facts.ends; packets = self.old.facts.packets + 1 } }
     {
         self.facts.packets += 1;
-        let mut tally = Tally::new(inspector.alloc, visits);
+        let mut tally = JobTally::new(inspector.alloc, visits);
         packet_on(inspector, settings, p, &mut self.found, &mut tally)?;
         Ok(tally)
     }
@@ -254,12 +261,12 @@ impl Flow {
         inspector: &Inspector<'_, P>,
         moment: Moment,
         visits: Steps<L>,
-    ) -> Result<Tally<L>, NoMemory>
+    ) -> Result<JobTally<L>, NoMemory>
         requires { visits ≡ 0 }
         ensures { IfOk result (λ tally. Tallied (inspection_of P.finds inspector.now)
             (of_job (finish_items moment (session_at_hand self.old.found)) self.old.found) (so_far tally)) }
     {
-        let mut tally = Tally::new(inspector.alloc, visits);
+        let mut tally = JobTally::new(inspector.alloc, visits);
         end_session(inspector, moment, &mut self.found, &mut tally)?;
         Ok(tally)
     }

@@ -7,7 +7,7 @@ use std::marker::Model;
 
 /// Who owns the bytes.
 #[derive(Debug, Drop)]
-enum Held<'a> {
+enum PayloadBytes<'a> {
     Lent(&'a [u8]),
     Own(Text),
 }
@@ -15,7 +15,7 @@ enum Held<'a> {
 /// The bytes of a packet: lent by the record that has them, or its own. Contracts see the list of the bytes.
 #[derive(Debug, Drop)]
 pub struct Payload<'a> {
-    held: Held<'a>,
+    held: PayloadBytes<'a>,
 }
 
 impl<'a> Model for Payload<'a> {
@@ -34,7 +34,7 @@ impl<'a> Payload<'a> {
         ensures { result ≡ bytes.now }
     {
         Payload {
-            held: Held::Lent(bytes),
+            held: PayloadBytes::Lent(bytes),
         }
     }
 
@@ -43,7 +43,7 @@ impl<'a> Payload<'a> {
         ensures { result ≡ bytes }
     {
         Payload {
-            held: Held::Own(bytes),
+            held: PayloadBytes::Own(bytes),
         }
     }
 
@@ -52,8 +52,8 @@ impl<'a> Payload<'a> {
         ensures { result.now ≡ self.now }
     {
         match &self.held {
-            Held::Lent(bytes) => bytes,
-            Held::Own(bytes) => bytes.bytes(),
+            PayloadBytes::Lent(bytes) => bytes,
+            PayloadBytes::Own(bytes) => bytes.bytes(),
         }
     }
 }

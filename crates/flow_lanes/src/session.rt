@@ -13,23 +13,23 @@ ghost use Rattle.flow_lanes.specs.Working.{HasNoneLeft, TellsLeft, after_packet,
 
 use crate::arrival::Arrival;
 use crate::cutting::Stretch;
-use crate::settings::Settings;
-use crate::side::Side;
+use crate::settings::LaneSettings;
+use crate::side::SessionSide;
 use crate::steps::rules_of;
 use crate::streams::push_maybe;
 use edge_io::{Moment, NoMemory};
 use rule_eval::Item;
 use std::alloc::Global;
 use std::marker::Model;
-use stream5_sessions::{End, Session as Phases, Step};
+use stream5_sessions::{End, Session, Step};
 
 /// A session: its phase, the end to which its first packet went, and its sides.
 #[derive(Drop)]
-pub(crate) struct Session {
-    pub state: Phases,
+pub(crate) struct FlowSession {
+    pub state: Session,
     pub opened_to: End,
-    pub client: Side,
-    pub server: Side,
+    pub client: SessionSide,
+    pub server: SessionSide,
 }
 
 /// Payloads of both sides.
@@ -42,11 +42,11 @@ pub(crate) struct Stretches {
 /// What is left of a session's stretches that have ended, if something may be. It is kept in a box, so that a packet
 /// before which nothing is left moves no more than a word. Contracts see the payloads of both sides, if there are any.
 #[derive(Drop)]
-pub(crate) struct Left {
+pub(crate) struct Leftover {
     pub both: Option<Box<Stretches>>,
 }
 
-impl Model for Left {
+impl Model for Leftover {
     ghost use Rattle.std.specs.Prelude.{Option, option_map};
     ghost use Rattle.flow_lanes.specs.declared.session.Stretches.{Stretches};
 
@@ -55,19 +55,19 @@ impl Model for Left {
     ghost view = { λ left. option_map (λ both. both.value) left.both };
 }
 
-impl Left {
+impl Leftover {
     /// Nothing is left. Takes no memory.
-    pub fn none() -> Left
+    pub fn none() -> Leftover
         ensures { result ≡ None }
     {
-        Left { both: None }
+        Leftover { both: None }
     }
 
     /// These stretches may be left.
-    fn some(alloc: Global, both: Stretches) -> Result<Left, NoMemory>
+    fn some(alloc: Global, both: Stretches) -> Result<Leftover, NoMemory>
         ensures { IfOk result (λ left. left ≡ Some both) }
     {
-        Ok(Left {
+        Ok(Leftover {
             both: Some(Box::new(alloc, both)?),
         })
     }
@@ -103,41 +103,53 @@ fn server_end(p: &Arrival, step: &Step) -> End
 }
 
 /// The client's side at the begin.
-fn client_side(alloc: Global, settings: &Settings, p: &Arrival, client: End, server: End) -> Side
+fn client_side(
+    alloc: Global,
+    settings: &LaneSettings,
+    p: &Arrival,
+    client: End,
+    server: End,
+) -> SessionSide
     ensures { result ≡ client_at_begin (making_of settings.now) (packet_of p.now) client server }
 {
     let to = p.toward(server);
     let on = settings.has_client_port(to.engine, server.port);
     let limits = settings.limits_to(to.engine);
-    Side::at_begin(alloc, client, server, limits, to.preference, on)
+    SessionSide::at_begin(alloc, client, server, limits, to.preference, on)
 }
 
 /// The server's side at the begin.
-fn server_side(alloc: Global, settings: &Settings, p: &Arrival, client: End, server: End) -> Side
+fn server_side(
+    alloc: Global,
+    settings: &LaneSettings,
+    p: &Arrival,
+    client: End,
+    server: End,
+) -> SessionSide
     ensures { result ≡ server_at_begin (making_of settings.now) (packet_of p.now) client server }
 {
     let to = p.toward(client);
     let on = settings.has_server_port(to.engine, server.port);
     let limits = settings.limits_to(to.engine);
-    Side::at_begin(alloc, server, client, limits, to.preference, on)
+    SessionSide::at_begin(alloc, server, client, limits, to.preference, on)
 }
 
-impl Session {
+impl FlowSession {
     /// A session that the packet begins. Takes no memory.
     #[tactic(auto, unfolding(crate::specs::Sessions::begun_session))]
     pub fn begin(
         alloc: Global,
-        settings: &Settings,
+        settings: &LaneSettings,
         p: &Arrival,
         step: &Step,
-        state: &Phases,
-    ) -> Session
+        state: &Session,
+    ) -> FlowSession
         ensures state { result ≡ begun_session (making_of settings.now) (packet_of p.now) step.now state.now }
         ensures within { AreWithin result 0 0 }
     {
         let client = client_end(p, step);
         let server = server_end(p, step);
-        Session {
+        FlowSession {
             state: *state,
             opened_to: p.receiver(),
             client: client_side(alloc, settings, p, client, server),
@@ -155,7 +167,7 @@ impl Session {
     }
 
     /// Goes on after a packet that leaves the session here, with the bases that the packet sets.
-    pub fn go_on(&mut self, step: &Step, state: &Phases)
+    pub fn go_on(&mut self, step: &Step, state: &Session)
         ensures state { self.new ≡ with_bases step.now (record self.old { state = state.now }) }
         ensures within { KeepsWithin self.old self.new }
     {
@@ -166,7 +178,7 @@ impl Session {
     /// Accepts a packet that leaves the session as it is, where nothing is left of stretches that have ended: `step`
     /// is then what it tells. Of any other packet the answer is false, and nothing changes. Takes no memory.
     #[inline(always)]
-    pub fn stay(&mut self, settings: &Settings, p: &Arrival, step: &mut Step) -> bool
+    pub fn stay(&mut self, settings: &LaneSettings, p: &Arrival, step: &mut Step) -> bool
         ensures stays { result ≡ true
             → StaysIn (making_of settings.now) (packet_of p.now) self.old step.new self.new }
         ensures still { result ≡ false → self.new ≡ self.old }
@@ -198,7 +210,7 @@ impl Session {
 
     /// Takes what is left of stretches that have ended; None where nothing can be.
     #[inline(always)]
-    pub fn take_left(&mut self, alloc: Global) -> Result<Left, NoMemory>
+    pub fn take_left(&mut self, alloc: Global) -> Result<Leftover, NoMemory>
         requires { AreWithin self.old (2 ^ 63) (2 ^ 63) }
         ensures left { IfOk result (TellsLeft self.old) }
         ensures state { OnOk result (self.new ≡ settled self.old) }
@@ -206,7 +218,7 @@ impl Session {
         ensures same { self.new.state ≡ self.old.state }
     {
         if !self.has_left() {
-            return Ok(Left::none());
+            return Ok(Leftover::none());
         }
         self.take_some_left(alloc)
     }
@@ -214,7 +226,7 @@ impl Session {
     /// Takes what is left of stretches that have ended, where something may be left.
     // Kept out of the line of most packets, before which nothing is left.
     #[inline(never)]
-    fn take_some_left(&mut self, alloc: Global) -> Result<Left, NoMemory>
+    fn take_some_left(&mut self, alloc: Global) -> Result<Leftover, NoMemory>
         requires { AreWithin self.old (2 ^ 63) (2 ^ 63) }
         ensures left { IfOk result (TellsLeft self.old) }
         ensures state { OnOk result (self.new ≡ settled self.old) }
@@ -222,7 +234,7 @@ impl Session {
         ensures same { self.new.state ≡ self.old.state }
     {
         let both = self.take_left_stretches(alloc)?;
-        let left = Left::some(alloc, both)?;
+        let left = Leftover::some(alloc, both)?;
         Ok(left)
     }
 
@@ -375,7 +387,7 @@ impl Session {
         alloc: Global,
         p: &Arrival,
         step: &Step,
-        left: Left,
+        left: Leftover,
         out: &mut Vec<Item>,
     ) -> Result<bool, NoMemory>
         requires within { AreWithin self.old (2 ^ 63 - 2 ^ 31) (2 ^ 63 - 2 ^ 31) }

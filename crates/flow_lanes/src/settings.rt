@@ -15,7 +15,7 @@ use stream5_reassembly::Limits;
 /// What items are made by: the flush point, whether a packet whose data were queued is an item itself, and
 /// the configuration of streams, which is sound. The first two are the lane's own.
 #[derive(Drop)]
-pub(crate) struct Settings<'a> {
+pub(crate) struct LaneSettings<'a> {
     pub flush: u32,
     pub inserts: bool,
     pub stream: &'a StreamConfig,
@@ -40,7 +40,7 @@ fn is_default_port(port: u16) -> bool
     DEFAULT_PORTS.contains(&port)
 }
 
-impl Settings<'_> {
+impl LaneSettings<'_> {
     ghost use Rattle.flow_lanes.specs.Given.{making_of};
 
     /// The limits of data sent to an end of this engine.

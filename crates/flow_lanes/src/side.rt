@@ -22,7 +22,7 @@ use stream5_sessions::End;
 
 /// A side: it sends data from one end of the session to the other.
 #[derive(Drop)]
-pub(crate) struct Side {
+pub(crate) struct SessionSide {
     pub from: End,
     pub to: End,
     /// Whether the side's data are put together.
@@ -44,7 +44,7 @@ fn ensure_started(direction: &mut Direction, seq: u32)
     }
 }
 
-impl Side {
+impl SessionSide {
     /// A side at its session's begin. Takes no memory.
     pub fn at_begin(
         alloc: Global,
@@ -53,11 +53,11 @@ impl Side {
         limits: Limits,
         preference: Preference,
         on: bool,
-    ) -> Side
+    ) -> SessionSide
         requires { AreLimits limits }
         ensures { result ≡ side_at_begin from to limits preference on }
     {
-        Side {
+        SessionSide {
             from,
             to,
             on,

@@ -15,7 +15,7 @@ use std::thread::{Threads, join_mut};
 
 /// A part of a slice: its place in the whole, how many threads may do it, and which of its places are busy.
 #[derive(Clone, Copy)]
-struct Part<'a> {
+struct SlicePart<'a> {
     base: usize,
     threads: usize,
     busy: &'a [bool],
@@ -35,7 +35,7 @@ pub(crate) fn for_each_spread<R: Threads + Sync, T: Send, F: Fn(usize, &mut T) +
     requires accepts { AcceptsEach F.Fn f.now s.old }
     ensures { ChangesEach F.Fn f.now s.old s.new }
 {
-    let whole = Part {
+    let whole = SlicePart {
         base: 0,
         threads,
         busy,
@@ -71,13 +71,13 @@ fn cut_at(busy: &[bool], before: usize) -> usize
 fn spread<R: Threads + Sync, T: Send, F: Fn(usize, &mut T) + Sync>(
     rt: &R,
     f: &F,
-    part: Part<'_>,
+    part: SlicePart<'_>,
     s: &mut [T],
 )
     requires { IsReady (AcceptsAt F.Fn f.now) part s.old }
     ensures { ChangesFrom (ChangesAt F.Fn f.now) part.entry.base s.old s.new }
 {
-    let Part { base, busy, .. } = part;
+    let SlicePart { base, busy, .. } = part;
     let count = busy_count(busy);
     let threads = part.threads.min(count);
     if threads < 2 || s.len() < 2 {
@@ -87,12 +87,12 @@ fn spread<R: Threads + Sync, T: Send, F: Fn(usize, &mut T) + Sync>(
     let mid = cut_at(busy, count / threads);
     let (busy_front, busy_back) = busy.split_at(mid);
     let (front, back) = s.split_at_mut(mid);
-    let low = Part {
+    let low = SlicePart {
         base,
         threads: 1,
         busy: busy_front,
     };
-    let up = Part {
+    let up = SlicePart {
         base: base + mid,
         threads: threads - 1,
         busy: busy_back,
@@ -105,9 +105,9 @@ fn spread<R: Threads + Sync, T: Send, F: Fn(usize, &mut T) + Sync>(
 fn both<R: Threads + Sync, T: Send, F: Fn(usize, &mut T) + Sync>(
     rt: &R,
     f: &F,
-    low: Part<'_>,
+    low: SlicePart<'_>,
     front: &mut [T],
-    up: Part<'_>,
+    up: SlicePart<'_>,
     back: &mut [T],
 )
     requires some { (0 < length front.old) × (0 < length back.old) }

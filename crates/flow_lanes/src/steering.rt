@@ -5,7 +5,7 @@ ghost use Rattle.flow_lanes.specs.Flows.{sides_after_hit, sides_after_rule, side
 ghost use Rattle.flow_lanes.specs.Reach.{KeepsWithin};
 
 use crate::answer::Hits;
-use crate::session::Session;
+use crate::session::FlowSession;
 use rule_types::{Opt, Rule, Side};
 
 /// Whether each side's data are put together.
@@ -88,7 +88,7 @@ fn sides_after_hits(rules: &[Rule], mut sides: SidesOn, hits: &[Hits]) -> SidesO
 /// Turns a session's sides on and off, as the rules ask that match its items.
 #[inline(always)]
 #[tactic(auto, unfolding(crate::specs::Flows::steered))]
-pub(crate) fn steer(rules: &[Rule], hits: &[Hits], session: &mut Session)
+pub(crate) fn steer(rules: &[Rule], hits: &[Hits], session: &mut FlowSession)
     ensures state { session.new ≡ steered rules.now hits.now session.old }
     ensures within { KeepsWithin session.old session.new }
     ensures same { session.new.state ≡ session.old.state }

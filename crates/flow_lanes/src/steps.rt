@@ -4,19 +4,19 @@ ghost use Rattle.std.specs.Prelude.{◌≡◌, Option};
 ghost use Rattle.stream5_sessions.specs.Phases.{IsBodyOf};
 ghost use Rattle.flow_lanes.specs.Flows.{session_at_hand};
 ghost use Rattle.flow_lanes.specs.Given.{making_of, packet_of};
-ghost use Rattle.flow_lanes.specs.Sessions.{Session as Point, opening_end, session_rules, state_found, state_of, step_of};
+ghost use Rattle.flow_lanes.specs.Sessions.{FlowSession, opening_end, session_rules, state_found, state_of, step_of};
 
 use crate::arrival::Arrival;
 use crate::keeping::FlowState;
-use crate::settings::Settings;
-use stream5_sessions::{End, Session as Phases, SessionRules, Step};
+use crate::settings::LaneSettings;
+use stream5_sessions::{End, Session, SessionRules, Step};
 
 /// The state of the session that the packet finds.
-pub(crate) fn state_found(p: &Arrival, found: &Option<FlowState>) -> Phases
+pub(crate) fn state_found(p: &Arrival, found: &Option<FlowState>) -> Session
     ensures { result ≡ state_found (packet_of p.now) (session_at_hand found.now) }
 {
     match found {
-        None => Phases::new(p.is_tcp()),
+        None => Session::new(p.is_tcp()),
         Some(kept) => kept.session.state,
     }
 }
@@ -32,8 +32,8 @@ fn opening_end(p: &Arrival, found: &Option<FlowState>) -> End
 }
 
 /// The settings by which the packet is read, where its session's first packet went to this end.
-pub(crate) fn rules_of(settings: &Settings, p: &Arrival, opened_to: End) -> SessionRules
-    ensures { (found : Option Point) → opening_end (packet_of p.now) found ≡ opened_to
+pub(crate) fn rules_of(settings: &LaneSettings, p: &Arrival, opened_to: End) -> SessionRules
+    ensures { (found : Option FlowSession) → opening_end (packet_of p.now) found ≡ opened_to
         → result ≡ session_rules (making_of settings.now) (packet_of p.now) found }
 {
     let to = p.toward(opened_to);
@@ -45,7 +45,7 @@ pub(crate) fn rules_of(settings: &Settings, p: &Arrival, opened_to: End) -> Sess
 }
 
 /// The settings by which the packet is read.
-fn session_rules(settings: &Settings, p: &Arrival, found: &Option<FlowState>) -> SessionRules
+fn session_rules(settings: &LaneSettings, p: &Arrival, found: &Option<FlowState>) -> SessionRules
     ensures { result ≡ session_rules (making_of settings.now) (packet_of p.now) (session_at_hand found.now) }
 {
     rules_of(settings, p, opening_end(p, found))
@@ -55,10 +55,10 @@ fn session_rules(settings: &Settings, p: &Arrival, found: &Option<FlowState>) ->
 // Both are written in their places: answered, they would be moved from call to call.
 #[tactic(auto, unfolding(crate::specs::Sessions::step_of, crate::specs::Sessions::state_of))]
 pub(crate) fn take_step(
-    settings: &Settings,
+    settings: &LaneSettings,
     p: &Arrival,
     found: &Option<FlowState>,
-    state: &mut Phases,
+    state: &mut Session,
     step: &mut Step,
 )
     requires found { state.old ≡ state_found (packet_of p.now) (session_at_hand found.now) }

@@ -6,7 +6,7 @@ ghost use Rattle.flow_lanes.specs.Streams.{item_size, parts_of, payloads_of};
 ghost use Rattle.flow_lanes.specs.Working.{maybe_items, stretch_items, stretches_items};
 
 use crate::cutting::{Stretch, cut, is_one_part};
-use crate::session::{Left, Stretches};
+use crate::session::{Leftover, Stretches};
 use edge_io::{Items, Moment, NoMemory, Text};
 use overlap_core::Run;
 use packet_decode::{Body, IpHead, ItemHead, ItemKind, SessionFacts};
@@ -133,7 +133,7 @@ pub(crate) fn push_maybe(
     out: &mut Vec<Item>,
     moment: Moment,
     sizes: (u64, u64),
-    left: Left,
+    left: Leftover,
 ) -> Result<(), NoMemory>
     ensures { OnOk result (out.new.items ≡ out.old.items ++ maybe_items moment sizes left) }
 {

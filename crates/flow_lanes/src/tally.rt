@@ -21,7 +21,7 @@ use std::sync::ledger::Ledger;
 
 /// What was found of the items of a job so far.
 #[derive(Drop)]
-pub(crate) struct Tally<L: Ledger> {
+pub(crate) struct JobTally<L: Ledger> {
     /// The items that are told, with all rules that match them.
     pub hits: Vec<Hits>,
     /// How many items there were.
@@ -34,16 +34,16 @@ pub(crate) struct Tally<L: Ledger> {
     pub visits: Steps<L>,
 }
 
-impl<L: Ledger> Tally<L> {
+impl<L: Ledger> JobTally<L> {
     /// Nothing was found, and no visit made. Takes no memory.
-    pub fn new(alloc: Global, visits: Steps<L>) -> Tally<L>
+    pub fn new(alloc: Global, visits: Steps<L>) -> JobTally<L>
         requires { visits ≡ 0 }
         ensures hits { result.hits.items ≡ [] }
         ensures items { result.items ≡ 0 }
         ensures tries { result.tries ≡ 0 }
         ensures visits { result.visits ≡ 0 }
     {
-        Tally {
+        JobTally {
             hits: Vec::new(alloc),
             items: 0,
             tries: 0,
@@ -119,7 +119,7 @@ fn try_candidates<P: Pattern, L: Ledger>(
     head: &ItemHead,
     payload: &[u8],
     bits: &mut Option<Bits>,
-    tally: &mut Tally<L>,
+    tally: &mut JobTally<L>,
 ) -> Result<(), NoMemory>
     requires { places.now ≡ candidates inspector.now.set.now.rules head.now.body payload.now }
     ensures { OnOk result (Tries (inspection_of P.finds inspector.now) (record { head = head.now; payload = payload.now } ∷ [])
@@ -146,7 +146,7 @@ pub(crate) fn try_item<P: Pattern, L: Ledger>(
     head: &ItemHead,
     payload: &[u8],
     bits: &mut Option<Bits>,
-    tally: &mut Tally<L>,
+    tally: &mut JobTally<L>,
 ) -> Result<(), NoMemory>
     ensures { OnOk result (Tries (inspection_of P.finds inspector.now) (record { head = head.now; payload = payload.now } ∷ [])
         bits.old bits.new (so_far tally.old) (so_far tally.new)) }
@@ -164,7 +164,7 @@ fn try_with_facts<P: Pattern, L: Ledger>(
     facts: SessionFacts,
     p: &Arrival,
     bits: &mut Option<Bits>,
-    tally: &mut Tally<L>,
+    tally: &mut JobTally<L>,
 ) -> Result<(), NoMemory>
     requires { places.now ≡ candidates inspector.now.set.now.rules p.now.head.now.body p.now.payload.now }
     ensures { OnOk result (Tries (inspection_of P.finds inspector.now) (item_with (packet_of p.now) facts ∷ [])
@@ -186,7 +186,7 @@ fn try_packet<P: Pattern, L: Ledger>(
     facts: SessionFacts,
     p: &Arrival,
     bits: &mut Option<Bits>,
-    tally: &mut Tally<L>,
+    tally: &mut JobTally<L>,
 ) -> Result<(), NoMemory>
     ensures { OnOk result (Tries (inspection_of P.finds inspector.now) (item_with (packet_of p.now) facts ∷ [])
         bits.old bits.new (so_far tally.old) (so_far tally.new)) }
@@ -205,7 +205,7 @@ pub(crate) fn try_own<P: Pattern, L: Ledger>(
     own: &Option<SessionFacts>,
     p: &Arrival,
     bits: &mut Option<Bits>,
-    tally: &mut Tally<L>,
+    tally: &mut JobTally<L>,
 ) -> Result<(), NoMemory>
     ensures { OnOk result (Tries (inspection_of P.finds inspector.now) (own_item (packet_of p.now) own.now)
         bits.old bits.new (so_far tally.old) (so_far tally.new)) }
@@ -221,7 +221,7 @@ pub(crate) fn try_items<P: Pattern, L: Ledger>(
     inspector: &Inspector<'_, P>,
     items: &[Item],
     bits: &mut Option<Bits>,
-    tally: &mut Tally<L>,
+    tally: &mut JobTally<L>,
 ) -> Result<(), NoMemory>
     ensures { OnOk result (Tries (inspection_of P.finds inspector.now) items.now
         bits.old bits.new (so_far tally.old) (so_far tally.new)) }

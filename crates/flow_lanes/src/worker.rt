@@ -19,7 +19,7 @@ use std::mem;
 
 /// A lane among `count`, by its place.
 #[derive(Clone, Copy)]
-pub(crate) struct Share {
+pub(crate) struct LanePlace {
     pub count: usize,
     pub place: usize,
 }
@@ -68,7 +68,7 @@ fn answer<P: Pattern>(
 /// Answers a job where it is of the lane.
 fn answer_own<P: Pattern>(
     lane: &mut Lane,
-    share: Share,
+    share: LanePlace,
     job: &Job,
     inspector: &Inspector<'_, P>,
     outs: &mut Vec<Numbered<JobFound>>,
@@ -88,7 +88,7 @@ fn answer_own<P: Pattern>(
 /// The answers to the lane's own jobs of a batch.
 fn own_outs<P: Pattern>(
     lane: &mut Lane,
-    share: Share,
+    share: LanePlace,
     jobs: &[Job],
     inspector: &Inspector<'_, P>,
 ) -> Result<Vec<Numbered<JobFound>>, NoMemory>
@@ -105,7 +105,7 @@ fn own_outs<P: Pattern>(
 }
 
 /// Whether a lane has jobs among these.
-fn has_work(share: Share, jobs: &[Job]) -> bool
+fn has_work(share: LanePlace, jobs: &[Job]) -> bool
     requires { 0 < share.count }
 {
     for job in jobs {
@@ -153,7 +153,7 @@ impl Worker {
     /// Does the lane's own jobs of a batch, beside the other lanes.
     pub fn run<P: Pattern, G: Gate>(
         &mut self,
-        share: Share,
+        share: LanePlace,
         jobs: &[Job],
         inspector: &Inspector<'_, P>,
         gate: &G,

@@ -13,9 +13,9 @@ ghost use Rattle.flow_lanes.specs.Whole.{IsDone, known_for};
 use crate::arrival::Arrival;
 use crate::inspector::Inspector;
 use crate::job::Work;
-use crate::keeping::{Flow, Flows};
-use crate::settings::Settings;
-use crate::tally::{Tally, try_item};
+use crate::keeping::{Flow, OpenFlows};
+use crate::settings::LaneSettings;
+use crate::tally::{JobTally, try_item};
 use edge_io::{Moment, NoMemory, Pattern};
 use option_eval::Steps;
 use packet_decode::ItemHead;
@@ -25,12 +25,12 @@ use std::sync::ledger::Ledger;
 #[inline(always)]
 fn do_packet<P: Pattern, L: Ledger>(
     inspector: &Inspector<'_, P>,
-    settings: &Settings,
+    settings: &LaneSettings,
     flow: u64,
     p: &Arrival,
-    flows: &mut Flows,
+    flows: &mut OpenFlows,
     visits: Steps<L>,
-) -> Result<Tally<L>, NoMemory>
+) -> Result<JobTally<L>, NoMemory>
     requires sound { IsSoundPacket (length settings.now.stream.now.engines)
         (facts_kept (kept_in flows.old.entries flow)) (packet_of p.now) }
     requires none { visits ≡ 0 }
@@ -52,12 +52,12 @@ fn do_packet<P: Pattern, L: Ledger>(
 #[inline(never)]
 fn first_packet<P: Pattern, L: Ledger>(
     inspector: &Inspector<'_, P>,
-    settings: &Settings,
+    settings: &LaneSettings,
     flow: u64,
     p: &Arrival,
-    flows: &mut Flows,
+    flows: &mut OpenFlows,
     visits: Steps<L>,
-) -> Result<Tally<L>, NoMemory>
+) -> Result<JobTally<L>, NoMemory>
     requires first { kept_in flows.old.entries flow ≡ None }
     requires sound { IsSoundPacket (length settings.now.stream.now.engines) None (packet_of p.now) }
     requires none { visits ≡ 0 }
@@ -75,9 +75,9 @@ fn do_finish<P: Pattern, L: Ledger>(
     inspector: &Inspector<'_, P>,
     moment: Moment,
     flow: u64,
-    flows: &mut Flows,
+    flows: &mut OpenFlows,
     visits: Steps<L>,
-) -> Result<Tally<L>, NoMemory>
+) -> Result<JobTally<L>, NoMemory>
     requires { visits ≡ 0 }
     ensures { (making : Making) → IfOk result (λ tally. IsDone (inspection_of P.finds inspector.now) making moment
         (works.Finish flow) flows.old.entries flows.new.entries (so_far tally)) }
@@ -88,7 +88,7 @@ fn do_finish<P: Pattern, L: Ledger>(
             flows.remove(&flow);
             Ok(tally)
         }
-        None => Ok(Tally::new(inspector.alloc, visits)),
+        None => Ok(JobTally::new(inspector.alloc, visits)),
     }
 }
 
@@ -98,14 +98,14 @@ fn do_alone<P: Pattern, L: Ledger>(
     moment: Moment,
     head: &ItemHead,
     payload: &[u8],
-    flows: &Flows,
+    flows: &OpenFlows,
     visits: Steps<L>,
-) -> Result<Tally<L>, NoMemory>
+) -> Result<JobTally<L>, NoMemory>
     requires { visits ≡ 0 }
     ensures { (making : Making) → IfOk result (λ tally. IsDone (inspection_of P.finds inspector.now) making moment
         (works.Alone head.now payload.now) flows.now.entries flows.now.entries (so_far tally)) }
 {
-    let mut tally = Tally::new(inspector.alloc, visits);
+    let mut tally = JobTally::new(inspector.alloc, visits);
     try_item(inspector, head, payload, &mut None, &mut tally)?;
     Ok(tally)
 }
@@ -114,12 +114,12 @@ fn do_alone<P: Pattern, L: Ledger>(
 #[inline(always)]
 pub(crate) fn do_work<P: Pattern, L: Ledger>(
     inspector: &Inspector<'_, P>,
-    settings: &Settings,
+    settings: &LaneSettings,
     moment: Moment,
     work: &Work,
-    flows: &mut Flows,
+    flows: &mut OpenFlows,
     visits: Steps<L>,
-) -> Result<Tally<L>, NoMemory>
+) -> Result<JobTally<L>, NoMemory>
     requires sound { IsSoundWork (length settings.now.stream.now.engines) (known_for flows.old.entries work.now)
         moment work.now }
     requires none { visits ≡ 0 }

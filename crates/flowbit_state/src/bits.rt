@@ -3,7 +3,7 @@ ghost use Rattle.std.specs.Prelude.{◌≡◌, ◌<◌, IsTrue, OnOk, OnErr};
 ghost use Rattle.std.specs.FinSet.{empty, contains};
 ghost use Rattle.flowbit_state.specs.Changes.{changed};
 
-use crate::words::Words;
+use crate::words::BitWords;
 use edge_io::NoMemory;
 use rule_types::BitChange;
 use std::alloc::Global;
@@ -13,7 +13,7 @@ use std::marker::Model;
 #[derive(Debug, Drop)]
 pub struct Bits {
     /// None where no bit was changed yet.
-    words: Option<Box<Words>>,
+    words: Option<Box<BitWords>>,
 }
 
 impl Model for Bits {
@@ -58,7 +58,7 @@ impl Bits {
     {
         let mut words = match self.words.take() {
             Some(words) => words,
-            None => Box::new(alloc, Words::new())?,
+            None => Box::new(alloc, BitWords::new())?,
         };
         words.apply(change, bit);
         self.words = Some(words);

@@ -13,11 +13,11 @@ const WORD: u32 = 64;
 /// 1024 bits, 64 in a word: bit n is bit n % 64 of word n / 64. Contracts see the set of those that
 /// are set.
 #[derive(Debug, Drop)]
-pub struct Words {
+pub struct BitWords {
     words: [u64; 16],
 }
 
-impl Model for Words {
+impl Model for BitWords {
     ghost use Rattle.std.specs.FinSet.{FinSet, code};
     ghost use Rattle.std.specs.Ordering.{nat_cmp};
     ghost use Rattle.std.specs.Coded.{coded_ℕ};
@@ -49,12 +49,12 @@ fn word_with(word: u64, change: BitChange, bit: u32) -> u64
     }
 }
 
-impl Words {
+impl BitWords {
     /// No bit is set.
-    pub fn new() -> Words
+    pub fn new() -> BitWords
         ensures { result ≡ empty }
     {
-        Words { words: [0; 16] }
+        BitWords { words: [0; 16] }
     }
 
     /// Whether the bit is set.

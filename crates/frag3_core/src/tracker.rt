@@ -95,12 +95,12 @@ impl Tracker {
 
 /// Memory for the bytes of a datagram. Contracts see how many these are.
 #[derive(Drop)]
-struct Room {
+struct DatagramRoom {
     len: usize,
     bytes: Vec<u8>,
 }
 
-impl Model for Room {
+impl Model for DatagramRoom {
     ghost use Rattle.std.specs.Prelude.{◌≡◌, ℕ, ◌≤◌, [], vec_capacity};
 
     ghost Value = { ℕ };
@@ -110,12 +110,12 @@ impl Model for Room {
     ghost invariant = { λ room. (room.bytes.items ≡ []) × (room.len ≤ vec_capacity room.bytes) };
 }
 
-impl Room {
+impl DatagramRoom {
     /// Memory for `len` bytes.
-    fn new(alloc: Global, len: usize) -> Result<Room, NoMemory>
+    fn new(alloc: Global, len: usize) -> Result<DatagramRoom, NoMemory>
         ensures { IfOk result (λ room. room ≡ len) }
     {
-        Ok(Room {
+        Ok(DatagramRoom {
             len,
             bytes: Vec::with_capacity(alloc, len)?,
         })
@@ -124,17 +124,17 @@ impl Room {
 
 /// Memory for the bytes of the whole datagram, where its length is known and the bytes held may
 /// cover it.
-fn room_for(alloc: Global, end: Option<u64>, held: u64) -> Result<Option<Room>, NoMemory>
+fn room_for(alloc: Global, end: Option<u64>, held: u64) -> Result<Option<DatagramRoom>, NoMemory>
     ensures { IfOk result (λ room. IsRoomFor end held room) }
 {
     match end {
-        Some(end) if end <= held => Ok(Some(Room::new(alloc, end as usize)?)),
+        Some(end) if end <= held => Ok(Some(DatagramRoom::new(alloc, end as usize)?)),
         _ => Ok(None),
     }
 }
 
 /// The bytes from place 0 on, as many as there is room for, if each place has one. None without room.
-fn whole_bytes(queue: &Queue, room: Option<Room>) -> Option<Text>
+fn whole_bytes(queue: &Queue, room: Option<DatagramRoom>) -> Option<Text>
     requires { queue.now.floor ≡ 0 }
     ensures { result ≡ option_and_then (first_bytes queue.now) room }
 {
@@ -142,11 +142,11 @@ fn whole_bytes(queue: &Queue, room: Option<Room>) -> Option<Text>
 }
 
 /// The bytes from place 0 on, as many as there is room for, if each place has one.
-fn filled(queue: &Queue, room: Room) -> Option<Text>
+fn filled(queue: &Queue, room: DatagramRoom) -> Option<Text>
     requires { queue.now.floor ≡ 0 }
     ensures { result ≡ first_bytes queue.now room }
 {
-    let Room { len, mut bytes } = room;
+    let DatagramRoom { len, mut bytes } = room;
     if queue.append_to(len, &mut bytes) {
         Some(Text::from_vec(bytes))
     } else {

@@ -10,7 +10,7 @@ use Rattle.std.specs.Prelude.{◌≡◌, ℕ, ◌+◌, ◌-◌, ◌==◌, ◌⊎
 use Rattle.std.specs.Option.{option_map}
 use Rattle.edge_io.specs.Addresses.{same_addr}
 use Rattle.net_lists.specs.declared.part.AddrBounds.{AddrBounds}
-use Rattle.net_lists.specs.declared.part.Bounds.{Bounds}
+use Rattle.net_lists.specs.declared.part.ValueBounds.{ValueBounds}
 use Rattle.net_lists.specs.declared.part.Part.{Part}
 use Rattle.net_lists.specs.Membership.{IsListed, Has, HasAddress}
 use Rattle.packet_decode.specs.declared.item.ItemHead.{ItemHead}
@@ -34,7 +34,7 @@ use Rattle.rule_types.specs.declared.option.Side.TheVariants as side
 use Rattle.rule_types.specs.declared.rule.Proto.{Proto}
 use Rattle.rule_types.specs.declared.rule.Proto.TheVariants as proto
 use Rattle.rule_types.specs.declared.rule.Rule.{Rule}
-use Rattle.header_eval.specs.declared.header.End.{End}
+use Rattle.header_eval.specs.declared.header.ItemEnd.{ItemEnd}
 
 -- ---- the header
 
@@ -62,29 +62,29 @@ destination_port (body.Stream sport dport) = Some dport
 destination_port body = None
 
 -- the ends of an item
-abbrev pub source_of : ItemHead → End
+abbrev pub source_of : ItemHead → ItemEnd
 source_of head = record { addr = head.ip.src; port = source_port head.body }
 
-abbrev pub destination_of : ItemHead → End
+abbrev pub destination_of : ItemHead → ItemEnd
 destination_of head = record { addr = head.ip.dst; port = destination_port head.body }
 
 -- the end has a port, and it is listed
-abbrev pub HasPort : List (Part (Bounds ℕ)) → Option ℕ → Type 0
+abbrev pub HasPort : List (Part (ValueBounds ℕ)) → Option ℕ → Type 0
 HasPort ports None = ⊥
 HasPort ports (Some port) = IsListed (Has port) ports
 
 -- ports are tested by rules of tcp and udp alone
-abbrev pub PortHolds : Proto → List (Part (Bounds ℕ)) → Option ℕ → Type 0
+abbrev pub PortHolds : Proto → List (Part (ValueBounds ℕ)) → Option ℕ → Type 0
 PortHolds proto.Tcp ports port = HasPort ports port
 PortHolds proto.Udp ports port = HasPort ports port
 PortHolds proto ports port = ⊤
 
 -- the end is one of these addresses and ports
-abbrev pub IsEnd : Proto → List (Part AddrBounds) → List (Part (Bounds ℕ)) → End → Type 0
+abbrev pub IsEnd : Proto → List (Part AddrBounds) → List (Part (ValueBounds ℕ)) → ItemEnd → Type 0
 IsEnd proto addrs ports end = IsListed (HasAddress end.addr) addrs × PortHolds proto ports end.port
 
 -- the way from one end to another is the rule's, from its left side to its right side
-unfoldable pub IsWay : Rule → End → End → Type 0
+unfoldable pub IsWay : Rule → ItemEnd → ItemEnd → Type 0
 IsWay rule from to = IsEnd rule.proto rule.src rule.sports from × IsEnd rule.proto rule.dst rule.dports to
 
 -- the header holds: `<>` takes either way

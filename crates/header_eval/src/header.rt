@@ -9,7 +9,7 @@ use rule_types::{Proto, Rule};
 
 /// An end of an item: its address, and its port where the item has ports.
 #[derive(Clone, Copy)]
-pub(crate) struct End {
+pub(crate) struct ItemEnd {
     pub addr: Addr,
     pub port: Option<u16>,
 }
@@ -70,7 +70,7 @@ fn port_holds(proto: Proto, ports: &PortList, port: Option<u16>) -> bool
 }
 
 /// Whether the end is one of these addresses and ports.
-fn is_end(proto: Proto, addrs: &AddrList, ports: &PortList, end: End) -> bool
+fn is_end(proto: Proto, addrs: &AddrList, ports: &PortList, end: ItemEnd) -> bool
     ensures { IsTrue result ↔ IsEnd proto addrs.now ports.now end }
 {
     port_holds(proto, ports, end.port) && addrs.contains(end.addr)
@@ -78,7 +78,7 @@ fn is_end(proto: Proto, addrs: &AddrList, ports: &PortList, end: End) -> bool
 
 /// Whether the way from one end to the other is the rule's.
 #[tactic(auto, unfolding(crate::specs::Fields::IsWay))]
-fn is_way(rule: &Rule, from: End, to: End) -> bool
+fn is_way(rule: &Rule, from: ItemEnd, to: ItemEnd) -> bool
     ensures { IsTrue result ↔ IsWay rule.now from to }
 {
     is_end(rule.proto, &rule.src, &rule.sports, from)
@@ -91,11 +91,11 @@ fn is_way(rule: &Rule, from: End, to: End) -> bool
 pub fn header_matches(rule: &Rule, head: &ItemHead) -> bool
     ensures { IsTrue result ↔ HeaderHolds rule.now head.now }
 {
-    let source = End {
+    let source = ItemEnd {
         addr: head.ip.src,
         port: source_port(&head.body),
     };
-    let destination = End {
+    let destination = ItemEnd {
         addr: head.ip.dst,
         port: destination_port(&head.body),
     };

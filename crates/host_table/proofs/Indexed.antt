@@ -11,7 +11,7 @@ use Rattle.edge_io.specs.declared.address.Addr.TheVariants.{V4, V6}
 use Rattle.net_lists.specs.declared.network.Network.{Network}
 use Rattle.net_lists.specs.Addresses.{IsNetwork, bits_of}
 use Rattle.host_table.specs.declared.host_line.HostLine.{HostLine}
-use Rattle.host_table.specs.declared.key.Key.{Key}
+use Rattle.host_table.specs.declared.key.NetworkKey.{NetworkKey}
 use Rattle.host_table.specs.HostLine.{same_network, is_given}
 use Rattle.host_table.specs.Index.{place_of, IsIndexed}
 use Rattle.host_table.specs.Keys.{key_of, key_cmp}
@@ -26,7 +26,7 @@ unfolding place_of
 place_of-nil net = refl
 
 -- no entries
-pub indexed-nil : (entries : List HostLine) (places : BTreeMap Key ℕ) (lengths : List Bool) → entries ≡ [] → places.entries ≡ [] → IsIndexed entries places lengths
+pub indexed-nil : (entries : List HostLine) (places : BTreeMap NetworkKey ℕ) (lengths : List Bool) → entries ≡ [] → places.entries ≡ [] → IsIndexed entries places lengths
 indexed-nil entries places lengths none empty = record {
   found = λ net. ap (lookup (is_at (key_cmp (key_of net)))) empty ∙ sym (place_of-nil net) ∙ ap (λ es. place_of es net) (sym none);
   marked = λ net fails. ap (λ es. place_of es net) none ∙ place_of-nil net;
@@ -55,12 +55,12 @@ module _ (entries : List HostLine) (entry : HostLine) where
   unfolding place_of
   place-other net is = place-push_other (has net) 0 entries entry is
 
-  pub indexed-push : (places after : BTreeMap Key ℕ) (lengths : List Bool)
+  pub indexed-push : (places after : BTreeMap NetworkKey ℕ) (lengths : List Bool)
       → IsIndexed entries places lengths
       → IsNetwork entry.network
       → place_of entries entry.network ≡ None
       → entry.network.length < length lengths
-      → ((q : Key) →
+      → ((q : NetworkKey) →
       get key_cmp after q ≡ cond (is_at (key_cmp (key_of entry.network)) q) (Some (length entries)) (get key_cmp places q))
       → IsIndexed (entries ++ entry ∷ []) after (set lengths entry.network.length true)
   indexed-push places after lengths indexed sound new within updated = record {
@@ -84,7 +84,7 @@ module _ (entries : List HostLine) (entry : HostLine) where
         place-other net is ∙ indexed.marked net (sym (get_or-set_other lengths entry.network.length net.length true false (λ same. apart net fails (sym same))) ∙ fails)
 
 -- an entry has the network where the map has its place
-pub is_given-indexed : (entries : List HostLine) (places : BTreeMap Key ℕ) (lengths : List Bool)
+pub is_given-indexed : (entries : List HostLine) (places : BTreeMap NetworkKey ℕ) (lengths : List Bool)
     → IsIndexed entries places lengths
     → (net : Network)
     → is_some (get key_cmp places (key_of net)) ≡ is_given entries net

@@ -7,7 +7,7 @@ use Rattle.host_table.specs.declared.fault.HostFault.{HostFault}
 use Rattle.host_table.specs.declared.fault.HostFault.TheVariants.{BadLine, Twice, NoMemory}
 use Rattle.host_table.specs.declared.host_line.HostLine.{HostLine}
 use Rattle.net_lists.specs.Lines.{numbered, has_content, kept}
-use Rattle.net_lists.specs.declared.lines.Numbered.{Numbered}
+use Rattle.net_lists.specs.declared.lines.NumberedLine.{NumberedLine}
 use Rattle.host_table.specs.Lines.{numbered_lines}
 use Rattle.host_table.specs.HostLine.{host_line}
 use Rattle.host_table.specs.Hosts.{hosts_of, hosts_after, Gives}
@@ -23,7 +23,7 @@ unfolding hosts_after numbered_lines
 hosts_after-nil entries number = refl
 
 module _ (entries : List HostLine) (number : ℕ) (line : List ℕ) (rest : List (List ℕ)) where
-  abbrev later : List Numbered
+  abbrev later : List NumberedLine
   later = kept (numbered_lines (number + 1) rest)
 
   -- a line without content is passed over

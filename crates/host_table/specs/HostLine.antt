@@ -18,7 +18,7 @@ use Rattle.net_lists.specs.Cutting.{words}
 use Rattle.host_table.specs.declared.fault.HostFault.{HostFault}
 use Rattle.host_table.specs.declared.fault.HostFault.TheVariants.{BadLine, Twice}
 use Rattle.host_table.specs.declared.host_line.HostLine.{HostLine}
-use Rattle.net_lists.specs.declared.lines.Numbered.{Numbered}
+use Rattle.net_lists.specs.declared.lines.NumberedLine.{NumberedLine}
 use Rattle.edge_io.specs.Policies.{frag_policy, stream_policy}
 
 -- two networks have the same version, prefix length and address bits
@@ -58,7 +58,7 @@ unfoldable pub taken : List HostLine → ℕ → HostLine → Result HostLine Ho
 taken before number entry = if is_given before entry.network then Err (Twice number) else Ok entry
 
 -- what a line gives after the entries before it
-unfoldable pub host_line : List HostLine → Numbered → Result HostLine HostFault
+unfoldable pub host_line : List HostLine → NumberedLine → Result HostLine HostFault
 host_line before line =
     if nat_lt (length before) most_entries
     then elim (entry_of_words (words line.text)) [

@@ -15,12 +15,12 @@ use Rattle.net_lists.specs.Addresses.{network_at}
 use Rattle.host_table.specs.declared.fault.HostFault.{HostFault}
 use Rattle.host_table.specs.declared.fault.HostFault.TheVariants.{BadLine, Twice, NoMemory}
 use Rattle.host_table.specs.declared.host_line.HostLine.{HostLine}
-use Rattle.net_lists.specs.declared.lines.Numbered.{Numbered}
+use Rattle.net_lists.specs.declared.lines.NumberedLine.{NumberedLine}
 use Rattle.host_table.specs.Lines.{content_lines}
 use Rattle.host_table.specs.HostLine.{same_network, host_line}
 
 -- the entries after these lines, or the refusal of the first line that is refused
-unfoldable pub hosts_after : List HostLine → List Numbered → Result (List HostLine) HostFault
+unfoldable pub hosts_after : List HostLine → List NumberedLine → Result (List HostLine) HostFault
 hosts_after entries [] = Ok entries
 hosts_after entries (line ∷ rest) = host_line entries line >>= (λ entry. hosts_after (entries ++ entry ∷ []) rest)
 

@@ -6,7 +6,7 @@ ghost use Rattle.host_table.specs.Hosts.{entry_at, frag_policy_at, stream_policy
 ghost use Rattle.host_table.specs.Index.{place_of};
 
 use crate::host_line::HostLine;
-use crate::key::Key;
+use crate::key::NetworkKey;
 use edge_io::{Addr, FragPolicy, NoMemory, StreamPolicy};
 use net_lists::Network;
 use std::alloc::Global;
@@ -21,7 +21,7 @@ const LENGTHS: usize = 129;
 pub struct Hosts {
     entries: Vec<HostLine>,
     /// The place of each entry among the entries.
-    places: BTreeMap<Key, usize>,
+    places: BTreeMap<NetworkKey, usize>,
     /// Whether an entry may have a prefix length.
     lengths: [bool; LENGTHS],
 }
@@ -72,7 +72,7 @@ impl Hosts {
     pub(crate) fn is_given(&self, network: Network) -> bool
         ensures { result ≡ is_given self.now network }
     {
-        self.places.contains_key(&Key::of(network))
+        self.places.contains_key(&NetworkKey::of(network))
     }
 
     /// The hosts with one entry more, of a network that no other has.
@@ -88,7 +88,7 @@ impl Hosts {
         } = self;
         let place = entries.len();
         entries.push(entry)?;
-        places.insert(Key::of(entry.network), place)?;
+        places.insert(NetworkKey::of(entry.network), place)?;
         lengths[entry.network.length as usize] = true;
         Ok(Hosts {
             entries,
@@ -106,7 +106,7 @@ impl Hosts {
             return None;
         }
         let network = Network::at(addr, length);
-        self.places.get(&Key::of(network)).copied()
+        self.places.get(&NetworkKey::of(network)).copied()
     }
 
     /// The entry with the longest prefix that has the address.

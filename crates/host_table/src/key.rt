@@ -7,17 +7,17 @@ use net_lists::Network;
 
 /// A network as a key of an ordered map: by prefix length, and then by address, version 4 first.
 #[derive(Clone, Copy, Debug, PartialEq, Eq, PartialOrd, Ord)]
-pub struct Key {
+pub struct NetworkKey {
     pub length: u32,
     pub first: Addr,
 }
 
-impl Key {
+impl NetworkKey {
     /// The key of a network.
-    pub fn of(network: Network) -> Key
+    pub fn of(network: Network) -> NetworkKey
         ensures { result ≡ key_of network }
     {
-        Key {
+        NetworkKey {
             length: network.length,
             first: network.first,
         }

@@ -6,7 +6,7 @@ use Rattle.edge_io.specs.Bytes.{be16, byte_at, slice, word_sum}
 use Rattle.edge_io.specs.OnResult.{◌>>=◌}
 use Rattle.edge_io.specs.declared.link.Link.{Link}
 use Rattle.packet_decode.specs.declared.checks.Checks.{Checks}
-use Rattle.packet_decode.specs.declared.ipv4.Bounds.{Bounds}
+use Rattle.packet_decode.specs.declared.ipv4.DataBounds.{DataBounds}
 use Rattle.packet_decode.specs.declared.packet.IpHead.{IpHead}
 use Rattle.packet_decode.specs.declared.packet.Body.TheVariants as body
 use Rattle.packet_decode.specs.declared.skip.Skip.{Skip}
@@ -18,7 +18,7 @@ use Rattle.packet_decode.specs.Decoding.{Fields, data_bounds, datagram_at, decod
 use Rattle.packet_decode.specs.Decoding.{is_message_right, is_segment_right, link_start, tcp_at, tcp_head_at, transport_at}
 use Rattle.packet_decode.specs.Decoding.{udp_at}
 use Rattle.packet_decode.specs.Versions.{icmp_protocol, version_of}
-use Rattle.ipv6_decode.specs.declared.walk.Walk.{Walk}
+use Rattle.ipv6_decode.specs.declared.walk.HeaderWalk.{HeaderWalk}
 use Rattle.ipv6_decode.specs.Addresses.{HaveSameEnds, IsOfOneVersion, IsOfVersion, KeepVersions}
 use Rattle.ipv6_decode.specs.Decoding6.{decoded6, packet_at, packet_after, upper_at, walk_start}
 use Rattle.ipv6_decode.specs.Headers.{after_fragment_header, after_header, after_length_field, fragment_head, head_at, is_at_header, most_headers, packet_stop, walk_end}
@@ -92,7 +92,7 @@ of_version version ip said is h = IfOk-weaker said (HasHead ip) (λ fields. IsOf
 
 -- ---- version 4
 
-four_at : (bytes : List ℕ) (start : ℕ) (bounds : Bounds) (checks : Checks) → IfOk (datagram_at bytes start bounds checks) (λ fields. IsOfVersion Four fields.ip)
+four_at : (bytes : List ℕ) (start : ℕ) (bounds : DataBounds) (checks : Checks) → IfOk (datagram_at bytes start bounds checks) (λ fields. IsOfVersion Four fields.ip)
 unfolding datagram_at ip_head_at
 four_at bytes start bounds checks = go (checks.ip && not (is_all_ones (word_sum (slice bytes start bounds.start)))) (is_fragment (ip_head_at bytes start))
   where
@@ -113,14 +113,14 @@ four link bytes checks =
 -- ---- version 6
 
 -- a walk has the addresses of this head
-abbrev WalksBetween : IpHead → Walk → Type 0
+abbrev WalksBetween : IpHead → HeaderWalk → Type 0
 WalksBetween head walk = HaveSameEnds walk.head head
 
-length_field_ends : (walk : Walk) (bytes : List ℕ) → IfOk (after_length_field walk bytes) (WalksBetween walk.head)
+length_field_ends : (walk : HeaderWalk) (bytes : List ℕ) → IfOk (after_length_field walk bytes) (WalksBetween walk.head)
 unfolding after_length_field
 length_field_ends walk bytes = go (nat_lt (length bytes) (walk.place + 2)) (nat_lt (length bytes) (walk.place + 8 + 8 * byte_at bytes (walk.place + 1)))
   where
-    next : Walk
+    next : HeaderWalk
     next = record { head = record walk.head { protocol = byte_at bytes walk.place }; place = walk.place + 8 + 8 * byte_at bytes (walk.place + 1); is_part = walk.is_part }
 
     go : (b c : Bool) → IfOk (cond b (Err skip.Malformed) (cond c (Err skip.Malformed) (Ok next))) (WalksBetween walk.head)
@@ -128,7 +128,7 @@ length_field_ends walk bytes = go (nat_lt (length bytes) (walk.place + 2)) (nat_
     go false true = tt
     go false false = (refl, refl)
 
-fragment_header_ends : (walk : Walk) (bytes : List ℕ) → IfOk (after_fragment_header walk bytes) (WalksBetween walk.head)
+fragment_header_ends : (walk : HeaderWalk) (bytes : List ℕ) → IfOk (after_fragment_header walk bytes) (WalksBetween walk.head)
 unfolding after_fragment_header fragment_head
 fragment_header_ends walk bytes = go (nat_lt (length bytes) (walk.place + 8))
   where
@@ -139,7 +139,7 @@ fragment_header_ends walk bytes = go (nat_lt (length bytes) (walk.place + 8))
     go true = tt
     go false = (refl, refl)
 
-header_ends : (walk : Walk) (bytes : List ℕ) → IfOk (after_header walk bytes) (WalksBetween walk.head)
+header_ends : (walk : HeaderWalk) (bytes : List ℕ) → IfOk (after_header walk bytes) (WalksBetween walk.head)
 unfolding after_header
 header_ends walk bytes = go (walk.head.protocol == 44)
   where
@@ -147,7 +147,7 @@ header_ends walk bytes = go (walk.head.protocol == 44)
     go true = fragment_header_ends walk bytes
     go false = length_field_ends walk bytes
 
-walk_ends : (left : ℕ) (walk : Walk) (bytes : List ℕ) → IfOk (walk_end left walk bytes) (WalksBetween walk.head)
+walk_ends : (left : ℕ) (walk : HeaderWalk) (bytes : List ℕ) → IfOk (walk_end left walk bytes) (WalksBetween walk.head)
 unfolding walk_end
 walk_ends zero walk bytes = go (is_at_header walk)
   where
@@ -156,14 +156,14 @@ walk_ends zero walk bytes = go (is_at_header walk)
     go false = (refl, refl)
 walk_ends (suc left) walk bytes = go (is_at_header walk) (λ next. walk_ends left next bytes)
   where
-    go : (b : Bool) → ((next : Walk) → IfOk (walk_end left next bytes) (WalksBetween next.head))
+    go : (b : Bool) → ((next : HeaderWalk) → IfOk (walk_end left next bytes) (WalksBetween next.head))
         → IfOk (cond b (after_header walk bytes >>= (λ next. walk_end left next bytes)) (Ok walk)) (WalksBetween walk.head)
     go true later =
         bind-with (WalksBetween walk.head) (WalksBetween walk.head) (after_header walk bytes) (λ next. walk_end left next bytes) (header_ends walk bytes)
         (λ next here. IfOk-weaker (walk_end left next bytes) (WalksBetween next.head) (WalksBetween walk.head) (λ end there. (there.0 ∙ here.0, there.1 ∙ here.1)) (later next))
     go false later = (refl, refl)
 
-after_head : (walk : Walk) (packet : List ℕ) (checks : Checks) → IfOk (packet_after walk packet checks) (HasHead walk.head)
+after_head : (walk : HeaderWalk) (packet : List ℕ) (checks : Checks) → IfOk (packet_after walk packet checks) (HasHead walk.head)
 unfolding packet_after
 after_head walk packet checks = go walk.is_part
   where
@@ -171,7 +171,7 @@ after_head walk packet checks = go walk.is_part
     go true = refl
     go false = transport_head walk.head packet walk.place (length packet) checks
 
-six_ends : (packet : List ℕ) (start : ℕ) (walk : Walk) → WalksBetween (head_at packet start) walk → IsOfVersion Six walk.head
+six_ends : (packet : List ℕ) (start : ℕ) (walk : HeaderWalk) → WalksBetween (head_at packet start) walk → IsOfVersion Six walk.head
 unfolding head_at
 six_ends packet start walk same = (ap version_of same.0, ap version_of same.1)
 

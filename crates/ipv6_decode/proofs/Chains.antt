@@ -8,7 +8,7 @@ use Rattle.std.proofs.lemmas.Bool.Decides.{nat_tests}
 use Rattle.edge_io.specs.Bytes.{byte_at}
 use Rattle.packet_decode.specs.declared.skip.Skip.TheVariants.{Malformed}
 use Rattle.packet_decode.specs.declared.packet.IpHead.{IpHead}
-use Rattle.ipv6_decode.specs.declared.walk.Walk.{Walk}
+use Rattle.ipv6_decode.specs.declared.walk.HeaderWalk.{HeaderWalk}
 use Rattle.ipv6_decode.specs.Headers.{has_length_field, is_at_header, after_length_field, after_header, walk_end}
 use Rattle.ipv6_decode.proofs.Walks.{ended, too_many, over}
 
@@ -43,7 +43,7 @@ chain_bytes [] next = []
 chain_bytes (header ∷ headers) next = header_bytes header (first_number headers next) ++ chain_bytes headers next
 
 -- a walk that is after some bytes, before what the number names
-abbrev pub walk_after : IpHead → ℕ → List ℕ → Walk
+abbrev pub walk_after : IpHead → ℕ → List ℕ → HeaderWalk
 walk_after head next before = record { head = record head { protocol = next }; place = length before; is_part = false }
 
 -- a header with a length field is no fragment header
@@ -78,8 +78,8 @@ over_first : (head : IpHead) (header : Extension) (headers : List Extension) (le
 over_first head header headers left next before after good =
     let here : List ℕ = header_bytes header (first_number headers next) in
     let later : List ℕ = chain_bytes headers next in
-    let walk : Walk = walk_after head header.number before in
-    let beyond : Walk = walk_after head (first_number headers next) (before ++ here) in
+    let walk : HeaderWalk = walk_after head header.number before in
+    let beyond : HeaderWalk = walk_after head (first_number headers next) (before ++ here) in
     ap (λ (bytes : List ℕ). walk_end (suc left) walk (before ++ bytes)) (append_assoc here later after)
     ∙ over left walk beyond (before ++ (here ++ (later ++ after))) (there head header.number before good.number) (over_one head header (first_number headers next) before (later ++ after) good)
     ∙ ap (λ (bytes : List ℕ). walk_end left beyond bytes) (sym (append_assoc before here (later ++ after)))

@@ -22,21 +22,21 @@ use Rattle.packet_decode.specs.declared.version.IpVersion.TheVariants.{Six}
 use Rattle.packet_decode.specs.declared.packet.IpHead.{IpHead}
 use Rattle.packet_decode.specs.declared.packet.Body.TheVariants.{Fragment}
 use Rattle.packet_decode.specs.Decoding.{Fields, link_start, transport_at}
-use Rattle.ipv6_decode.specs.declared.walk.Walk.{Walk}
+use Rattle.ipv6_decode.specs.declared.walk.HeaderWalk.{HeaderWalk}
 use Rattle.ipv6_decode.specs.Headers.{packet_stop, head_at, most_headers, walk_end}
 
 -- what is at the end of a walk and is no part of a datagram: the transport header and its data,
 -- up to the end of the packet
-abbrev pub upper_at : Walk → List ℕ → Checks → Result Fields Skip
+abbrev pub upper_at : HeaderWalk → List ℕ → Checks → Result Fields Skip
 upper_at walk packet checks = transport_at walk.head packet walk.place (length packet) checks
 
 -- where the walk over the extension headers of the packet at `start` begins
-unfoldable pub walk_start : List ℕ → ℕ → Walk
+unfoldable pub walk_start : List ℕ → ℕ → HeaderWalk
 walk_start packet start = record { head = head_at packet start; place = start + 40; is_part = false }
 
 -- What a packet says, with which the bytes end, and whose walk ended so. A part of a datagram has
 -- no transport header of its own: all bytes after the fragment header are the part.
-unfoldable pub packet_after : Walk → List ℕ → Checks → Result Fields Skip
+unfoldable pub packet_after : HeaderWalk → List ℕ → Checks → Result Fields Skip
 packet_after walk packet checks =
     if walk.is_part
     then Ok (record { ip = walk.head; body = Fragment; payload = slice packet walk.place (length packet) })

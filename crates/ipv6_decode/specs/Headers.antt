@@ -14,7 +14,7 @@ use Rattle.packet_decode.specs.declared.skip.Skip.{Skip}
 use Rattle.packet_decode.specs.declared.skip.Skip.TheVariants.{Short, Malformed}
 use Rattle.packet_decode.specs.declared.packet.IpHead.{IpHead}
 use Rattle.packet_decode.specs.Decoding.{is_fragment}
-use Rattle.ipv6_decode.specs.declared.walk.Walk.{Walk}
+use Rattle.ipv6_decode.specs.declared.walk.HeaderWalk.{HeaderWalk}
 
 -- the number in the sixteen bytes from a place
 unfoldable pub be128 : List ℕ → ℕ → ℕ
@@ -53,12 +53,12 @@ abbrev pub has_length_field : ℕ → Bool
 has_length_field next = next == 0 || next == 43 || next == 60
 
 -- an extension header is at the place: one of those, or a fragment header
-abbrev pub is_at_header : Walk → Bool
+abbrev pub is_at_header : HeaderWalk → Bool
 is_at_header walk = not walk.is_part && (has_length_field walk.head.protocol || walk.head.protocol == 44)
 
 -- The walk after a header with a length field: its first byte is the next header, and its second one counts
 -- the units of 8 bytes after the first 8 (RFC 8200, sections 4.3, 4.4 and 4.6).
-unfoldable pub after_length_field : Walk → List ℕ → Result Walk Skip
+unfoldable pub after_length_field : HeaderWalk → List ℕ → Result HeaderWalk Skip
 after_length_field walk bytes =
     if nat_lt (length bytes) (walk.place + 2) then Err Malformed
     else (let end = walk.place + 8 + 8 * byte_at bytes (walk.place + 1) in
@@ -80,14 +80,14 @@ fragment_head head bytes place =
 
 -- The walk after a fragment header, which has 8 bytes: a part of a datagram, unless it begins at 0 with no
 -- more to come (RFC 6946, section 2).
-unfoldable pub after_fragment_header : Walk → List ℕ → Result Walk Skip
+unfoldable pub after_fragment_header : HeaderWalk → List ℕ → Result HeaderWalk Skip
 after_fragment_header walk bytes =
     if nat_lt (length bytes) (walk.place + 8) then Err Malformed
     else (let head = fragment_head walk.head bytes walk.place in
     Ok (record { head = head; place = walk.place + 8; is_part = is_fragment head }))
 
 -- the walk after the extension header at the place
-unfoldable pub after_header : Walk → List ℕ → Result Walk Skip
+unfoldable pub after_header : HeaderWalk → List ℕ → Result HeaderWalk Skip
 after_header walk bytes =
     if walk.head.protocol == 44 then after_fragment_header walk bytes else after_length_field walk bytes
 
@@ -99,7 +99,7 @@ most_headers = 8
 -- at what is no extension header. A header more than that is one too many. The laws
 -- `walk_end-chain` and `walk_end-long_chain` of proofs/Chains say what that is for whole chains as
 -- a sender writes them.
-unfoldable pub walk_end : ℕ → Walk → List ℕ → Result Walk Skip
+unfoldable pub walk_end : ℕ → HeaderWalk → List ℕ → Result HeaderWalk Skip
 walk_end zero walk bytes = if is_at_header walk then Err Malformed else Ok walk
 walk_end (suc left) walk bytes =
     if is_at_header walk then (after_header walk bytes >>= (λ next. walk_end left next bytes)) else Ok walk

@@ -5,12 +5,12 @@ ghost use Rattle.packet_decode.specs.Versions.{version_of};
 ghost use Rattle.ipv6_decode.specs.Decoding6.{upper_at, walk_start, packet_after, packet_at, decoded6, datagram_decoded6};
 
 use crate::header::{HEADER_LEN, ip_head, packet_stop};
-use crate::walk::{Walk, walk_end};
+use crate::walk::{HeaderWalk, walk_end};
 use edge_io::Link;
 use packet_decode::{Body, Checks, IpHead, IpVersion, Packet, Skip, decode_datagram, link_start};
 
 /// The transport header and its data, where a walk ended.
-fn upper<'a>(walk: Walk, packet: &'a [u8], checks: Checks) -> Result<Packet<'a>, Skip>
+fn upper<'a>(walk: HeaderWalk, packet: &'a [u8], checks: Checks) -> Result<Packet<'a>, Skip>
     requires { walk.place ≤ length packet.now }
     ensures exact { seen result ≡ upper_at walk packet.now checks }
     ensures within { IfOk result
@@ -21,12 +21,12 @@ fn upper<'a>(walk: Walk, packet: &'a [u8], checks: Checks) -> Result<Packet<'a>,
 
 /// Where the walk over the extension headers of the packet at `start` begins.
 #[tactic(auto, unfolding(crate::specs::Decoding6::walk_start))]
-fn walk_start(packet: &[u8], start: usize) -> Walk
+fn walk_start(packet: &[u8], start: usize) -> HeaderWalk
     requires { start + 40 ≤ length packet.now }
     ensures exact { result ≡ walk_start packet.now start }
     ensures place { result.place ≡ start + 40 }
 {
-    Walk {
+    HeaderWalk {
         head: ip_head(packet, start),
         place: start + HEADER_LEN,
         is_part: false,
@@ -35,7 +35,7 @@ fn walk_start(packet: &[u8], start: usize) -> Walk
 
 /// The packet with which the bytes end, and whose walk ended so.
 #[tactic(auto, unfolding(crate::specs::Decoding6::packet_after))]
-fn packet_after<'a>(walk: Walk, packet: &'a [u8], checks: Checks) -> Result<Packet<'a>, Skip>
+fn packet_after<'a>(walk: HeaderWalk, packet: &'a [u8], checks: Checks) -> Result<Packet<'a>, Skip>
     requires { walk.place ≤ length packet.now }
     ensures exact { seen result ≡ packet_after walk packet.now checks }
     ensures within { IfOk result
@@ -102,7 +102,7 @@ pub fn decode6_datagram<'a>(ip: IpHead, bytes: &'a [u8], checks: Checks) -> Resu
     ensures within { IfOk result (λ packet. length packet.payload.now ≤ length bytes.now) }
 {
     let walk = walk_end(
-        Walk {
+        HeaderWalk {
             head: ip,
             place: 0,
             is_part: false,

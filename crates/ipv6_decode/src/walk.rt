@@ -26,7 +26,7 @@ const MAX_HEADERS: u8 = 8;
 
 /// Where a walk over extension headers is in a packet.
 #[derive(Clone, Copy, Debug)]
-pub struct Walk {
+pub struct HeaderWalk {
     /// The head so far: its protocol says what is at the place.
     pub head: IpHead,
     pub place: usize,
@@ -42,7 +42,7 @@ fn has_length_field(next: u8) -> bool
 }
 
 /// An extension header is at the place.
-fn is_at_header(walk: &Walk) -> bool
+fn is_at_header(walk: &HeaderWalk) -> bool
     ensures { result ≡ is_at_header walk.now }
 {
     let next = walk.head.protocol;
@@ -51,7 +51,7 @@ fn is_at_header(walk: &Walk) -> bool
 
 /// The walk after an extension header with a length field.
 #[tactic(auto, unfolding(crate::specs::Headers::after_length_field))]
-fn after_length_field(walk: Walk, packet: &[u8]) -> Result<Walk, Skip>
+fn after_length_field(walk: HeaderWalk, packet: &[u8]) -> Result<HeaderWalk, Skip>
     requires { walk.place ≤ length packet.now }
     ensures exact { result ≡ after_length_field walk packet.now }
     ensures onward { IfOk result (λ next. walk.place ≤ next.place) }
@@ -65,7 +65,7 @@ fn after_length_field(walk: Walk, packet: &[u8]) -> Result<Walk, Skip>
     if packet.len() < end {
         return Err(Skip::Malformed);
     }
-    Ok(Walk {
+    Ok(HeaderWalk {
         head: IpHead {
             protocol: packet[place],
             ..walk.head
@@ -93,7 +93,7 @@ fn fragment_head(head: IpHead, packet: &[u8], place: usize) -> IpHead
 
 /// The walk after a fragment header.
 #[tactic(auto, unfolding(crate::specs::Headers::after_fragment_header))]
-fn after_fragment_header(walk: Walk, packet: &[u8]) -> Result<Walk, Skip>
+fn after_fragment_header(walk: HeaderWalk, packet: &[u8]) -> Result<HeaderWalk, Skip>
     requires { walk.place ≤ length packet.now }
     ensures exact { result ≡ after_fragment_header walk packet.now }
     ensures onward { IfOk result (λ next. walk.place ≤ next.place) }
@@ -104,7 +104,7 @@ fn after_fragment_header(walk: Walk, packet: &[u8]) -> Result<Walk, Skip>
         return Err(Skip::Malformed);
     }
     let head = fragment_head(walk.head, packet, walk.place);
-    Ok(Walk {
+    Ok(HeaderWalk {
         head,
         place: end,
         is_part: head.more || head.offset > 0,
@@ -113,7 +113,7 @@ fn after_fragment_header(walk: Walk, packet: &[u8]) -> Result<Walk, Skip>
 
 /// The walk after the extension header at the place.
 #[tactic(auto, unfolding(crate::specs::Headers::after_header))]
-fn after_header(walk: Walk, packet: &[u8]) -> Result<Walk, Skip>
+fn after_header(walk: HeaderWalk, packet: &[u8]) -> Result<HeaderWalk, Skip>
     requires { walk.place ≤ length packet.now }
     ensures exact { result ≡ after_header walk packet.now }
     ensures onward { IfOk result (λ next. walk.place ≤ next.place) }
@@ -128,7 +128,7 @@ fn after_header(walk: Walk, packet: &[u8]) -> Result<Walk, Skip>
 
 /// Where a walk ends: at a part of a datagram, or at what is no extension header.
 #[tactic(auto, using(crate::proofs::Walks::walks))]
-pub fn walk_end(start: Walk, packet: &[u8]) -> Result<Walk, Skip>
+pub fn walk_end(start: HeaderWalk, packet: &[u8]) -> Result<HeaderWalk, Skip>
     requires { start.place ≤ length packet.now }
     ensures exact { result ≡ walk_end most_headers start packet.now }
     ensures onward { IfOk result (λ end. start.place ≤ end.place) }

@@ -1,11 +1,11 @@
 //! The addresses of the rows.
 
 use edge_io::Addr;
-use row_files::Parts;
+use row_files::TextParts;
 use std::net::{Ipv4Addr, Ipv6Addr};
 
 /// The address that hexadecimal digits say.
-fn of_digits(parts: &mut Parts<'_>, digits: &str) -> Addr {
+fn of_digits(parts: &mut TextParts<'_>, digits: &str) -> Addr {
     match u128::from_str_radix(digits, 16) {
         Ok(bits) => Addr::V6(bits),
         Err(_) => {
@@ -16,7 +16,7 @@ fn of_digits(parts: &mut Parts<'_>, digits: &str) -> Addr {
 }
 
 /// The address of version 6 that a text says, as std reads it.
-fn of_version_6(parts: &mut Parts<'_>, text: &str) -> Addr {
+fn of_version_6(parts: &mut TextParts<'_>, text: &str) -> Addr {
     match text.parse::<Ipv6Addr>() {
         Ok(address) => Addr::V6(address.to_bits()),
         Err(_) => {
@@ -27,7 +27,7 @@ fn of_version_6(parts: &mut Parts<'_>, text: &str) -> Addr {
 }
 
 /// The address of version 4 that a text says, as std reads it.
-fn of_version_4(parts: &mut Parts<'_>, text: &str) -> Addr {
+fn of_version_4(parts: &mut TextParts<'_>, text: &str) -> Addr {
     match text.parse::<Ipv4Addr>() {
         Ok(address) => Addr::V4(address.to_bits()),
         Err(_) => {
@@ -38,7 +38,7 @@ fn of_version_4(parts: &mut Parts<'_>, text: &str) -> Addr {
 }
 
 /// The address that the next part says, as std reads it, or by its hexadecimal digits after `0x`.
-pub(crate) fn address(parts: &mut Parts<'_>) -> Addr {
+pub(crate) fn address(parts: &mut TextParts<'_>) -> Addr {
     let text = parts.word();
     match text.strip_prefix("0x") {
         Some(digits) => of_digits(parts, digits),

@@ -8,14 +8,14 @@ ghost use Rattle.fast_pattern.specs.Grouping.{AreFor};
 ghost use Rattle.rule_types.specs.Sound.{IsTriable};
 ghost use Rattle.flow_lanes.specs.Course.{AreFrom, IsCourse, IsPlain};
 
-use crate::course::{Course, show_places, stream_of};
+use crate::course::{JobRules, show_places, stream_of};
 use crate::page::Page;
 use edge_io::{Addr, Literal, Moment, NoMemory, OpenGate, Preference, Text};
 use fast_pattern::Groups;
 use flow_lanes::{BatchOut, Job, Lanes, Payload, Toward, Work};
 use option_eval::RuleSet;
 use packet_decode::{Body, IpHead, ItemHead, ItemKind, SessionFacts};
-use row_files::Parts;
+use row_files::TextParts;
 use std::thread::Threads;
 
 /// Bytes that no rule looks for, before the letters of a packet.
@@ -69,7 +69,7 @@ fn add_job(page: &mut Page, first: u64, word: &str, jobs: &mut Vec<Job<'_>>) -> 
     requires { first < 2 ^ 20 }
     ensures { AreFrom first jobs.old.items → AreFrom first jobs.new.items }
 {
-    let mut parts = Parts::of(word, ':');
+    let mut parts = TextParts::of(word, ':');
     let flow = parts.long();
     let payload = payload_of(page, parts.left());
     if parts.is_wrong() || payload.bytes().len() > 65_535 || jobs.len() >= 1000 {
@@ -110,7 +110,7 @@ fn show_batch(page: &mut Page, out: &BatchOut) {
 
 /// How far a course has come: how many jobs, and how many candidates they had.
 #[derive(Clone, Copy)]
-struct Progress {
+struct BatchProgress {
     jobs: u64,
     tries: u128,
 }
@@ -120,10 +120,10 @@ fn run_batch<R: Threads + Sync>(
     rt: &R,
     page: &mut Page,
     lanes: &mut Lanes,
-    progress: Progress,
+    progress: BatchProgress,
     jobs: &[Job],
-    course: Course<'_>,
-) -> Option<Progress>
+    course: JobRules<'_>,
+) -> Option<BatchProgress>
     requires course { IsCourse lanes.old progress.jobs }
     requires jobs { AreFrom progress.jobs jobs.now }
     requires begun { progress.jobs < 1000 }
@@ -147,7 +147,7 @@ fn run_batch<R: Threads + Sync>(
     ) {
         Ok(out) => {
             show_batch(page, &out);
-            Some(Progress {
+            Some(BatchProgress {
                 jobs: progress.jobs + jobs.len() as u64,
                 tries: progress.tries.saturating_add(out.tries),
             })
@@ -161,10 +161,10 @@ fn run_words<R: Threads + Sync>(
     rt: &R,
     page: &mut Page,
     lanes: &mut Lanes,
-    progress: Progress,
+    progress: BatchProgress,
     words: &str,
-    course: Course<'_>,
-) -> Option<Progress>
+    course: JobRules<'_>,
+) -> Option<BatchProgress>
     requires course { IsCourse lanes.old progress.jobs }
     requires engines { length course.stream.now.engines ≡ 0 }
     requires config { IsStreamConfig course.stream.now }
@@ -185,7 +185,7 @@ fn run_batches<R: Threads + Sync>(
     page: &mut Page,
     lanes: &mut Lanes,
     batches: &str,
-    course: Course<'_>,
+    course: JobRules<'_>,
 )
     requires course { IsCourse lanes.old 0 }
     requires engines { length course.stream.now.engines ≡ 0 }
@@ -193,7 +193,7 @@ fn run_batches<R: Threads + Sync>(
     requires groups { AreFor course.groups.now course.set.now.rules }
     requires triable { All IsTriable course.set.now.rules }
 {
-    let mut progress = Progress { jobs: 0, tries: 0 };
+    let mut progress = BatchProgress { jobs: 0, tries: 0 };
     for words in batches.split('|') {
         let Some(after) = run_words(rt, page, lanes, progress, words, course) else {
             return page.put("broken off");
@@ -210,7 +210,7 @@ fn run_in_lanes<R: Threads + Sync>(
     page: &mut Page,
     count: u32,
     batches: &str,
-    course: Course<'_>,
+    course: JobRules<'_>,
 )
     requires some { 1 ≤ count }
     requires few { count ≤ 64 }
@@ -240,7 +240,7 @@ fn run_grouped<R: Threads + Sync>(
     requires triable { All IsTriable set.now.rules }
 {
     let stream = stream_of(page.alloc, false);
-    let course = Course {
+    let course = JobRules {
         stream: &stream,
         set,
         groups,
@@ -277,7 +277,7 @@ pub(crate) fn batches<R: Threads + Sync>(
 )
     requires { All IsTriable set.now.rules }
 {
-    let mut given = Parts::of(given, ' ');
+    let mut given = TextParts::of(given, ' ');
     let count = given.number();
     show_batches(rt, page, set, count, given.left());
 }

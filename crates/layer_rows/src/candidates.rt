@@ -8,7 +8,7 @@ use crate::row::Row;
 use edge_io::NoMemory;
 use fast_pattern::Groups;
 use packet_decode::ItemHead;
-use row_files::Parts;
+use row_files::TextParts;
 use rule_parser::Rule;
 
 /// Finds the candidates, after a number that is there already.
@@ -49,7 +49,7 @@ fn show_candidates(page: &mut Page, groups: &Groups, item: &ItemHead, times: u32
 fn ask(page: &mut Page, rules: &[Rule], item: &ItemHead, given: &str)
     requires { length rules.now ≤ 65536 }
 {
-    let mut given = Parts::of(given, ' ');
+    let mut given = TextParts::of(given, ' ');
     let times = given.number();
     match Groups::build(page.alloc, rules) {
         Ok(groups) => show_candidates(page, &groups, item, times, given.left()),

@@ -6,7 +6,7 @@ use crate::row::Row;
 use edge_io::{Host, Link, MemHost, NoMemory};
 use pcap_input::{CaptureHead, CaptureReader, Record, make_capture};
 use pcapng_input::{Found, read_up_to};
-use row_files::Parts;
+use row_files::TextParts;
 
 /// Number, nanoseconds, original length and bytes.
 fn show_record(page: &mut Page, record: &Record) {
@@ -99,7 +99,7 @@ fn show_last(page: &mut Page, bytes: &[u8], length: usize) {
 
 /// `made SEED COUNT LENGTH`: the last LENGTH bytes of the capture that is made of the seed and COUNT packets.
 fn made(page: &mut Page, seed: u32, rest: &str) {
-    let mut rest = Parts::of(rest, ' ');
+    let mut rest = TextParts::of(rest, ' ');
     let (count, length) = (rest.number(), rest.number());
     match make_capture(page.alloc, seed, count) {
         Ok(bytes) => show_last(page, &bytes, length as usize),
@@ -109,7 +109,7 @@ fn made(page: &mut Page, seed: u32, rest: &str) {
 
 /// The calls of captures.
 pub(crate) fn call(page: &mut Page, row: &Row, call: &str, given: &str) -> bool {
-    let mut given = Parts::of(given, ' ');
+    let mut given = TextParts::of(given, ' ');
     let number = given.number();
     let rest = given.left();
     match call {

@@ -1,7 +1,7 @@
 //! The words of a command: the call of command_words.
 
 use crate::page::Page;
-use command_words::{Command, Form, Words, WordsFault, read_words};
+use command_words::{AlertForm, Command, Words, WordsFault, read_words};
 
 /// The letter of a flag that is there.
 fn mark(is_there: bool, letter: &'static str) -> &'static str {
@@ -32,7 +32,7 @@ fn show_flags(page: &mut Page, words: &Words) {
     page.put(mark(words.test, "T"));
     page.put(mark(words.skip_refused, "r"));
     page.put(mark(words.stats, "s"));
-    page.put(mark(words.form == Form::Unified2, "u"));
+    page.put(mark(words.form == AlertForm::Unified2, "u"));
 }
 
 /// Shows what a run is given.

@@ -8,12 +8,12 @@ use std::sync::atomic::{AtomicU64, Ordering};
 
 /// A pattern whose searches are counted.
 #[derive(Drop)]
-pub(crate) struct Counted<'a> {
+pub(crate) struct CountedPattern<'a> {
     literal: Literal,
     searches: &'a AtomicU64,
 }
 
-impl<'a> Pattern for Counted<'a> {
+impl<'a> Pattern for CountedPattern<'a> {
     ghost use Rattle.edge_io.specs.Matching.{literal_span};
 
     ghost finds = { λ counted bytes. literal_span counted.literal.nocase counted.literal.text bytes };
@@ -42,7 +42,7 @@ impl<'a> CountingMaker<'a> {
 }
 
 impl<'a> PatternMaker for CountingMaker<'a> {
-    type Made = Counted<'a>;
+    type Made = CountedPattern<'a>;
 
     ghost use Rattle.edge_io.specs.Matching.{literal_span};
 
@@ -55,9 +55,9 @@ impl<'a> PatternMaker for CountingMaker<'a> {
         alloc: Global,
         text: &str,
         flags: PatternFlags,
-    ) -> Result<Counted<'a>, MakeFault> {
+    ) -> Result<CountedPattern<'a>, MakeFault> {
         let literal = self.maker.make(alloc, text, flags)?;
-        Ok(Counted {
+        Ok(CountedPattern {
             literal,
             searches: self.searches,
         })

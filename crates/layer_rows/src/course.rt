@@ -14,7 +14,7 @@ use std::alloc::Global;
 
 /// By what jobs are answered.
 #[derive(Clone, Copy)]
-pub(crate) struct Course<'a> {
+pub(crate) struct JobRules<'a> {
     pub stream: &'a StreamConfig,
     pub set: &'a RuleSet<Literal>,
     pub groups: &'a Groups,

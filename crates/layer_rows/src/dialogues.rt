@@ -6,7 +6,7 @@ ghost use Rattle.fast_pattern.specs.Grouping.{AreFor};
 ghost use Rattle.rule_types.specs.Sound.{IsTriable};
 ghost use Rattle.layer_rows.specs.Dialogue.{IsDialogue, IsTurnHead, IsTurnJob, tcp_head};
 
-use crate::course::{Course, show_items, stream_of};
+use crate::course::{JobRules, show_items, stream_of};
 use crate::flags::flags_of;
 use crate::page::Page;
 use edge_io::{Addr, Literal, Moment, NoMemory, Preference};
@@ -14,7 +14,7 @@ use fast_pattern::Groups;
 use flow_lanes::{Job, Lane, Payload, Toward, Work};
 use option_eval::RuleSet;
 use packet_decode::{Body, IpHead, ItemHead, ItemKind, SessionFacts, TcpHead};
-use row_files::Parts;
+use row_files::TextParts;
 
 /// How a dialogue goes on.
 #[derive(Clone, Copy)]
@@ -39,7 +39,7 @@ fn preference_of(word: &str) -> Preference {
 
 /// What `FLUSH INSERTS PREFERENCE NEEDED` says.
 fn manner_of(text: &str) -> Option<Manner> {
-    let mut words = Parts::of(text, ' ');
+    let mut words = TextParts::of(text, ' ');
     let manner = Manner {
         flush: words.number(),
         inserts: words.word() == "inserts",
@@ -117,7 +117,7 @@ fn turn(head: ItemHead, payload: Payload<'_>, manner: Manner) -> Job<'_>
 
 /// What `SENDER:FLAGS:SEQ:ACK:DATA` says: whether the client sends it, its numbers and its data.
 fn spoken(step: &str) -> Option<(bool, Numbers, &str)> {
-    let mut parts = Parts::of(step, ':');
+    let mut parts = TextParts::of(step, ':');
     let is_of_client = parts.word() == "C";
     let numbers = Numbers {
         flags: flags_of(parts.word()),
@@ -157,7 +157,7 @@ fn run_job(
     manner: Manner,
     done: u64,
     job: &Job,
-    course: Course<'_>,
+    course: JobRules<'_>,
 ) -> bool
     requires dialogue { IsDialogue manner.preference lane.old done }
     requires turn { IsTurnJob manner.preference job.now }
@@ -183,7 +183,7 @@ fn run_step(
     manner: Manner,
     done: u64,
     step: &str,
-    course: Course<'_>,
+    course: JobRules<'_>,
 ) -> bool
     requires dialogue { IsDialogue manner.preference lane.old done }
     requires room { done < 2 ^ 32 }
@@ -199,7 +199,7 @@ fn run_step(
 }
 
 /// Runs the steps, at most a thousand.
-fn run_steps(page: &mut Page, lane: &mut Lane, manner: Manner, steps: &str, course: Course<'_>)
+fn run_steps(page: &mut Page, lane: &mut Lane, manner: Manner, steps: &str, course: JobRules<'_>)
     requires dialogue { IsDialogue manner.preference lane.old 0 }
     requires config { IsStreamConfig course.stream.now }
     requires groups { AreFor course.groups.now course.set.now.rules }
@@ -215,7 +215,7 @@ fn run_steps(page: &mut Page, lane: &mut Lane, manner: Manner, steps: &str, cour
 }
 
 /// Shows the items of the steps, in a new lane.
-fn run_in_lane(page: &mut Page, manner: Manner, steps: &str, course: Course<'_>)
+fn run_in_lane(page: &mut Page, manner: Manner, steps: &str, course: JobRules<'_>)
     requires flush { 1 ≤ manner.flush }
     requires flush_most { manner.flush ≤ 65536 }
     requires config { IsStreamConfig course.stream.now }
@@ -240,7 +240,7 @@ fn run_grouped(
     requires triable { All IsTriable set.now.rules }
 {
     let stream = stream_of(page.alloc, true);
-    let course = Course {
+    let course = JobRules {
         stream: &stream,
         set,
         groups,

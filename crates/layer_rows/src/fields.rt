@@ -5,7 +5,7 @@ use crate::page::Page;
 use crate::row::Row;
 use header_eval::field_matches;
 use packet_decode::ItemHead;
-use row_files::{Parts, named};
+use row_files::{TextParts, named};
 use rule_parser::{Cmp, Field, Opt};
 
 const FIELDS: [(&str, Field); 13] = [
@@ -36,7 +36,7 @@ const COMPARISONS: [(&str, Cmp); 8] = [
 ];
 
 /// What `FIELD COMPARISON LOW HIGH` says.
-fn compared(text: &mut Parts<'_>) -> Option<Opt> {
+fn compared(text: &mut TextParts<'_>) -> Option<Opt> {
     let field = named(&FIELDS, text.word())?;
     let cmp = named(&COMPARISONS, text.word())?;
     let (low, high) = (text.number(), text.number());
@@ -53,7 +53,7 @@ fn compared(text: &mut Parts<'_>) -> Option<Opt> {
 
 /// `field LENGTH FIELD COMPARISON LOW HIGH`: whether the item with LENGTH bytes of payload has it.
 fn field(page: &mut Page, item: &ItemHead, text: &str) {
-    let mut text = Parts::of(text, ' ');
+    let mut text = TextParts::of(text, ' ');
     let length = text.number();
     match compared(&mut text) {
         Some(opt) => page.show(field_matches(&opt, item, length as usize)),

@@ -6,11 +6,11 @@ use crate::addresses::address;
 use crate::page::Page;
 use crate::row::Row;
 use edge_io::NoMemory;
-use row_files::Parts;
+use row_files::TextParts;
 use stream5_sessions::{End, Flows, Key, Touch};
 
 /// What `ADDRESS PORT` says.
-fn end_of(parts: &mut Parts<'_>) -> End {
+fn end_of(parts: &mut TextParts<'_>) -> End {
     End {
         addr: address(parts),
         port: parts.short(),
@@ -19,7 +19,7 @@ fn end_of(parts: &mut Parts<'_>) -> End {
 
 /// What `PROTOCOL ADDRESS PORT ADDRESS PORT` says: whether it is TCP, and the two ends.
 fn ends_of(text: &str) -> Option<(bool, End, End)> {
-    let mut parts = Parts::of(text, ' ');
+    let mut parts = TextParts::of(text, ' ');
     let is_tcp = parts.word() == "tcp";
     let (a, b) = (end_of(&mut parts), end_of(&mut parts));
     if parts.is_read() {
@@ -110,7 +110,7 @@ fn run_steps(page: &mut Page, flows: &mut Flows, steps: &str)
 
 /// `flows TCP UDP`: of each step what it finds, where at most this many flows of each protocol may live.
 pub(crate) fn flows(page: &mut Page, row: &Row, given: &str) {
-    let mut given = Parts::of(given, ' ');
+    let mut given = TextParts::of(given, ' ');
     let (tcp, udp) = (given.number(), given.number());
     if tcp == 0 || udp == 0 {
         return page.put("not a limit");

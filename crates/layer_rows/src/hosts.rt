@@ -4,7 +4,7 @@ use crate::addresses::address;
 use crate::page::Page;
 use crate::row::Row;
 use host_table::{HostFault, Hosts, LONGEST_TABLE, read_hosts};
-use row_files::Parts;
+use row_files::TextParts;
 
 /// The hosts of a row's table, or why it is refused; without a table there are none.
 fn hosts_of(page: &Page, row: &Row) -> Result<Hosts, HostFault> {
@@ -25,7 +25,7 @@ pub(crate) fn hosts(page: &mut Page, row: &Row) {
 
 /// `policies ADDRESS`: those for fragments and for streams.
 pub(crate) fn policies(page: &mut Page, row: &Row, text: &str) {
-    let address = address(&mut Parts::of(text, ' '));
+    let address = address(&mut TextParts::of(text, ' '));
     match hosts_of(page, row) {
         Ok(hosts) => {
             page.debug(&hosts.frag_policy(address));

@@ -3,7 +3,7 @@
 use crate::addresses::address;
 use edge_io::{Addr, Moment};
 use packet_decode::{Body, IpHead, ItemHead, ItemKind, SessionFacts, TcpHead};
-use row_files::{Parts, cut};
+use row_files::{TextParts, cut};
 
 /// A packet from 10.0.0.1 to 10.0.0.2, of which nothing more is said.
 fn plain() -> ItemHead {
@@ -33,7 +33,7 @@ pub(crate) fn item_of(words: &str) -> Option<ItemHead> {
 /// Sets what `KEY=VALUE` says; false where that is nothing.
 fn set(item: &mut ItemHead, word: &str) -> bool {
     let (key, value) = cut(word, '=');
-    let mut value = Parts::of(value, ',');
+    let mut value = TextParts::of(value, ',');
     let is_known = set_head(item, key, &mut value)
         || set_address(&mut item.ip, key, &mut value)
         || set_number(&mut item.ip, key, &mut value)
@@ -43,7 +43,7 @@ fn set(item: &mut ItemHead, word: &str) -> bool {
 }
 
 /// Kind, moment and body.
-fn set_head(item: &mut ItemHead, key: &str, value: &mut Parts<'_>) -> bool {
+fn set_head(item: &mut ItemHead, key: &str, value: &mut TextParts<'_>) -> bool {
     match key {
         "kind" => item.kind = kind_of(value),
         "nanos" => item.moment.nanos = value.long(),
@@ -57,7 +57,7 @@ fn set_head(item: &mut ItemHead, key: &str, value: &mut Parts<'_>) -> bool {
     true
 }
 
-fn kind_of(value: &mut Parts<'_>) -> ItemKind {
+fn kind_of(value: &mut TextParts<'_>) -> ItemKind {
     match value.word() {
         "packet" => ItemKind::Packet,
         "rebuilt" => ItemKind::Rebuilt,
@@ -71,7 +71,7 @@ fn kind_of(value: &mut Parts<'_>) -> ItemKind {
 }
 
 /// A fragment, or no protocol with numbers.
-fn bare_body(value: &mut Parts<'_>) -> Body {
+fn bare_body(value: &mut TextParts<'_>) -> Body {
     if value.word() == "fragment" {
         Body::Fragment
     } else {
@@ -80,7 +80,7 @@ fn bare_body(value: &mut Parts<'_>) -> Body {
 }
 
 /// Both ports of TCP, flags, sequence number, acknowledgement and window.
-fn tcp_of(value: &mut Parts<'_>) -> Body {
+fn tcp_of(value: &mut TextParts<'_>) -> Body {
     Body::Tcp(TcpHead {
         sport: value.short(),
         dport: value.short(),
@@ -92,7 +92,7 @@ fn tcp_of(value: &mut Parts<'_>) -> Body {
 }
 
 /// Both ports of UDP.
-fn udp_of(value: &mut Parts<'_>) -> Body {
+fn udp_of(value: &mut TextParts<'_>) -> Body {
     Body::Udp {
         sport: value.short(),
         dport: value.short(),
@@ -100,7 +100,7 @@ fn udp_of(value: &mut Parts<'_>) -> Body {
 }
 
 /// Both ports of a stream.
-fn stream_of(value: &mut Parts<'_>) -> Body {
+fn stream_of(value: &mut TextParts<'_>) -> Body {
     Body::Stream {
         sport: value.short(),
         dport: value.short(),
@@ -108,7 +108,7 @@ fn stream_of(value: &mut Parts<'_>) -> Body {
 }
 
 /// Type, code, identification and sequence number.
-fn icmp_of(value: &mut Parts<'_>) -> Body {
+fn icmp_of(value: &mut TextParts<'_>) -> Body {
     Body::Icmp {
         kind: value.byte(),
         code: value.byte(),
@@ -117,7 +117,7 @@ fn icmp_of(value: &mut Parts<'_>) -> Body {
     }
 }
 
-fn set_address(ip: &mut IpHead, key: &str, value: &mut Parts<'_>) -> bool {
+fn set_address(ip: &mut IpHead, key: &str, value: &mut TextParts<'_>) -> bool {
     match key {
         "src" => ip.src = address(value),
         "dst" => ip.dst = address(value),
@@ -126,7 +126,7 @@ fn set_address(ip: &mut IpHead, key: &str, value: &mut Parts<'_>) -> bool {
     true
 }
 
-fn set_number(ip: &mut IpHead, key: &str, value: &mut Parts<'_>) -> bool {
+fn set_number(ip: &mut IpHead, key: &str, value: &mut TextParts<'_>) -> bool {
     match key {
         "protocol" => ip.protocol = value.byte(),
         "ttl" => ip.ttl = value.byte(),
@@ -139,7 +139,7 @@ fn set_number(ip: &mut IpHead, key: &str, value: &mut Parts<'_>) -> bool {
 }
 
 /// The bits of the header that are set.
-fn set_flag(ip: &mut IpHead, key: &str, value: &mut Parts<'_>) -> bool {
+fn set_flag(ip: &mut IpHead, key: &str, value: &mut TextParts<'_>) -> bool {
     match key {
         "reserved" => ip.reserved = truth(value),
         "dont" => ip.dont = truth(value),
@@ -149,7 +149,7 @@ fn set_flag(ip: &mut IpHead, key: &str, value: &mut Parts<'_>) -> bool {
     true
 }
 
-fn truth(value: &mut Parts<'_>) -> bool {
+fn truth(value: &mut TextParts<'_>) -> bool {
     let word = value.word();
     if word != "yes" && word != "no" {
         value.refuse();
@@ -158,7 +158,7 @@ fn truth(value: &mut Parts<'_>) -> bool {
 }
 
 /// What is known of the session; of sizes those of the client and of the server.
-fn set_session(session: &mut SessionFacts, key: &str, value: &mut Parts<'_>) -> bool {
+fn set_session(session: &mut SessionFacts, key: &str, value: &mut TextParts<'_>) -> bool {
     match key {
         "tracked" => session.tracked = truth(value),
         "established" => session.established = truth(value),

@@ -4,11 +4,11 @@ use crate::addresses::address;
 use crate::page::Page;
 use edge_io::Addr;
 use net_lists::{AddrList, Network, PortList, Vars, first_word, is_name, signed_in};
-use row_files::{Parts, cut};
+use row_files::{TextParts, cut};
 
 /// `port PORT LIST`: whether the list has the port, or why it is no list.
 fn port(page: &mut Page, given: &str) {
-    let mut given = Parts::of(given, ' ');
+    let mut given = TextParts::of(given, ' ');
     let port = given.short();
     match PortList::read(page.alloc, given.left().as_bytes()) {
         Ok(list) => page.show(list.contains(port)),
@@ -18,7 +18,7 @@ fn port(page: &mut Page, given: &str) {
 
 /// `from-21-and-80 PORT`: whether a list that is made of these two has the port.
 fn made_of_ports(page: &mut Page, given: &str) {
-    let port = Parts::of(given, ' ').short();
+    let port = TextParts::of(given, ' ').short();
     match PortList::from_ports(page.alloc, &[21, 80]) {
         Ok(list) => page.show(list.contains(port)),
         Err(fault) => page.debug(&fault),
@@ -27,7 +27,7 @@ fn made_of_ports(page: &mut Page, given: &str) {
 
 /// `address ADDRESS LIST`: whether the list has the address, or why it is no list.
 fn listed_address(page: &mut Page, given: &str) {
-    let mut given = Parts::of(given, ' ');
+    let mut given = TextParts::of(given, ' ');
     let address = address(&mut given);
     match AddrList::read(page.alloc, given.left().as_bytes()) {
         Ok(list) => page.show(list.contains(address)),

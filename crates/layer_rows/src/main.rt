@@ -41,7 +41,7 @@ mod trial;
 
 use crate::runs::run_rows;
 use crate::trial::try_rows;
-use row_files::{Count, Words, words_of};
+use row_files::{PassCount, RowWords, words_of};
 use std::process::ExitCode;
 use std::rt::Files;
 use std::thread::Threads;
@@ -52,12 +52,12 @@ const RUNS: &str = "--runs";
 
 /// How many calls and how many whole runs gave what they must.
 #[derive(Clone, Copy)]
-struct Counts {
-    calls: Count,
-    runs: Count,
+struct PassCounts {
+    calls: PassCount,
+    runs: PassCount,
 }
 
-impl Counts {
+impl PassCounts {
     /// The status of the program: 1 where a call or a run differed, else 0.
     fn status(&self) -> ExitCode {
         if self.calls.differed > 0 {
@@ -74,7 +74,7 @@ fn try_file<R: Files + AllocGlobal + Print + Threads + Sync>(
     name: &str,
     only: &str,
     are_runs: bool,
-    counts: &mut Counts,
+    counts: &mut PassCounts,
 ) -> io::Result<()> {
     let text = fs::read_to_string(rt, name)?;
     if are_runs {
@@ -87,8 +87,8 @@ fn try_file<R: Files + AllocGlobal + Print + Threads + Sync>(
 /// Tries the rows of all files.
 fn try_files<R: Files + AllocGlobal + Print + Threads + Sync>(
     rt: &R,
-    words: &Words,
-    counts: &mut Counts,
+    words: &RowWords,
+    counts: &mut PassCounts,
 ) -> io::Result<()> {
     let mut are_runs = false;
     for name in &words.files {
@@ -102,8 +102,8 @@ fn try_files<R: Files + AllocGlobal + Print + Threads + Sync>(
 }
 
 /// Says how many calls and runs gave what they must.
-fn tell<R: Print>(rt: &R, counts: &Counts) -> io::Result<()> {
-    let Counts { calls, runs } = counts;
+fn tell<R: Print>(rt: &R, counts: &PassCounts) -> io::Result<()> {
+    let PassCounts { calls, runs } = counts;
     println!(rt;
         "{} calls passed, {} differed",
         calls.passed, calls.differed
@@ -114,9 +114,9 @@ fn tell<R: Print>(rt: &R, counts: &Counts) -> io::Result<()> {
 fn main(rt: HostRuntime) -> io::Result<ExitCode> {
     crossing::types_cross_threads();
     let words = words_of(&rt)?;
-    let mut counts = Counts {
-        calls: Count::new(),
-        runs: Count::new(),
+    let mut counts = PassCounts {
+        calls: PassCount::new(),
+        runs: PassCount::new(),
     };
     try_files(&rt, &words, &mut counts)?;
     tell(&rt, &counts)?;

@@ -6,7 +6,7 @@ ghost use Rattle.rule_types.specs.Sound.{IsTriable};
 use crate::counted::CountingMaker;
 use crate::page::Page;
 use crate::row::Row;
-use crate::rules::{ANY, Given};
+use crate::rules::{ANY, RuleContext};
 use edge_io::{LiteralMaker, NoMemory, Pattern, PatternMaker};
 use option_eval::{RuleSet, Steps, payload_matches};
 use row_files::cut;
@@ -74,7 +74,7 @@ fn push<M: PatternMaker>(page: &mut Page, set: &mut RuleSet<M::Made>, maker: &mu
 /// Adds the rule of a line to a set; why that fails.
 fn push_line<M: PatternMaker>(
     page: &mut Page,
-    given: &mut Given,
+    given: &mut RuleContext,
     set: &mut RuleSet<M::Made>,
     maker: &mut M,
     line: &str,
@@ -88,7 +88,7 @@ fn push_line<M: PatternMaker>(
 /// Whether the payload matches the rule of a line, after what a configuration gives.
 fn try_payload<M: PatternMaker>(
     page: &mut Page,
-    given: &mut Given,
+    given: &mut RuleContext,
     maker: &mut M,
     line: &str,
     payload: &[u8],
@@ -99,7 +99,7 @@ fn try_payload<M: PatternMaker>(
 }
 
 /// `payload OPTIONS~PAYLOAD`: whether it matches them.
-fn payload<M: PatternMaker>(page: &mut Page, given: &mut Given, maker: &mut M, text: &str) {
+fn payload<M: PatternMaker>(page: &mut Page, given: &mut RuleContext, maker: &mut M, text: &str) {
     let (options, written) = cut(text, '~');
     let line = page.rule_line(ANY, options, " sid:1;");
     let payload = bytes_of(page, written);
@@ -107,7 +107,7 @@ fn payload<M: PatternMaker>(page: &mut Page, given: &mut Given, maker: &mut M, t
 }
 
 /// `searches OPTIONS~PAYLOAD`: whether it matches them, and how often their patterns were searched.
-fn searches(page: &mut Page, given: &mut Given, text: &str) {
+fn searches(page: &mut Page, given: &mut RuleContext, text: &str) {
     let searches = AtomicU64::new(0);
     let mut maker = CountingMaker::new(page.alloc, &searches);
     payload(page, given, &mut maker, text);
@@ -115,7 +115,7 @@ fn searches(page: &mut Page, given: &mut Given, text: &str) {
 }
 
 /// `rule-set`: how many rules a set has after each step's rule was added, after why one was not.
-fn rule_set(page: &mut Page, row: &Row, given: &mut Given, maker: &mut LiteralMaker) {
+fn rule_set(page: &mut Page, row: &Row, given: &mut RuleContext, maker: &mut LiteralMaker) {
     let mut set = RuleSet::new(page.alloc);
     for line in row.steps.as_str().lines() {
         push_line(page, given, &mut set, maker, line);
@@ -125,7 +125,7 @@ fn rule_set(page: &mut Page, row: &Row, given: &mut Given, maker: &mut LiteralMa
 }
 
 /// A call with the row's maker of patterns.
-fn call_with_maker(page: &mut Page, row: &Row, given: &mut Given, call: &str, text: &str) {
+fn call_with_maker(page: &mut Page, row: &Row, given: &mut RuleContext, call: &str, text: &str) {
     let mut maker = row.maker(page);
     match call {
         "payload" => payload(page, given, &mut maker, text),
@@ -134,7 +134,13 @@ fn call_with_maker(page: &mut Page, row: &Row, given: &mut Given, call: &str, te
 }
 
 /// The calls of payloads.
-pub(crate) fn call(page: &mut Page, row: &Row, given: &mut Given, call: &str, text: &str) -> bool {
+pub(crate) fn call(
+    page: &mut Page,
+    row: &Row,
+    given: &mut RuleContext,
+    call: &str,
+    text: &str,
+) -> bool {
     match call {
         "payload" | "rule-set" => call_with_maker(page, row, given, call, text),
         "searches" => searches(page, given, text),

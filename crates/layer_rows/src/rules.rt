@@ -19,16 +19,16 @@ pub(crate) const ANY: &str = "ip any any -> any any";
 
 /// What a configuration gives to the rules that are read after it.
 #[derive(Drop)]
-pub(crate) struct Given {
+pub(crate) struct RuleContext {
     pub loaded: Loaded,
     vars: Vars,
     bits: BitNames,
 }
 
-impl Given {
+impl RuleContext {
     /// What the configuration of a row gives; where it is refused the page says so.
-    pub fn of(page: &mut Page, row: &Row) -> Given {
-        let mut given = Given {
+    pub fn of(page: &mut Page, row: &Row) -> RuleContext {
+        let mut given = RuleContext {
             loaded: Loaded::new(page.alloc),
             vars: Vars::new(page.alloc),
             bits: BitNames::new(page.alloc),
@@ -103,7 +103,7 @@ fn show_fault(page: &mut Page, fault: &RuleFault, call: &str) {
 }
 
 /// A call on the rule of a line, after what a configuration gives.
-fn ask_of(page: &mut Page, row: &Row, given: &mut Given, call: &str, line: &str) {
+fn ask_of(page: &mut Page, row: &Row, given: &mut RuleContext, call: &str, line: &str) {
     match given.read(page, line) {
         Ok(rule) => show_rule(page, row, &rule, &given.loaded.config.classes, call),
         Err(fault) => show_fault(page, &fault, call),
@@ -114,7 +114,7 @@ fn ask_of(page: &mut Page, row: &Row, given: &mut Given, call: &str, line: &str)
 fn ask_with(
     page: &mut Page,
     row: &Row,
-    given: &mut Given,
+    given: &mut RuleContext,
     call: &str,
     header: &str,
     options: &str,
@@ -125,7 +125,7 @@ fn ask_with(
 }
 
 /// A call on a rule: a whole line, a header, or options, with a `sid` after them but for `alert`.
-fn ask(page: &mut Page, row: &Row, given: &mut Given, call: &str, text: &str) {
+fn ask(page: &mut Page, row: &Row, given: &mut RuleContext, call: &str, text: &str) {
     match call {
         "rule" | "head" => ask_of(page, row, given, call, text),
         "header" => ask_with(page, row, given, call, text, "", " sid:1;"),
@@ -145,7 +145,7 @@ pub(crate) fn call(page: &mut Page, row: &Row, call: &str, text: &str) -> bool {
     if !CALLS.contains(&call) {
         return false;
     }
-    let mut given = Given::of(page, row);
+    let mut given = RuleContext::of(page, row);
     if !payloads::call(page, row, &mut given, call, text) {
         ask(page, row, &mut given, call, text);
     }

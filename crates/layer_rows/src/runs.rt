@@ -12,7 +12,7 @@ use crate::page::Page;
 use crate::runs::notation::apply;
 use crate::runs::outcome::note_differences;
 use crate::runs::row::RunRow;
-use row_files::Count;
+use row_files::PassCount;
 use std::alloc::Global;
 use std::io;
 use std::thread::Threads;
@@ -29,7 +29,7 @@ fn close_row<R: Print + Threads + Sync>(
     page: &mut Page,
     row: &RunRow,
     only: &str,
-    count: &mut Count,
+    count: &mut PassCount,
 ) -> io::Result<()> {
     if !is_asked(row, only) {
         return Ok(());
@@ -50,7 +50,7 @@ fn take_line<R: Print + Threads + Sync>(
     row: &mut RunRow,
     line: &str,
     only: &str,
-    count: &mut Count,
+    count: &mut PassCount,
 ) -> io::Result<()> {
     if let Some(label) = line.strip_prefix("row ") {
         close_row(rt, page, row, only, count)?;
@@ -71,7 +71,7 @@ pub(crate) fn run_rows<R: Print + Threads + Sync>(
     alloc: Global,
     text: &str,
     only: &str,
-    count: &mut Count,
+    count: &mut PassCount,
 ) -> io::Result<()> {
     let mut page = Page::new(alloc);
     let mut row = RunRow::new(alloc);

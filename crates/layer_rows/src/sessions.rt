@@ -8,7 +8,7 @@ use crate::page::Page;
 use crate::row::Row;
 use edge_io::{Addr, Moment};
 use packet_decode::{Body, IpHead, TcpHead};
-use row_files::{Parts, cut};
+use row_files::{TextParts, cut};
 use stream5_sessions::{End, Session, SessionRules, Step};
 
 const CLIENT: End = End {
@@ -34,7 +34,7 @@ struct Sent {
 }
 
 /// The ends of a packet that the client sends, or the server, or the client to itself.
-fn ends_of(parts: &mut Parts<'_>) -> (End, End) {
+fn ends_of(parts: &mut TextParts<'_>) -> (End, End) {
     match parts.word() {
         "C" => (CLIENT, SERVER),
         "S" => (SERVER, CLIENT),
@@ -48,7 +48,7 @@ fn ends_of(parts: &mut Parts<'_>) -> (End, End) {
 
 /// What `SENDER:FLAGS:SEQ:ACK:LENGTH:SECOND` says.
 fn sent_of(step: &str) -> Option<Sent> {
-    let mut parts = Parts::of(step, ':');
+    let mut parts = TextParts::of(step, ':');
     let (from, to) = ends_of(&mut parts);
     let sent = Sent {
         from,

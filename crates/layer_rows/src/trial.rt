@@ -4,7 +4,7 @@ use crate::calls::answer;
 use crate::notation::{apply, written};
 use crate::page::Page;
 use crate::row::Row;
-use row_files::{Count, RowLine, cut};
+use row_files::{PassCount, RowLine, cut};
 use std::alloc::Global;
 use std::io;
 use std::thread::Threads;
@@ -51,7 +51,7 @@ fn try_call<R: Print + Threads + Sync>(
     page: &mut Page,
     row: &Row,
     line: &str,
-    count: &mut Count,
+    count: &mut PassCount,
 ) -> io::Result<()> {
     if gives(rt, page, row, call_of(line, row.wanted.as_str())) {
         count.pass();
@@ -67,7 +67,7 @@ fn try_calls<R: Print + Threads + Sync>(
     page: &mut Page,
     row: &Row,
     line: RowLine<'_>,
-    count: &mut Count,
+    count: &mut PassCount,
 ) -> io::Result<()> {
     for turn in 0..line.times {
         let line = page.line_at(line, turn);
@@ -84,7 +84,7 @@ fn try_line<R: Print + Threads + Sync>(
     row: &mut Row,
     line: &str,
     only: &str,
-    count: &mut Count,
+    count: &mut PassCount,
 ) -> io::Result<()> {
     let line_read = RowLine::read(line);
     if apply(page, row, line_read) {
@@ -103,7 +103,7 @@ pub(crate) fn try_rows<R: Print + Threads + Sync>(
     alloc: Global,
     text: &str,
     only: &str,
-    count: &mut Count,
+    count: &mut PassCount,
 ) -> io::Result<()> {
     let mut page = Page::new(alloc);
     let mut row = Row::new(alloc);

@@ -5,7 +5,7 @@ ghost use Rattle.stream5_reassembly.specs.Segments.{passed};
 use crate::overlaps::{preference_of, push_runs};
 use edge_io::NoMemory;
 use overlap_core::Run;
-use row_files::{Parts, cut};
+use row_files::{TextParts, cut};
 use std::alloc::Global;
 use std::process::Abort;
 use std::test::Fail;
@@ -42,7 +42,7 @@ const ROWS: &str = "\
 
 /// What a row has beside its direction: the text of an answer, and the runs that a call gives.
 #[derive(Drop)]
-struct Given {
+struct RowAnswer {
     text: String,
     runs: Vec<Run>,
 }
@@ -66,7 +66,11 @@ fn start(direction: &mut Direction, seq: u32) -> Result<(), NoMemory>
 }
 
 /// Adds a segment, `SEQ BYTES`: what becomes of it.
-fn add(direction: &mut Direction, parts: &mut Parts<'_>, text: &mut String) -> Result<(), NoMemory>
+fn add(
+    direction: &mut Direction,
+    parts: &mut TextParts<'_>,
+    text: &mut String,
+) -> Result<(), NoMemory>
     requires { passed direction.old ≤ 2 ^ 62 }
     ensures { passed direction.new ≤ passed direction.old }
 {
@@ -86,7 +90,7 @@ fn ack(
     alloc: Global,
     direction: &mut Direction,
     acked: u32,
-    given: &mut Given,
+    given: &mut RowAnswer,
 ) -> Result<(), NoMemory>
     requires { passed direction.old ≤ 2 ^ 62 }
     ensures { passed direction.new ≤ passed direction.old + 2 ^ 30 }
@@ -101,8 +105,8 @@ fn answer(
     alloc: Global,
     direction: &mut Direction,
     name: &str,
-    parts: &mut Parts<'_>,
-    given: &mut Given,
+    parts: &mut TextParts<'_>,
+    given: &mut RowAnswer,
 ) -> Result<(), NoMemory>
     requires { passed direction.old ≤ 2 ^ 62 }
     ensures { passed direction.new ≤ passed direction.old + 2 ^ 30 }
@@ -126,14 +130,14 @@ fn check_call(
     alloc: Global,
     direction: &mut Direction,
     step: &str,
-    given: &mut Given,
+    given: &mut RowAnswer,
 ) -> Result<(), NoMemory>
     requires { passed direction.old ≤ 2 ^ 62 }
     ensures { passed direction.new ≤ passed direction.old + 2 ^ 30 }
 {
     let (call, want) = cut(step, '=');
     let (name, parts) = cut(call, ' ');
-    let mut parts = Parts::of(parts, ' ');
+    let mut parts = TextParts::of(parts, ' ');
     given.text.clear();
     given.runs.clear();
     answer(alloc, direction, name, &mut parts, given)?;
@@ -151,7 +155,7 @@ fn check_calls(
     alloc: Global,
     direction: &mut Direction,
     calls: &str,
-    given: &mut Given,
+    given: &mut RowAnswer,
 ) -> Result<(), NoMemory>
     requires { passed direction.old ≤ 0 }
 {
@@ -177,7 +181,7 @@ fn check_with(
     requires segs { 2 ≤ limits.segs }
     requires flush { 1 ≤ limits.flush }
 {
-    let mut given = Given {
+    let mut given = RowAnswer {
         text: String::new(alloc),
         runs: Vec::new(alloc),
     };
@@ -188,7 +192,7 @@ fn check_with(
 /// Makes the calls of a row with each of its preferences.
 fn check_row(rt: &impl Abort, alloc: Global, row: &str) -> Result<(), NoMemory> {
     let (head, calls) = row.split_once(": ").unwrap_or((row, ""));
-    let mut head = Parts::of(head, ' ');
+    let mut head = TextParts::of(head, ' ');
     let limits = Limits {
         bytes: head.number(),
         segs: head.number(),
@@ -226,9 +230,9 @@ fn check_extent(rt: &impl Abort, row: &str) {
     let (begin, numbers) = cut(row, ' ');
     let mut extent = Extent::new();
     if begin != "-" {
-        extent.start(Parts::of(begin, ' ').number());
+        extent.start(TextParts::of(begin, ' ').number());
     }
-    let mut numbers = Parts::of(numbers, ' ');
+    let mut numbers = TextParts::of(numbers, ' ');
     let (seq, len) = (numbers.number(), numbers.number());
     assert!(rt; 1 <= len && len <= 65535 && extent.size() == 0);
     extent.note(seq, len);

@@ -7,15 +7,15 @@ use std::process::Abort;
 use std::test::Fail;
 
 /// An element that owns memory, and says when it is dropped.
-struct Counted<'a> {
+struct DropCounter<'a> {
     drops: &'a Cell<u32>,
     bytes: Vec<u8>,
 }
 
-impl Drop for Counted<'_> {
+impl Drop for DropCounter<'_> {
     fn drop(self) {
         self.drops.set(self.drops.get().saturating_add(1));
-        let Counted { drops: _, bytes } = self;
+        let DropCounter { drops: _, bytes } = self;
         drop(bytes);
     }
 }
@@ -23,13 +23,13 @@ impl Drop for Counted<'_> {
 /// Adds an element with bytes of its own.
 fn add<'a>(
     alloc: Global,
-    list: &mut PieceList<Counted<'a>>,
+    list: &mut PieceList<DropCounter<'a>>,
     drops: &'a Cell<u32>,
     number: u8,
 ) -> Result<(), Fail> {
     list.reserve(1)?;
     let bytes = vec![in alloc; number; 100]?;
-    list.push_back(Counted { drops, bytes });
+    list.push_back(DropCounter { drops, bytes });
     Ok(())
 }
 
@@ -37,7 +37,7 @@ fn add<'a>(
 fn add_and_remove<'a>(
     rt: &impl Abort,
     alloc: Global,
-    list: &mut PieceList<Counted<'a>>,
+    list: &mut PieceList<DropCounter<'a>>,
     drops: &'a Cell<u32>,
 ) -> Result<(), Fail> {
     for number in 0..3u8 {

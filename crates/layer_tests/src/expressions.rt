@@ -36,29 +36,29 @@ const EXTENDED: PatternFlags = PatternFlags {
 
 /// A text with flags, bytes, and the ends of the match in them.
 #[derive(Clone, Copy)]
-struct Row(
+struct SearchRow(
     &'static str,
     PatternFlags,
     &'static [u8],
     Option<(usize, usize)>,
 );
 
-const ROWS: [Row; 15] = [
-    Row("b+", PLAIN, b"abbabbb", Some((1, 3))),
-    Row("a|ab", PLAIN, b"xab", Some((1, 2))),
-    Row("c", PLAIN, b"ab", None),
-    Row("", PLAIN, b"ab", Some((0, 0))),
-    Row("evil", PLAIN, b"xEvIl", None),
-    Row("evil", NOCASE, b"xEvIl", Some((1, 5))),
-    Row("a.b", PLAIN, b"a\nb", None),
-    Row("a.b", DOT_ALL, b"a\nb", Some((0, 3))),
-    Row("^b$", PLAIN, b"a\nb\nc", None),
-    Row("^b$", MULTI_LINE, b"a\nb\nc", Some((2, 3))),
-    Row("a b", PLAIN, b"ab", None),
-    Row("a b", EXTENDED, b"ab", Some((0, 2))),
-    Row("[^a]", PLAIN, b"a\xe9\xa9", Some((1, 2))),
-    Row(r"\xff.", PLAIN, b"a\xff\xfe", Some((1, 3))),
-    Row("k", NOCASE, b"\xe2\x84\xaa", None),
+const ROWS: [SearchRow; 15] = [
+    SearchRow("b+", PLAIN, b"abbabbb", Some((1, 3))),
+    SearchRow("a|ab", PLAIN, b"xab", Some((1, 2))),
+    SearchRow("c", PLAIN, b"ab", None),
+    SearchRow("", PLAIN, b"ab", Some((0, 0))),
+    SearchRow("evil", PLAIN, b"xEvIl", None),
+    SearchRow("evil", NOCASE, b"xEvIl", Some((1, 5))),
+    SearchRow("a.b", PLAIN, b"a\nb", None),
+    SearchRow("a.b", DOT_ALL, b"a\nb", Some((0, 3))),
+    SearchRow("^b$", PLAIN, b"a\nb\nc", None),
+    SearchRow("^b$", MULTI_LINE, b"a\nb\nc", Some((2, 3))),
+    SearchRow("a b", PLAIN, b"ab", None),
+    SearchRow("a b", EXTENDED, b"ab", Some((0, 2))),
+    SearchRow("[^a]", PLAIN, b"a\xe9\xa9", Some((1, 2))),
+    SearchRow(r"\xff.", PLAIN, b"a\xff\xfe", Some((1, 3))),
+    SearchRow("k", NOCASE, b"\xe2\x84\xaa", None),
 ];
 
 /// Compares what the pattern of a row finds.
@@ -66,7 +66,7 @@ fn check_row(
     rt: &impl Abort,
     alloc: Global,
     maker: &mut RegexMaker,
-    row: &Row,
+    row: &SearchRow,
 ) -> Result<(), Fail> {
     let pattern = maker.make(alloc, row.0, row.1)?;
     assert!(rt; ends_of(&pattern, row.2)? == row.3, "{}", row.0);
@@ -100,17 +100,17 @@ fn texts_that_are_refused(rt: HostRuntime) {
 
 /// Bytes, and the ends of the match in them.
 #[derive(Clone, Copy)]
-struct Turn(&'static [u8], Option<(usize, usize)>);
+struct SearchTurn(&'static [u8], Option<(usize, usize)>);
 
 /// Of the expression `[0-9]+[a-z]+(z9)+|[ab]{2,5}[0-9]`.
-const TURNS: [Turn; 7] = [
-    Turn(b"12az9", Some((0, 5))),
-    Turn(b"12a", None),
-    Turn(b"- 7bz9z9", Some((2, 8))),
-    Turn(b"", None),
-    Turn(b"aaaaaaa", None),
-    Turn(b"xaab3ab4", Some((1, 5))),
-    Turn(b"12az9", Some((0, 5))),
+const TURNS: [SearchTurn; 7] = [
+    SearchTurn(b"12az9", Some((0, 5))),
+    SearchTurn(b"12a", None),
+    SearchTurn(b"- 7bz9z9", Some((2, 8))),
+    SearchTurn(b"", None),
+    SearchTurn(b"aaaaaaa", None),
+    SearchTurn(b"xaab3ab4", Some((1, 5))),
+    SearchTurn(b"12az9", Some((0, 5))),
 ];
 
 /// The ends of what a pattern finds.
@@ -121,7 +121,7 @@ fn ends_of(pattern: &RegexPattern, bytes: &[u8]) -> Result<Option<(usize, usize)
 
 /// Searches one after the other, which hand their working memory on.
 fn check_turns(rt: &impl Abort, pattern: &RegexPattern) -> Result<(), NoMemory> {
-    for Turn(bytes, want) in &TURNS {
+    for SearchTurn(bytes, want) in &TURNS {
         assert!(rt; ends_of(pattern, bytes)? == *want);
     }
     Ok(())

@@ -5,7 +5,7 @@ use crate::overlaps::preference_of;
 use edge_io::{Addr, Moment, NoMemory};
 use frag3_core::{Datagram, Frag3, FragRules, Ignored, Taken};
 use packet_decode::IpHead;
-use row_files::Parts;
+use row_files::TextParts;
 use std::alloc::Global;
 use std::process::Abort;
 use std::test::Fail;
@@ -65,7 +65,7 @@ last 9: 0:more:0:AAAAAAAA:64:first 0:more:0:BBBBBBBB:64 1:last:0::5 1:last:0:CCC
 
 /// A fragment of a row.
 #[derive(Clone, Copy)]
-struct Part<'a> {
+struct RowFragment<'a> {
     ip: IpHead,
     moment: Moment,
     bytes: &'a [u8],
@@ -84,15 +84,15 @@ fn head(ttl: u8, offset: u16, more: bool) -> IpHead {
 }
 
 /// The fragment of a word, by the preference of this name unless it names another.
-fn part_of<'a>(word: &'a str, preference: &str) -> Part<'a> {
-    let mut fields = Parts::of(word, ':');
+fn part_of<'a>(word: &'a str, preference: &str) -> RowFragment<'a> {
+    let mut fields = TextParts::of(word, ':');
     let offset = fields.short();
     let more = fields.word() == "more";
     let second = fields.number();
     let bytes = fields.word().as_bytes();
     let ttl = if fields.is_read() { 64 } else { fields.byte() };
     let other = fields.word();
-    Part {
+    RowFragment {
         ip: head(ttl, offset, more),
         moment: Moment {
             nanos: u64::from(second) * 1_000_000_000,
@@ -122,7 +122,7 @@ fn check_answer(
     rt: &impl Abort,
     alloc: Global,
     frag3: &mut Frag3,
-    part: &Part,
+    part: &RowFragment,
     want: &str,
 ) -> Result<(), NoMemory> {
     let taken = frag3.accept(alloc, &part.ip, part.bytes, part.moment, part.rules)?;
@@ -139,7 +139,7 @@ fn check_parts(
     parts: &str,
     answers: &str,
 ) -> Result<(), NoMemory> {
-    let mut answers = Parts::of(answers, ' ');
+    let mut answers = TextParts::of(answers, ' ');
     for word in parts.split(' ') {
         let part = part_of(word, preference);
         check_answer(rt, alloc, frag3, &part, answers.word())?;
@@ -152,7 +152,7 @@ fn check_parts(
 fn check_row(rt: &impl Abort, alloc: Global, row: &str) -> Result<(), NoMemory> {
     let (head, rest) = row.split_once(": ").unwrap_or((row, ""));
     let (parts, answers) = rest.split_once(": ").unwrap_or((rest, ""));
-    let mut head = Parts::of(head, ' ');
+    let mut head = TextParts::of(head, ' ');
     let (preference, most) = (head.word(), head.number());
     assert!(rt; most > 0 && head.is_read());
     let mut frag3 = Frag3::new(alloc, most);

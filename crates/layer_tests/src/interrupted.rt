@@ -4,7 +4,7 @@ ghost use Rattle.std.specs.Prelude.{◌≤◌, IfOk};
 
 use edge_io::interrupted::{read_as_file, sink_over};
 use edge_io::{Failed, Sink};
-use row_files::{Parts, cut};
+use row_files::{TextParts, cut};
 use std::io;
 use std::io::{ErrorKind, Read, Write};
 
@@ -63,7 +63,7 @@ const UNSTEADY: &str = "0 9 steady: 4 4
 
 /// The stream of these words.
 fn stream_of(words: &str) -> Unsteady {
-    let mut words = Parts::of(words, ' ');
+    let mut words = TextParts::of(words, ' ');
     Unsteady {
         interruptions: words.number(),
         room: words.number() as usize,
@@ -85,7 +85,7 @@ fn taken(words: &str) -> Result<usize, Failed> {
 
 /// Whether an answer is a count, or `failed`.
 fn is_answer(answer: Result<usize, Failed>, want: &str) -> bool {
-    let mut want = Parts::of(want, ' ');
+    let mut want = TextParts::of(want, ' ');
     match answer {
         Ok(count) => want.number() as usize == count && want.is_read(),
         Err(Failed) => want.word() == "failed",

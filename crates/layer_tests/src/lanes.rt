@@ -21,7 +21,7 @@ use std::thread::Threads;
 
 /// By what jobs are answered.
 #[derive(Clone, Copy)]
-struct Course<'a> {
+struct LaneRules<'a> {
     stream: &'a StreamConfig,
     set: &'a RuleSet<Literal>,
     groups: &'a Groups,
@@ -89,7 +89,7 @@ fn first_fault<R: Threads + Sync>(
     alloc: Global,
     lanes: &mut Lanes,
     jobs: &[Job],
-    course: Course<'_>,
+    course: LaneRules<'_>,
 ) -> Option<BatchFault>
     requires course { IsCourse lanes.old 0 }
     requires jobs { AreFrom 0 jobs.now }
@@ -120,7 +120,7 @@ fn next_fault<R: Threads + Sync>(
     alloc: Global,
     lanes: &mut Lanes,
     jobs: &[Job],
-    course: Course<'_>,
+    course: LaneRules<'_>,
 ) -> Option<BatchFault>
     requires failed { HasFailed lanes.old }
     requires config { IsStreamConfig course.stream.now }
@@ -147,7 +147,7 @@ fn refuse_any<R: Abort + Threads + Sync>(
     rt: &R,
     alloc: Global,
     lanes: &mut Lanes,
-    course: Course<'_>,
+    course: LaneRules<'_>,
 )
     requires failed { HasFailed lanes.old }
     requires config { IsStreamConfig course.stream.now }
@@ -168,7 +168,7 @@ fn compare_lanes<R: Abort + Threads + Sync>(
     rt: &R,
     alloc: Global,
     count: u32,
-    course: Course<'_>,
+    course: LaneRules<'_>,
 ) -> Result<(), Fail>
     requires some { 1 ≤ count }
     requires few { count ≤ 64 }
@@ -193,7 +193,7 @@ fn failed_lanes_answer_failed(rt: HostRuntime) -> Result<(), Fail> {
     let stream = stream_of(alloc);
     let set: RuleSet<Literal> = RuleSet::new(alloc);
     let groups = Groups::build(alloc, set.rules())?;
-    let course = Course {
+    let course = LaneRules {
         stream: &stream,
         set: &set,
         groups: &groups,

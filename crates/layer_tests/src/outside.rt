@@ -3,7 +3,7 @@
 ghost use Rattle.std.specs.Prelude.{◌<◌, length};
 
 use edge_io::{FileHost, Gate, Host, LoadFault, OpenGate, Sink, StdSink, write_all};
-use row_files::{Parts, cut};
+use row_files::{TextParts, cut};
 use std::alloc::Global;
 use std::fs;
 use std::process::Abort;
@@ -70,10 +70,10 @@ fn check_load<H: Host>(
     row: &str,
     large: &[u8],
 ) -> Result<(), Fail> {
-    let mut words = Parts::of(row, ' ');
+    let mut words = TextParts::of(row, ' ');
     let (name, limit) = (words.word(), cut(words.word(), ':').0);
     let (answer, appended) = (words.word(), words.word());
-    let limit = Parts::of(limit, ' ').long();
+    let limit = TextParts::of(limit, ' ').long();
     let mut out = Vec::from_slice(alloc, b"<")?;
     let given = host.load(name, limit as usize, &mut out);
     assert!(rt; load_word(&given) == answer, "{row}");

@@ -5,7 +5,7 @@ ghost use Rattle.std.specs.Prelude.{◌<◌};
 ghost use Rattle.unified2_out.specs.Records.{AreOfOneVersion};
 
 use edge_io::{Addr, NoMemory, Text};
-use row_files::Parts;
+use row_files::TextParts;
 use std::alloc::Global;
 use std::process::Abort;
 use std::test::Fail;
@@ -106,7 +106,7 @@ fn push_word(bytes: &mut Vec<u8>, word: &str) -> Result<(), NoMemory> {
 /// Appends the bytes of words in hexadecimal digits; after a word, `*6` writes it six times.
 fn push_words(bytes: &mut Vec<u8>, text: &str) -> Result<(), NoMemory> {
     for part in text.split_whitespace() {
-        let mut part = Parts::of(part, '*');
+        let mut part = TextParts::of(part, '*');
         let word = part.word();
         let times = if part.is_read() { 1 } else { part.number() };
         for _ in 0..times {

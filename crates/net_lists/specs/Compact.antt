@@ -4,7 +4,7 @@
 -- To try it on: the compact part 10.0.0.0 to 10.255.255.255 stands for the part of version 4 with these
 -- bounds.
 use Rattle.std.specs.Prelude.{ℕ, List, Any, map}
-use Rattle.net_lists.specs.declared.part.Bounds.{Bounds}
+use Rattle.net_lists.specs.declared.part.ValueBounds.{ValueBounds}
 use Rattle.net_lists.specs.declared.part.AddrBounds.{AddrBounds}
 use Rattle.net_lists.specs.declared.part.AddrBounds.TheVariants as bounds
 use Rattle.net_lists.specs.declared.part.Part.{Part}
@@ -14,7 +14,7 @@ use Rattle.net_lists.specs.declared.address_parts.Left.{Left}
 use Rattle.net_lists.specs.declared.address_parts.Left.TheVariants as left
 
 -- the part that a part of version 4 is
-abbrev pub with_version : Part (Bounds ℕ) → Part AddrBounds
+abbrev pub with_version : Part (ValueBounds ℕ) → Part AddrBounds
 with_version part = record { negated = part.negated; bounds = bounds.V4 part.bounds }
 
 -- the bounds are of version 6

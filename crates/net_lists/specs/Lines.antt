@@ -7,10 +7,10 @@
 -- is kept, as `10.0.0.1 last -`.
 use Rattle.std.specs.Prelude.{ℕ, ◌==◌, not, Bool, false, List, [], ◌∷◌, filter, map}
 use Rattle.edge_io.specs.Bytes.{trimmed}
-use Rattle.net_lists.specs.declared.lines.Numbered.{Numbered}
+use Rattle.net_lists.specs.declared.lines.NumberedLine.{NumberedLine}
 
 -- a line with its number
-abbrev pub numbered : ℕ → List ℕ → Numbered
+abbrev pub numbered : ℕ → List ℕ → NumberedLine
 numbered number text = record { number = number; text = text }
 
 -- a line that is neither empty nor a comment, which begins with `#` (35)
@@ -19,9 +19,9 @@ has_content [] = false
 has_content (first ∷ rest) = not (first == 35)
 
 -- the line without the blanks at its ends
-abbrev pub bare_line : Numbered → Numbered
+abbrev pub bare_line : NumberedLine → NumberedLine
 bare_line line = numbered line.number (trimmed line.text)
 
 -- the lines without the blanks at their ends that are neither empty nor comments
-abbrev pub kept : List Numbered → List Numbered
+abbrev pub kept : List NumberedLine → List NumberedLine
 kept lines = filter (λ line. has_content line.text) (map bare_line lines)

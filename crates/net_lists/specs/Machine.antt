@@ -8,7 +8,7 @@ use Rattle.std.specs.Option.{option_map, option_to_list}
 use Rattle.std.specs.declared.alloc.Global.{Global}
 use Rattle.net_lists.specs.declared.part.Part.{Part}
 use Rattle.net_lists.specs.declared.place.Place.{Place}
-use Rattle.net_lists.specs.declared.place.Step.{Step}
+use Rattle.net_lists.specs.declared.place.ListStep.{ListStep}
 use Rattle.net_lists.specs.declared.place.Wanted.{Wanted}
 use Rattle.net_lists.specs.declared.place.Wanted.TheVariants as wanted
 use Rattle.net_lists.specs.declared.read.ReadFault.{ReadFault}
@@ -37,7 +37,7 @@ abbrev pub start : Bool → Place
 start negated = at wanted.Item 0 (if negated then 1 else 0)
 
 -- the step after a word: the part that it is, with the place's sign
-unfoldable pub after_word : {B : Type 0} → (List ℕ → Option B) → Place → List ℕ → Option (Step B)
+unfoldable pub after_word : {B : Type 0} → (List ℕ → Option B) → Place → List ℕ → Option (ListStep B)
 after_word reads place word =
     if wants_operand place
     then option_map (λ bounds. record {
@@ -47,32 +47,32 @@ after_word reads place word =
     else None
 
 -- the step after a mark, which is no part
-abbrev pub no_part : {B : Type 0} → Place → Step B
+abbrev pub no_part : {B : Type 0} → Place → ListStep B
 no_part place = record { place = place; part = None }
 
 -- the step after a `[`
-unfoldable pub after_open : {B : Type 0} → Place → Option (Step B)
+unfoldable pub after_open : {B : Type 0} → Place → Option (ListStep B)
 after_open place =
     if wants_operand place then Some (no_part (at wanted.Item (place.depth + 1) (if is_negated place then place.negated + 1
     else 0))) else None
 
 -- the step after a `]`
-unfoldable pub after_close : {B : Type 0} → Place → Option (Step B)
+unfoldable pub after_close : {B : Type 0} → Place → Option (ListStep B)
 after_close place =
     if wants_operand place || place.depth == 0 then None
     else Some (no_part (at wanted.Separator (place.depth - 1) (place.negated - 1)))
 
 -- the step after a `,`
-unfoldable pub after_comma : {B : Type 0} → Place → Option (Step B)
+unfoldable pub after_comma : {B : Type 0} → Place → Option (ListStep B)
 after_comma place = if wants_operand place then None else Some (no_part (at wanted.Item place.depth place.negated))
 
 -- the step after a `!`
-unfoldable pub after_not : {B : Type 0} → Place → Option (Step B)
+unfoldable pub after_not : {B : Type 0} → Place → Option (ListStep B)
 after_not place =
     if wants_item place && place.negated == 0 then Some (no_part (at wanted.Operand place.depth place.negated)) else None
 
 -- the next place after a symbol, with the part that it is, if it may come there
-abbrev pub step_of : {B : Type 0} → (List ℕ → Option B) → Place → Symbol → Option (Step B)
+abbrev pub step_of : {B : Type 0} → (List ℕ → Option B) → Place → Symbol → Option (ListStep B)
 step_of reads place Open = after_open place
 step_of reads place Close = after_close place
 step_of reads place Comma = after_comma place

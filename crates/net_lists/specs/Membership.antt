@@ -7,7 +7,7 @@ use Rattle.std.specs.Prelude.{◌≡◌, ℕ, ◌≤◌, ◌⊎◌, ◌&&◌, �
 use Rattle.std.specs.List.{list_any, list_all}
 use Rattle.edge_io.specs.declared.address.Addr.{Addr}
 use Rattle.edge_io.specs.declared.address.Addr.TheVariants as addr
-use Rattle.net_lists.specs.declared.part.Bounds.{Bounds}
+use Rattle.net_lists.specs.declared.part.ValueBounds.{ValueBounds}
 use Rattle.net_lists.specs.declared.part.AddrBounds.{AddrBounds}
 use Rattle.net_lists.specs.declared.part.AddrBounds.TheVariants as bounds
 use Rattle.net_lists.specs.declared.part.Part.{Part}
@@ -26,7 +26,7 @@ IsListed has parts = (Any (λ part. IsPositive part × has part.bounds) parts �
     × All (λ part. IsNegated part → ¬ has part.bounds) parts
 
 -- the value lies from the lowest to the highest
-abbrev pub Has : ℕ → Bounds ℕ → Type 0
+abbrev pub Has : ℕ → ValueBounds ℕ → Type 0
 Has value bounds = (bounds.low ≤ value) × (value ≤ bounds.high)
 
 -- the bounds have the address, which is of their version
@@ -39,11 +39,11 @@ HasAddress (addr.V6 value) (bounds.V6 within) = Has value within
 -- Whether a list has a port, as a test.
 
 -- the port lies between the part's bounds
-abbrev pub is_in : ℕ → Part (Bounds ℕ) → Bool
+abbrev pub is_in : ℕ → Part (ValueBounds ℕ) → Bool
 is_in port part = nat_le part.bounds.low port && nat_le port part.bounds.high
 
 -- the list has the port: some part has it, or all parts are negated; and no negated part has it
-unfoldable pub has_port : List (Part (Bounds ℕ)) → ℕ → Bool
+unfoldable pub has_port : List (Part (ValueBounds ℕ)) → ℕ → Bool
 has_port parts port =
     (list_any (λ part. not part.negated && is_in port part) parts || list_all (λ part. part.negated) parts)
     && not (list_any (λ part. part.negated && is_in port part) parts)

@@ -5,13 +5,13 @@
 use Rattle.std.specs.Prelude.{ℕ, Bool, false, not, ◌&&◌, ◌||◌, nat_le, List, [], ◌∷◌, if◌then◌else◌}
 use Rattle.edge_io.specs.declared.address.Addr.{Addr}
 use Rattle.edge_io.specs.declared.address.Addr.TheVariants as addr
-use Rattle.net_lists.specs.declared.part.Bounds.{Bounds}
+use Rattle.net_lists.specs.declared.part.ValueBounds.{ValueBounds}
 use Rattle.net_lists.specs.declared.part.AddrBounds.{AddrBounds}
 use Rattle.net_lists.specs.declared.part.AddrBounds.TheVariants as bounds
 use Rattle.net_lists.specs.declared.part.Part.{Part}
 
 -- the value lies within the bounds
-abbrev pub is_within : ℕ → Bounds ℕ → Bool
+abbrev pub is_within : ℕ → ValueBounds ℕ → Bool
 is_within value bounds = nat_le bounds.low value && nat_le value bounds.high
 
 -- the bounds have the address, which is of their version

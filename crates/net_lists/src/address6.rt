@@ -9,7 +9,7 @@ use crate::split::place_of;
 
 /// Groups that were read: how many, at most eight, and the number that they make.
 #[derive(Clone, Copy, Debug)]
-pub struct Groups {
+pub struct AddrGroups {
     pub count: u32,
     pub value: u128,
 }
@@ -76,7 +76,7 @@ fn first_piece(text: &[u8]) -> (&[u8], Option<&[u8]>)
 }
 
 /// The groups with one more, if there are fewer than eight.
-fn with_group(groups: Groups, next: u32) -> Option<Groups>
+fn with_group(groups: AddrGroups, next: u32) -> Option<AddrGroups>
     requires small { IsSmall groups }
     requires next { next < 65536 }
     ensures value { result ≡ with_group groups next }
@@ -85,18 +85,18 @@ fn with_group(groups: Groups, next: u32) -> Option<Groups>
     if groups.count == 8 {
         return None;
     }
-    Some(Groups {
+    Some(AddrGroups {
         count: groups.count + 1,
         value: groups.value * 65536 + u128::from(next),
     })
 }
 
 /// The groups with colons between them.
-fn joined_groups(text: &[u8]) -> Option<Groups>
+fn joined_groups(text: &[u8]) -> Option<AddrGroups>
     ensures value { result ≡ joined (record { count = 0; value = 0 }) (slice_split (λ b. b == 58) text.now) }
     ensures small { IfSome result IsSmall }
 {
-    let mut groups = Groups { count: 0, value: 0 };
+    let mut groups = AddrGroups { count: 0, value: 0 };
     let mut rest = Some(text);
     while let Some(text) = rest {
         let (piece, after) = first_piece(text);
@@ -107,18 +107,18 @@ fn joined_groups(text: &[u8]) -> Option<Groups>
 }
 
 /// The groups with colons between them, at most eight; none for an empty text.
-fn eight_groups(text: &[u8]) -> Option<Groups>
+fn eight_groups(text: &[u8]) -> Option<AddrGroups>
     ensures value { result ≡ groups_upto (groups text.now) }
     ensures small { IfSome result IsSmall }
 {
     if text.is_empty() {
-        return Some(Groups { count: 0, value: 0 });
+        return Some(AddrGroups { count: 0, value: 0 });
     }
     joined_groups(text)
 }
 
 /// The number of eight groups.
-fn whole(groups: Groups) -> Option<u128>
+fn whole(groups: AddrGroups) -> Option<u128>
     ensures { result ≡ whole groups }
 {
     if groups.count == 8 {
@@ -129,7 +129,7 @@ fn whole(groups: Groups) -> Option<u128>
 }
 
 /// The number of groups with zeros between them, at least one.
-fn around(front: Groups, back: Groups) -> Option<u128>
+fn around(front: AddrGroups, back: AddrGroups) -> Option<u128>
     requires front { IsSmall front }
     requires back { IsSmall back }
     ensures { result ≡ around front back }

@@ -10,13 +10,13 @@ ghost use Rattle.net_lists.specs.Verdicts.{has_address, is_listed};
 
 use crate::address_parts::Left;
 use crate::member;
-use crate::part::{AddrBounds, AddrPart, Bounds, Part};
+use crate::part::{AddrBounds, AddrPart, Part, ValueBounds};
 use crate::read::{ReadFault, read_list};
 use edge_io::Addr;
 use std::alloc::{AllocError, Global};
 
 /// A part of version 4.
-pub type Addr4Part = Part<Bounds<u32>>;
+pub type Addr4Part = Part<ValueBounds<u32>>;
 
 /// The parts of a list of addresses, in order.
 #[derive(Debug, Drop)]

@@ -8,7 +8,7 @@ use memchr::memchr;
 
 /// A line with its number.
 #[derive(Drop)]
-pub struct Numbered {
+pub struct NumberedLine {
     pub number: u32,
     pub text: Text,
 }

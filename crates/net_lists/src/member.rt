@@ -2,7 +2,7 @@
 ghost use Rattle.std.specs.Prelude.{◌≡◌, ℕ, Bool, false, nat_le, ◌&&◌};
 ghost use Rattle.net_lists.specs.Verdicts.{is_within, has_address, is_listed};
 
-use crate::part::{AddrBounds, Bounds, Part};
+use crate::part::{AddrBounds, Part, ValueBounds};
 use edge_io::Addr;
 
 /// Bounds that may have a value.
@@ -13,7 +13,7 @@ pub trait Ranged<X> {
         ensures { result ≡ has value self.now };
 }
 
-impl Ranged<u16> for Bounds<u16> {
+impl Ranged<u16> for ValueBounds<u16> {
     ghost has = { is_within };
 
     fn has(&self, value: u16) -> bool {
@@ -21,7 +21,7 @@ impl Ranged<u16> for Bounds<u16> {
     }
 }
 
-impl Ranged<u32> for Bounds<u32> {
+impl Ranged<u32> for ValueBounds<u32> {
     ghost has = { is_within };
 
     fn has(&self, value: u32) -> bool {
@@ -30,7 +30,7 @@ impl Ranged<u32> for Bounds<u32> {
 }
 
 /// Bounds of version 4 have no address of version 6.
-impl Ranged<u128> for Bounds<u32> {
+impl Ranged<u128> for ValueBounds<u32> {
     ghost has = { λ _ _. false };
 
     fn has(&self, _value: u128) -> bool {

@@ -5,7 +5,7 @@ ghost use Rattle.net_lists.specs.Addresses.{address, bits_of, cleared, network_a
 use crate::address4::dotted;
 use crate::address6::colons;
 use crate::number::number_in;
-use crate::part::{AddrBounds, Bounds, Spelled};
+use crate::part::{AddrBounds, Spelled, ValueBounds};
 use crate::split::cut;
 use edge_io::Addr;
 
@@ -88,11 +88,11 @@ impl Network {
         ensures { result ≡ bounds_at self.first self.length }
     {
         match self.first {
-            Addr::V4(low) => AddrBounds::V4(Bounds {
+            Addr::V4(low) => AddrBounds::V4(ValueBounds {
                 low,
                 high: low + last_of4(32 - self.length),
             }),
-            Addr::V6(low) => AddrBounds::V6(Bounds {
+            Addr::V6(low) => AddrBounds::V6(ValueBounds {
                 low,
                 high: low + last_of6(128 - self.length),
             }),

@@ -3,7 +3,7 @@ ghost use Rattle.std.specs.Prelude.{◌≡◌, List, ℕ, Option};
 
 /// The values from `low` to `high`, both included.
 #[derive(Clone, Copy, Debug, PartialEq, Eq)]
-pub struct Bounds<V> {
+pub struct ValueBounds<V> {
     pub low: V,
     pub high: V,
 }
@@ -11,8 +11,8 @@ pub struct Bounds<V> {
 /// The addresses of a part, which are of one version, as numbers in network order.
 #[derive(Clone, Copy, Debug, PartialEq, Eq)]
 pub enum AddrBounds {
-    V4(Bounds<u32>),
-    V6(Bounds<u128>),
+    V4(ValueBounds<u32>),
+    V6(ValueBounds<u128>),
 }
 
 /// A part of a list: what it has, and whether it comes after a `!`, its own or that of a bracket around
@@ -27,7 +27,7 @@ pub struct Part<B> {
 pub type AddrPart = Part<AddrBounds>;
 
 /// A part of a list of ports.
-pub type PortPart = Part<Bounds<u16>>;
+pub type PortPart = Part<ValueBounds<u16>>;
 
 /// What a word of a list spells, if it is a part of its kind.
 pub trait Spelled: Copy {

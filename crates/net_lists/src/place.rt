@@ -29,7 +29,7 @@ pub struct Place {
 
 /// A step after a token: the next place, and the part that the token is.
 #[derive(Clone, Copy, Debug, PartialEq, Eq)]
-pub struct Step<B> {
+pub struct ListStep<B> {
     pub place: Place,
     pub part: Option<Part<B>>,
 }
@@ -54,7 +54,7 @@ impl Place {
     }
 
     /// The step after this token, if it may come here.
-    pub fn step<B: Spelled>(self, token: Token<'_>) -> Option<Step<B>>
+    pub fn step<B: Spelled>(self, token: Token<'_>) -> Option<ListStep<B>>
         requires depth { self.depth + 1 < 2 ^ 64 }
         requires negated { self.negated + 1 < 2 ^ 64 }
         ensures step { result ≡ step_of B.bounds_of self (symbol_of token.entry) }
@@ -76,7 +76,7 @@ impl Place {
     }
 
     #[tactic(auto, unfolding(crate::specs::Machine::after_word))]
-    fn after_word<B: Spelled>(self, word: &[u8]) -> Option<Step<B>>
+    fn after_word<B: Spelled>(self, word: &[u8]) -> Option<ListStep<B>>
         ensures step { result ≡ after_word B.bounds_of self word.now }
         ensures next { IfSome result (λ step. IsNext self step.place) }
     {
@@ -84,7 +84,7 @@ impl Place {
             return None;
         }
         let bounds = B::read(word)?;
-        Some(Step {
+        Some(ListStep {
             place: Place {
                 wanted: Wanted::Separator,
                 depth: self.depth,
@@ -98,7 +98,7 @@ impl Place {
     }
 
     #[tactic(auto, unfolding(crate::specs::Machine::after_open))]
-    fn after_open<B>(self) -> Option<Step<B>>
+    fn after_open<B>(self) -> Option<ListStep<B>>
         requires depth { self.depth + 1 < 2 ^ 64 }
         requires negated { self.negated + 1 < 2 ^ 64 }
         ensures step { result ≡ after_open self }
@@ -112,18 +112,18 @@ impl Place {
         } else {
             0
         };
-        Some(Step::to(Wanted::Item, self.depth + 1, negated))
+        Some(ListStep::to(Wanted::Item, self.depth + 1, negated))
     }
 
     #[tactic(auto, unfolding(crate::specs::Machine::after_close))]
-    fn after_close<B>(self) -> Option<Step<B>>
+    fn after_close<B>(self) -> Option<ListStep<B>>
         ensures step { result ≡ after_close self }
         ensures next { IfSome result (λ step. IsNext self step.place) }
     {
         if self.wanted != Wanted::Separator || self.depth == 0 {
             return None;
         }
-        Some(Step::to(
+        Some(ListStep::to(
             Wanted::Separator,
             self.depth - 1,
             self.negated.saturating_sub(1),
@@ -131,34 +131,34 @@ impl Place {
     }
 
     #[tactic(auto, unfolding(crate::specs::Machine::after_comma))]
-    fn after_comma<B>(self) -> Option<Step<B>>
+    fn after_comma<B>(self) -> Option<ListStep<B>>
         ensures step { result ≡ after_comma self }
         ensures next { IfSome result (λ step. IsNext self step.place) }
     {
         if self.wanted != Wanted::Separator {
             return None;
         }
-        Some(Step::to(Wanted::Item, self.depth, self.negated))
+        Some(ListStep::to(Wanted::Item, self.depth, self.negated))
     }
 
     #[tactic(auto, unfolding(crate::specs::Machine::after_not))]
-    fn after_not<B>(self) -> Option<Step<B>>
+    fn after_not<B>(self) -> Option<ListStep<B>>
         ensures step { result ≡ after_not self }
         ensures next { IfSome result (λ step. IsNext self step.place) }
     {
         if self.wanted != Wanted::Item || self.negated > 0 {
             return None;
         }
-        Some(Step::to(Wanted::Operand, self.depth, self.negated))
+        Some(ListStep::to(Wanted::Operand, self.depth, self.negated))
     }
 }
 
-impl<B> Step<B> {
+impl<B> ListStep<B> {
     /// A step after a mark, which is no part.
-    fn to(wanted: Wanted, depth: usize, negated: usize) -> Step<B>
+    fn to(wanted: Wanted, depth: usize, negated: usize) -> ListStep<B>
         ensures { result ≡ no_part (at wanted depth negated) }
     {
-        Step {
+        ListStep {
             place: Place {
                 wanted,
                 depth,

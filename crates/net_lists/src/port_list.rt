@@ -1,6 +1,6 @@
 //! Lists of ports: reading them, and whether a port is among them.
 ghost use Rattle.std.specs.Prelude.{◌≡◌, ◌↔◌, IsTrue, IfOk, IsErrOf, List, [], ℕ, map};
-ghost use Rattle.net_lists.specs.declared.part.Bounds.{Bounds};
+ghost use Rattle.net_lists.specs.declared.part.ValueBounds.{ValueBounds};
 ghost use Rattle.net_lists.specs.declared.part.Part.{Part};
 ghost use Rattle.net_lists.specs.Membership.{IsListed, Has, has_port};
 ghost use Rattle.net_lists.specs.Parts.{port_bounds, one_port};
@@ -8,7 +8,7 @@ ghost use Rattle.net_lists.specs.Lists.{IsList, IsAnswer, IsTooLong};
 
 use crate::fault::ListFault;
 use crate::member;
-use crate::part::{Bounds, Part, PortPart};
+use crate::part::{Part, PortPart, ValueBounds};
 use crate::read::{ReadFault, read_list};
 use edge_io::NoMemory;
 use std::alloc::Global;
@@ -22,10 +22,10 @@ pub struct PortList {
 
 impl Model for PortList {
     ghost use Rattle.std.specs.Prelude.{List, ℕ};
-    ghost use Rattle.net_lists.specs.declared.part.Bounds.{Bounds};
+    ghost use Rattle.net_lists.specs.declared.part.ValueBounds.{ValueBounds};
     ghost use Rattle.net_lists.specs.declared.part.Part.{Part};
 
-    ghost Value = { List (Part (Bounds ℕ)) };
+    ghost Value = { List (Part (ValueBounds ℕ)) };
 
     ghost view = { λ list. list.parts.items };
 }
@@ -36,7 +36,7 @@ fn one_port(port: u16) -> PortPart
 {
     Part {
         negated: false,
-        bounds: Bounds {
+        bounds: ValueBounds {
             low: port,
             high: port,
         },
@@ -48,7 +48,7 @@ impl PortList {
     pub fn read(alloc: Global, text: &[u8]) -> Result<PortList, ListFault>
         ensures spelled { IfOk result (λ list. IsList port_bounds text.now list) }
         // BadPort comes only for a text that spells no list, BadAddress never.
-        ensures answer { (parts : List (Part (Bounds ℕ))) → IsList port_bounds text.now parts → IsAnswer parts result }
+        ensures answer { (parts : List (Part (ValueBounds ℕ))) → IsList port_bounds text.now parts → IsAnswer parts result }
         ensures too_long { IsErrOf result ListFault.ListTooLong → IsTooLong port_bounds text.now }
         ensures no_address { ¬ IsErrOf result ListFault.BadAddress }
     {
@@ -100,5 +100,5 @@ impl PortList {
 
 /// A law for callers: a list has a port, as a test, just where the port is listed.
 pub fn ports_are_as_listed()
-    ensures { (ports : List (Part (Bounds ℕ))) (port : ℕ) → IsTrue (has_port ports port) ↔ IsListed (Has port) ports }
+    ensures { (ports : List (Part (ValueBounds ℕ))) (port : ℕ) → IsTrue (has_port ports port) ↔ IsListed (Has port) ports }
 {}

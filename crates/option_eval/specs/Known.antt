@@ -4,7 +4,7 @@
 use Rattle.std.specs.Prelude.{◌≡◌, ℕ, ◌<◌, ◌≤◌, Bool, ◌&&◌, not, List, [], ◌∷◌, length, Option, None, IfSome, slice_index_or}
 use Rattle.rule_types.specs.declared.option.Opt.{Opt}
 use Rattle.option_eval.specs.declared.known.Known.{Known}
-use Rattle.option_eval.specs.declared.next.Next.{Next}
+use Rattle.option_eval.specs.declared.next.NextPlaces.{NextPlaces}
 use Rattle.option_eval.specs.Kept.{reads}
 use Rattle.option_eval.specs.Kinds.{is_relative, needs_place}
 use Rattle.option_eval.specs.Next.{next_set, RisesTo}
@@ -16,16 +16,16 @@ abbrev pub is_free : Opt → Bool
 is_free option = not (is_relative option) && (not (reads 0 option) && not (reads 1 option))
 
 -- where the option led that `left` others follow, if that is known
-unfoldable pub known_at : Known → ℕ → Option Next
+unfoldable pub known_at : Known → ℕ → Option NextPlaces
 known_at known left = slice_index_or known.led.items left None
 
 -- the option leads to these from each set of places, with any values
-abbrev pub LeadsAlike : Means → List ℕ → Opt → Bool → Next → Type 0
+abbrev pub LeadsAlike : Means → List ℕ → Opt → Bool → NextPlaces → Type 0
 LeadsAlike means payload option every next = (values places : List ℕ) → length values ≡ 2 → 0 < length places
     → Gathers every (IsLedTo (LeadsFrom means payload values option) places) (next_set next places)
 
 -- what is known of an option is where it leads
-abbrev pub IsKnown : Means → List ℕ → Opt → Bool → Option Next → Type 0
+abbrev pub IsKnown : Means → List ℕ → Opt → Bool → Option NextPlaces → Type 0
 IsKnown means payload option every found = IfSome found (LeadsAlike means payload option every)
 
 -- what is known of each of these options is where it leads

@@ -5,8 +5,8 @@ use Rattle.std.specs.Cmp.Lexicographic.{slice_cmp}
 use Rattle.std.specs.BTreeMap.{get}
 use Rattle.rule_types.specs.declared.option.Opt.{Opt}
 use Rattle.option_eval.specs.declared.state_map.StateMap.{StateMap}
-use Rattle.option_eval.specs.declared.states.Held.{Held}
-use Rattle.option_eval.specs.declared.states.Held.TheVariants as held
+use Rattle.option_eval.specs.declared.states.HeldStates.{HeldStates}
+use Rattle.option_eval.specs.declared.states.HeldStates.TheVariants as held
 use Rattle.option_eval.specs.declared.states.States.{States}
 use Rattle.option_eval.specs.Places.{Means}
 use Rattle.option_eval.specs.Sets.{point}
@@ -18,7 +18,7 @@ unfoldable pub map_at : StateMap → List ℕ → Option (List ℕ)
 map_at map values = option_map (λ places. places.items) (get (slice_cmp nat_cmp) map.places values)
 
 -- the places of a value list, of what is held
-abbrev pub held_at : Held → List ℕ → Option (List ℕ)
+abbrev pub held_at : HeldStates → List ℕ → Option (List ℕ)
 held_at held.Nothing values = None
 held_at (held.One state) values = if bytes_eq state.values values then Some state.places.items else None
 held_at (held.Many map) values = map_at map values
@@ -28,7 +28,7 @@ unfoldable pub places_at : States → List ℕ → Option (List ℕ)
 places_at states values = held_at states.held values
 
 -- how many states there are
-abbrev pub held_count : Held → ℕ
+abbrev pub held_count : HeldStates → ℕ
 held_count held.Nothing = 0
 held_count (held.One state) = 1
 held_count (held.Many map) = length map.places.entries

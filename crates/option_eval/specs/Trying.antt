@@ -8,9 +8,9 @@ use Rattle.std.specs.List.{AllZip}
 use Rattle.edge_io.specs.declared.pattern.Span.{Span}
 use Rattle.rule_types.specs.declared.option.Opt.{Opt}
 use Rattle.rule_types.specs.declared.rule.Rule.{Rule}
-use Rattle.option_eval.specs.declared.asked.Asked.{Asked}
-use Rattle.option_eval.specs.declared.made.Made.{Made}
-use Rattle.option_eval.specs.declared.next.Next.{Next}
+use Rattle.option_eval.specs.declared.asked.AskedPlaces.{AskedPlaces}
+use Rattle.option_eval.specs.declared.made.MadeOption.{MadeOption}
+use Rattle.option_eval.specs.declared.next.NextPlaces.{NextPlaces}
 use Rattle.option_eval.specs.declared.states.States.{States}
 use Rattle.option_eval.specs.Kinds.{is_relative}
 use Rattle.option_eval.specs.Next.{next_set, IsForAll, RisesTo}
@@ -24,11 +24,11 @@ use Rattle.option_eval.specs.Values.{list_count, point_count}
 use Rattle.option_eval.specs.Walks.{MatchesFromOne, HasEachValueList, part_points}
 
 -- whatever is meant, if what was made of the options finds it
-abbrev pub OfMade : {P : Type 0} → (P → List ℕ → Option Span) → List Opt → List (Made P) → (Means → Type 0) → Type 0
+abbrev pub OfMade : {P : Type 0} → (P → List ℕ → Option Span) → List Opt → List (MadeOption P) → (Means → Type 0) → Type 0
 OfMade finds options made Holds = (means : Means) → AllZip (IsMade finds means) options (map pattern_of made) → Holds means
 
 -- whatever is meant, if what was made of one option finds it
-abbrev pub OfMadeOne : {P : Type 0} → (P → List ℕ → Option Span) → Opt → Made P → (Means → Type 0) → Type 0
+abbrev pub OfMadeOne : {P : Type 0} → (P → List ℕ → Option Span) → Opt → MadeOption P → (Means → Type 0) → Type 0
 OfMadeOne finds option made Holds = (means : Means) → IsMade finds means option (pattern_of made) → Holds means
 
 -- of the rule at a place, where what was made of all rules finds it
@@ -75,14 +75,15 @@ IsPartPassed means payload options old new passed =
     (MatchesFromSome means payload options old → MatchesFromSome means payload options new)
 
 -- an option leads to these places; where only some place is needed, to one of them
-abbrev pub LeadsTo : Means → Opt → Bool → Asked → Next → Type 0
+abbrev pub LeadsTo : Means → Opt → Bool → AskedPlaces → NextPlaces → Type 0
 LeadsTo means option every at next =
     Gathers every (IsLedTo (LeadsFrom means at.payload.now at.values.now option) at.places.now) (next_set next at.places.now)
 
 -- the places after an option: it leads to them, whatever is meant, if what was made of it finds that; they rise, and none is
 -- past the payload's end; where it counts from the payload's start they tell nothing of those before it
-pub record IsNext {P : Type 0} (finds : P → List ℕ → Option Span) (option : Opt) (made : Made P) (at : Asked) (every : Bool)
-    (next : Next) : Type 0 where
+pub record IsNext {P : Type 0} (finds : P → List ℕ → Option Span) (option : Opt) (made : MadeOption P) (at : AskedPlaces)
+    (every : Bool)
+    (next : NextPlaces) : Type 0 where
   pub found : OfMadeOne finds option made (λ means. LeadsTo means option every at next)
   pub rising : RisesTo (length at.payload.now + 1) next
   pub apart : is_relative option ≡ false → IsForAll option next

@@ -5,7 +5,7 @@ ghost use Rattle.option_eval.specs.Absent.{IsReached, SeesOn};
 ghost use Rattle.option_eval.specs.Sets.{IsRising, Occurs};
 
 use crate::Steps;
-use crate::asked::Asked;
+use crate::asked::AskedPlaces;
 use crate::needle::Needle;
 use crate::next::with_place;
 use crate::reach::Reach;
@@ -16,7 +16,7 @@ use std::sync::ledger::Ledger;
 
 /// What was seen of a payload, from left to right.
 #[derive(Clone, Copy)]
-struct Seen {
+struct SeenSoFar {
     /// The places before it were looked at, or lie before the reach of each place to come.
     done: usize,
     /// The place after the last occurrence; 0 if there was none.
@@ -28,7 +28,7 @@ struct Seen {
 pub(crate) fn places_without<L: Ledger>(
     needle: &Needle,
     reach: &Reach,
-    at: &Asked,
+    at: &AskedPlaces,
     visits: &mut Steps<L>,
 ) -> Result<Places, NoMemory>
     requires same { needle.now.finder.now ≡ needle.now.bytes.now }
@@ -42,7 +42,7 @@ pub(crate) fn places_without<L: Ledger>(
     let size = needle.bytes.len();
     let bound = at.payload.len() - size + 1;
     let mut next = SmallVec::new(at.alloc);
-    let mut seen = Seen { done: 0, last: 0 };
+    let mut seen = SeenSoFar { done: 0, last: 0 };
     let mut asked = 0;
     let mut rest = at.places;
     while let [place, later @ ..] = rest {
@@ -58,7 +58,7 @@ pub(crate) fn places_without<L: Ledger>(
 }
 
 /// What is seen once the places from `low` on and below `end` were looked at, up to the first occurrence.
-fn seen_in(needle: &Needle, payload: &[u8], low: usize, end: usize, seen: Seen) -> Seen
+fn seen_in(needle: &Needle, payload: &[u8], low: usize, end: usize, seen: SeenSoFar) -> SeenSoFar
     requires same { needle.now.finder.now ≡ needle.now.bytes.now }
     requires some { 1 ≤ length needle.now.bytes.now }
     requires fits { end + length needle.now.bytes.now ≤ length payload.now + 1 }
@@ -69,11 +69,11 @@ fn seen_in(needle: &Needle, payload: &[u8], low: usize, end: usize, seen: Seen) 
         return seen;
     }
     match needle.first_in(payload, from, end) {
-        None => Seen {
+        None => SeenSoFar {
             done: end,
             last: seen.last,
         },
-        Some(start) => Seen {
+        Some(start) => SeenSoFar {
             done: start + 1,
             last: start + 1,
         },

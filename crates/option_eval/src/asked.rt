@@ -9,7 +9,7 @@ use std::alloc::Global;
 /// The places of a payload from which an option is asked, and the values that go with them. The places are one
 /// or more and ascend, none past the payload's end.
 #[derive(Clone, Copy)]
-pub(crate) struct Asked<'a> {
+pub(crate) struct AskedPlaces<'a> {
     pub alloc: Global,
     pub payload: &'a [u8],
     pub places: &'a [usize],

@@ -8,11 +8,11 @@ ghost use Rattle.option_eval.specs.Places.{Means, is_only};
 ghost use Rattle.option_eval.specs.Ranges.{IsSmall};
 ghost use Rattle.option_eval.specs.Sets.{IsRising, IsWithin, Occurs, IsFoundFrom, reach_from, reach_room, folds_case, content_origin};
 ghost use Rattle.option_eval.specs.Trying.{LeadsTo};
-ghost use Rattle.option_eval.specs.declared.next.Next.TheVariants as next;
+ghost use Rattle.option_eval.specs.declared.next.NextPlaces.TheVariants as next;
 
 use crate::Steps;
 use crate::absent::places_without;
-use crate::asked::Asked;
+use crate::asked::AskedPlaces;
 use crate::fetch::{Values, number};
 use crate::needle::Needle;
 use crate::reach::Reach;
@@ -29,7 +29,7 @@ use std::sync::ledger::Ledger;
 pub(crate) fn places_after_content<L: Ledger>(
     content: &Content,
     finder: &Finder<'static>,
-    at: &Asked,
+    at: &AskedPlaces,
     every: bool,
     visits: &mut Steps<L>,
 ) -> Result<Places, NoMemory>
@@ -61,7 +61,7 @@ pub(crate) fn places_after_content<L: Ledger>(
 pub(crate) fn places_after_negated_content<L: Ledger>(
     content: &Content,
     finder: &Finder<'static>,
-    at: &Asked,
+    at: &AskedPlaces,
     visits: &mut Steps<L>,
 ) -> Result<Places, NoMemory>
     requires same { finder.now ≡ content.now.bytes }

@@ -9,9 +9,9 @@ ghost use Rattle.option_eval.specs.Ready.{IsInRange};
 ghost use Rattle.option_eval.specs.States.{AreWithin, Leaves};
 
 use crate::Steps;
-use crate::asked::Asked;
+use crate::asked::AskedPlaces;
 use crate::fetch::{Values, fetched_number, rounded_up};
-use crate::kept::{Read, kept_values};
+use crate::kept::{NamesRead, kept_values};
 use crate::next::asked_of;
 use crate::states::States;
 use edge_io::NoMemory;
@@ -26,7 +26,7 @@ pub(crate) struct Extraction {
     pub times: u32,
     pub align: u8,
     /// Asked once, and not at each place.
-    pub read: Read,
+    pub read: NamesRead,
 }
 
 impl Extraction {
@@ -34,7 +34,7 @@ impl Extraction {
     /// unless the extraction is relative. Of the values after it those are kept that the later options read.
     pub fn extract<L: Ledger>(
         &self,
-        at: &Asked,
+        at: &AskedPlaces,
         states: &mut States,
         visits: &mut Steps<L>,
     ) -> Result<(), NoMemory>

@@ -69,10 +69,10 @@ fn is_read(name: u8, options: &[Opt]) -> bool
 }
 
 /// Whether the value of each of the two names is still read.
-pub(crate) type Read = [bool; 2];
+pub(crate) type NamesRead = [bool; 2];
 
 /// Which values the options read.
-pub(crate) fn names_read(options: &[Opt]) -> Read
+pub(crate) fn names_read(options: &[Opt]) -> NamesRead
     ensures { result ≡ names_read options.now }
 {
     [is_read(0, options), is_read(1, options)]
@@ -87,7 +87,7 @@ fn kept_value(read: bool, value: u64) -> u64
 
 /// The values that are read, and 0 in place of the others: so states that differ in nothing that is still read
 /// are one.
-pub(crate) fn kept_values(read: &Read, values: &Values) -> Values
+pub(crate) fn kept_values(read: &NamesRead, values: &Values) -> Values
     ensures { (options : List Opt) → read.now ≡ names_read options → result ≡ kept_values options values.now }
 {
     [

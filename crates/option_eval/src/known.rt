@@ -12,11 +12,11 @@ ghost use Rattle.option_eval.specs.Ready.{IsReady};
 ghost use Rattle.option_eval.specs.Trying.{OfMadeOne, LeadsTo};
 
 use crate::Steps;
-use crate::asked::Asked;
+use crate::asked::AskedPlaces;
 use crate::kept::reads;
 use crate::kind::{is_extract, is_payload_option, is_relative, needs_place};
-use crate::made::Made;
-use crate::next::{Next, next_places};
+use crate::made::MadeOption;
+use crate::next::{NextPlaces, next_places};
 use edge_io::{NoMemory, Pattern};
 use rule_types::Opt;
 use std::alloc::Global;
@@ -26,7 +26,7 @@ use std::sync::ledger::Ledger;
 #[derive(Drop)]
 pub(crate) struct Known {
     /// By the number of options that follow; empty where nothing is kept.
-    led: Vec<Option<Next>>,
+    led: Vec<Option<NextPlaces>>,
 }
 
 /// Whether an option leads alike from each state: it counts from the payload's start, and reads no value.
@@ -74,7 +74,7 @@ impl Known {
 
     /// Takes out where the option led that `left` others follow.
     #[tactic(auto, unfolding(crate::specs::Known::known_at))]
-    fn take(&mut self, left: usize) -> Option<Next>
+    fn take(&mut self, left: usize) -> Option<NextPlaces>
         ensures value { result ≡ known_at self.old left }
         ensures after { (other : ℕ) → known_at self.new other ≡ (if other == left then None else known_at self.old other) }
     {
@@ -87,7 +87,7 @@ impl Known {
 
     /// Keeps where an option led that `left` others follow, if it leads alike from each state.
     #[tactic(auto, unfolding(crate::specs::Known::known_at))]
-    pub fn keep(&mut self, option: &Opt, left: usize, next: Next)
+    pub fn keep(&mut self, option: &Opt, left: usize, next: NextPlaces)
         ensures others { (other : ℕ) → (other == left) ≡ false → known_at self.new other ≡ known_at self.old other }
         ensures own { (known_at self.new left ≡ known_at self.old left)
             ⊎ ((is_free option.now ≡ true) × (known_at self.new left ≡ Some next)) }
@@ -101,12 +101,12 @@ impl Known {
 /// Where an option other than an extraction leads from a set of places: asked, unless that is known.
 pub(crate) fn next_known<P: Pattern, L: Ledger>(
     option: &Opt,
-    made: &Made<P>,
+    made: &MadeOption<P>,
     later: &[Opt],
-    at: &Asked,
+    at: &AskedPlaces,
     known: &mut Known,
     visits: &mut Steps<L>,
-) -> Result<Next, NoMemory>
+) -> Result<NextPlaces, NoMemory>
     requires ready { IsReady option.now made.now }
     requires plain { is_extract option.now ≡ false }
     requires known_rising { AreRising (length at.now.payload.now + 1) known.old }

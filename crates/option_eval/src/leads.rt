@@ -13,7 +13,7 @@ ghost use Rattle.edge_io.specs.declared.pattern.PatternFlags.{PatternFlags};
 
 use crate::content::content_is_found;
 use crate::fetch::{Fetched, Values, fetched_number, number, origin, rounded_up};
-use crate::made::Made;
+use crate::made::MadeOption;
 use edge_io::{NoMemory, Pattern, Span};
 use rule_types::{Cmp, Content, Fetch, Num, Opt};
 
@@ -21,7 +21,7 @@ use rule_types::{Cmp, Content, Fetch, Num, Opt};
 /// nowhere but to it. An option that asks nothing of the payload holds.
 pub(crate) fn test_holds<P: Pattern>(
     option: &Opt,
-    made: &Made<P>,
+    made: &MadeOption<P>,
     payload: &[u8],
     place: usize,
     values: &Values,
@@ -53,7 +53,7 @@ pub(crate) fn test_holds<P: Pattern>(
 /// Where a `pcre` or a `byte_jump` leads from a place: to one place, or nowhere.
 pub(crate) fn place_after_jump<P: Pattern>(
     option: &Opt,
-    made: &Made<P>,
+    made: &MadeOption<P>,
     payload: &[u8],
     place: usize,
     values: &Values,
@@ -94,7 +94,7 @@ fn unless(negated: bool, holds: bool) -> bool
 /// Whether a negated content, or one that is sought by the fast pattern alone, holds.
 fn content_holds<P>(
     content: &Content,
-    made: &Made<P>,
+    made: &MadeOption<P>,
     payload: &[u8],
     place: usize,
     values: &Values,
@@ -105,7 +105,7 @@ fn content_holds<P>(
         ↔ LeadsFrom means payload.now values.now (opt.Content content.now) place place }
 {
     match made {
-        Made::Needle(finder) => {
+        MadeOption::Needle(finder) => {
             unless(
                 content.negated,
                 content_is_found(content, finder, payload, place, values),
@@ -144,7 +144,7 @@ fn is_before(place: i128, len: usize) -> bool
 
 /// Whether a `pcre:!` holds: the pattern that was made finds nothing.
 fn negated_pcre_holds<P: Pattern>(
-    made: &Made<P>,
+    made: &MadeOption<P>,
     relative: bool,
     payload: &[u8],
     place: usize,
@@ -156,14 +156,16 @@ fn negated_pcre_holds<P: Pattern>(
         (opt.Pcre text flags relative true) place place) }
 {
     match made {
-        Made::Pattern(pattern) => Ok(pcre_finds(pattern, relative, payload, place)?.is_none()),
+        MadeOption::Pattern(pattern) => Ok(pcre_finds(
+            pattern, relative, payload, place,
+        )?.is_none()),
         _ => Ok(false),
     }
 }
 
 /// Where a `pcre` leads: to the end of what the pattern that was made finds.
 fn place_after_pcre<P: Pattern>(
-    made: &Made<P>,
+    made: &MadeOption<P>,
     relative: bool,
     payload: &[u8],
     place: usize,
@@ -175,7 +177,7 @@ fn place_after_pcre<P: Pattern>(
     ensures inside { IfOk result (λ led. IfSome led (λ q. q ≤ length payload.now)) }
 {
     match made {
-        Made::Pattern(pattern) => match pcre_finds(pattern, relative, payload, place)? {
+        MadeOption::Pattern(pattern) => match pcre_finds(pattern, relative, payload, place)? {
             None => Ok(None),
             Some(span) => Ok(Some(origin(relative, place) + span.end)),
         },

@@ -4,7 +4,7 @@ use memchr::memmem::Finder;
 
 /// What serves an option at each payload.
 #[derive(Drop)]
-pub enum Made<P> {
+pub enum MadeOption<P> {
     /// For an option that needs nothing.
     Nothing,
     /// A search for a content's bytes.

@@ -5,7 +5,7 @@ ghost use Rattle.std.specs.List.{AllZip};
 ghost use Rattle.option_eval.specs.Ready.{IsReady, IsInRange, pattern_of};
 ghost use Rattle.option_eval.specs.RuleSet.{IsMade, RefusesText, RefusesOneOf, SameMeaning};
 
-use crate::made::Made;
+use crate::made::MadeOption;
 use edge_io::{MakeFault, NoMemory, PatternFlags, PatternMaker, Text};
 use memchr::memmem::Finder;
 use rule_types::{Content, Opt};
@@ -64,7 +64,7 @@ fn make_one<M: PatternMaker>(
     alloc: Global,
     option: &Opt,
     maker: &mut M,
-) -> Result<Made<M::Made>, PushFault>
+) -> Result<MadeOption<M::Made>, PushFault>
     requires { IsInRange option.now }
     ensures ready { IfOk result (λ made. IsReady option.now made) }
     ensures found { IfOk result (λ made. IsMade M.Made.finds (M.means maker.old) option.now (pattern_of made)) }
@@ -75,15 +75,15 @@ fn make_one<M: PatternMaker>(
 {
     match option {
         Opt::Content(content) => match search(alloc, content) {
-            Ok(finder) => Ok(Made::Needle(finder)),
+            Ok(finder) => Ok(MadeOption::Needle(finder)),
             Err(NoMemory) => Err(PushFault::NoMemory),
         },
         Opt::Pcre { text, flags, .. } => match pattern(alloc, text, *flags, maker) {
-            Ok(pattern) => Ok(Made::Pattern(pattern)),
+            Ok(pattern) => Ok(MadeOption::Pattern(pattern)),
             Err(MakeFault::Refused) => Err(PushFault::Refused),
             Err(MakeFault::NoMemory) => Err(PushFault::NoMemory),
         },
-        _ => Ok(Made::Nothing),
+        _ => Ok(MadeOption::Nothing),
     }
 }
 
@@ -92,7 +92,7 @@ pub(crate) fn make_all<M: PatternMaker>(
     alloc: Global,
     options: &[Opt],
     maker: &mut M,
-) -> Result<Vec<Made<M::Made>>, PushFault>
+) -> Result<Vec<MadeOption<M::Made>>, PushFault>
     requires { All IsInRange options.now }
     ensures ready { IfOk result (λ made. AllZip IsReady options.now made.items) }
     ensures found { IfOk result (λ made. AllZip (IsMade M.Made.finds (M.means maker.old)) options.now

@@ -7,14 +7,14 @@ ghost use Rattle.option_eval.specs.Places.{is_payload_option, is_extract};
 ghost use Rattle.option_eval.specs.Ready.{IsReady};
 ghost use Rattle.option_eval.specs.Sets.{IsRising, Gathers, IsLedTo, LeadsFrom, with_if};
 ghost use Rattle.option_eval.specs.Trying.{OfMadeOne, IsNext};
-ghost use Rattle.option_eval.specs.declared.next.Next.TheVariants as next;
+ghost use Rattle.option_eval.specs.declared.next.NextPlaces.TheVariants as next;
 
 use crate::Steps;
-use crate::asked::Asked;
+use crate::asked::AskedPlaces;
 use crate::content::{places_after_content, places_after_negated_content};
 use crate::kind::{is_payload_option, is_relative, is_test};
 use crate::leads::{place_after_jump, test_holds};
-use crate::made::Made;
+use crate::made::MadeOption;
 use crate::sweep::Places;
 use edge_io::{NoMemory, Pattern};
 use rule_types::Opt;
@@ -24,7 +24,7 @@ use std::sync::ledger::Ledger;
 
 /// The places after an option.
 #[derive(Drop)]
-pub(crate) enum Next {
+pub(crate) enum NextPlaces {
     /// The places before the option.
     Same,
     /// Places of its own.
@@ -35,18 +35,18 @@ pub(crate) enum Next {
 /// one is wanted, else one at least where there is one.
 pub(crate) fn next_places<P: Pattern, L: Ledger>(
     option: &Opt,
-    made: &Made<P>,
-    at: &Asked,
+    made: &MadeOption<P>,
+    at: &AskedPlaces,
     every: bool,
     visits: &mut Steps<L>,
-) -> Result<Next, NoMemory>
+) -> Result<NextPlaces, NoMemory>
     requires ready { IsReady option.now made.now }
     requires plain { is_extract option.now ≡ false }
     ensures after { IfOk result (IsNext P.finds option.now made.now at.now every) }
     ensures bounded { visits.new ≤ visits.old + (if is_payload_option option.now then length at.now.payload.now + 1 else 0) }
 {
     if !is_payload_option(option) {
-        return Ok(Next::Same);
+        return Ok(NextPlaces::Same);
     }
     if is_test(option) {
         return places_after_test(option, made, at, visits);
@@ -70,31 +70,31 @@ fn cost(option: &Opt, payload: &[u8]) -> u64
 /// The places at which a test holds: an option that leads nowhere but to the place before it.
 fn places_after_test<P: Pattern, L: Ledger>(
     option: &Opt,
-    made: &Made<P>,
-    at: &Asked,
+    made: &MadeOption<P>,
+    at: &AskedPlaces,
     visits: &mut Steps<L>,
-) -> Result<Next, NoMemory>
+) -> Result<NextPlaces, NoMemory>
     requires ready { IsReady option.now made.now }
     requires test { is_test option.now ≡ true }
     ensures after { (every : Bool) → IfOk result (IsNext P.finds option.now made.now at.now every) }
     ensures bounded { visits.new ≤ visits.old + (length at.now.payload.now + 1) }
 {
     if is_relative(option) {
-        return Ok(Next::To(places_after_relative_test(option, made, at, visits)?));
+        return Ok(NextPlaces::To(places_after_relative_test(option, made, at, visits)?));
     }
     visits.tick_by(cost(option, at.payload));
     if test_holds(option, made, at.payload, at.places[0], at.values)? {
-        Ok(Next::Same)
+        Ok(NextPlaces::Same)
     } else {
-        Ok(Next::To(SmallVec::new(at.alloc)))
+        Ok(NextPlaces::To(SmallVec::new(at.alloc)))
     }
 }
 
 /// The places at which a relative test holds. A content is asked from all of them together.
 fn places_after_relative_test<P: Pattern, L: Ledger>(
     option: &Opt,
-    made: &Made<P>,
-    at: &Asked,
+    made: &MadeOption<P>,
+    at: &AskedPlaces,
     visits: &mut Steps<L>,
 ) -> Result<Places, NoMemory>
     requires ready { IsReady option.now made.now }
@@ -104,7 +104,7 @@ fn places_after_relative_test<P: Pattern, L: Ledger>(
     ensures bounded { visits.new ≤ visits.old + length at.now.places.now }
 {
     match (option, made) {
-        (Opt::Content(content), Made::Needle(finder))
+        (Opt::Content(content), MadeOption::Needle(finder))
             if content.bytes.bytes().len() <= at.payload.len() => {
             places_after_negated_content(content, finder, at, visits)
         }
@@ -115,8 +115,8 @@ fn places_after_relative_test<P: Pattern, L: Ledger>(
 /// The places at which a relative test holds, each asked.
 fn places_where_test_holds<P: Pattern, L: Ledger>(
     option: &Opt,
-    made: &Made<P>,
-    at: &Asked,
+    made: &MadeOption<P>,
+    at: &AskedPlaces,
     visits: &mut Steps<L>,
 ) -> Result<Places, NoMemory>
     requires ready { IsReady option.now made.now }
@@ -143,11 +143,11 @@ fn places_where_test_holds<P: Pattern, L: Ledger>(
 /// Where a `content`, a `pcre` or a `byte_jump` leads: to other places.
 fn places_after_move<P: Pattern, L: Ledger>(
     option: &Opt,
-    made: &Made<P>,
-    at: &Asked,
+    made: &MadeOption<P>,
+    at: &AskedPlaces,
     every: bool,
     visits: &mut Steps<L>,
-) -> Result<Next, NoMemory>
+) -> Result<NextPlaces, NoMemory>
     requires ready { IsReady option.now made.now }
     requires plain { is_extract option.now ≡ false }
     requires moves { is_test option.now ≡ false }
@@ -155,19 +155,19 @@ fn places_after_move<P: Pattern, L: Ledger>(
     ensures bounded { visits.new ≤ visits.old + (length at.now.payload.now + 1) }
 {
     match (option, made) {
-        (Opt::Content(content), Made::Needle(finder)) => {
-            Ok(Next::To(places_after_content(content, finder, at, every, visits)?))
+        (Opt::Content(content), MadeOption::Needle(finder)) => {
+            Ok(NextPlaces::To(places_after_content(content, finder, at, every, visits)?))
         }
-        (Opt::Content(_), _) => Ok(Next::Same),
-        _ => Ok(Next::To(places_after_jump(option, made, at, visits)?)),
+        (Opt::Content(_), _) => Ok(NextPlaces::Same),
+        _ => Ok(NextPlaces::To(places_after_jump(option, made, at, visits)?)),
     }
 }
 
 /// Where a `pcre` or a `byte_jump` leads, each place asked.
 fn places_after_jump<P: Pattern, L: Ledger>(
     option: &Opt,
-    made: &Made<P>,
-    at: &Asked,
+    made: &MadeOption<P>,
+    at: &AskedPlaces,
     visits: &mut Steps<L>,
 ) -> Result<Places, NoMemory>
     requires ready { IsReady option.now made.now }
@@ -183,8 +183,8 @@ fn places_after_jump<P: Pattern, L: Ledger>(
 /// relative.
 fn jump_places<P: Pattern, L: Ledger>(
     option: &Opt,
-    made: &Made<P>,
-    at: &Asked,
+    made: &MadeOption<P>,
+    at: &AskedPlaces,
     visits: &mut Steps<L>,
 ) -> Result<Places, NoMemory>
     requires ready { IsReady option.now made.now }

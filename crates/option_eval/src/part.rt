@@ -7,7 +7,7 @@ ghost use Rattle.option_eval.specs.States.{places_at, AreSame, EachState};
 ghost use Rattle.option_eval.specs.Walks.{part_points};
 
 use crate::next::{rising, sorted};
-use crate::states::{State, States};
+use crate::states::{EvalState, States};
 use edge_io::NoMemory;
 use std::alloc::Global;
 
@@ -16,7 +16,7 @@ use std::alloc::Global;
 const PART_STANDINGS: usize = 131_072;
 
 /// The state with each of its places once.
-fn merged(alloc: Global, state: State) -> Result<State, NoMemory>
+fn merged(alloc: Global, state: EvalState) -> Result<EvalState, NoMemory>
     requires small { (p : ℕ) → Contains state.places.items p → p < 2 ^ 63 }
     ensures values { IfOk result (λ merged. merged.values ≡ state.values) }
     ensures same { IfOk result (λ merged. (p : ℕ) → Contains merged.places.items p ↔ Contains state.places.items p) }
@@ -24,7 +24,7 @@ fn merged(alloc: Global, state: State) -> Result<State, NoMemory>
 {
     let values = state.values;
     let places = rising(alloc, sorted(state.places).as_slice())?;
-    Ok(State { values, places })
+    Ok(EvalState { values, places })
 }
 
 /// The states with each of their places once.

@@ -18,10 +18,10 @@ ghost use Rattle.option_eval.specs.Trying.{OfMade, OfFewValues, OfAllValues, IsP
 ghost use Rattle.option_eval.specs.Walks.{MatchesFromOne, ExtractsNothing, HasEachValueList, visits_of, visits_apart, part_points, after_extraction};
 
 use crate::Steps;
-use crate::asked::Asked;
+use crate::asked::AskedPlaces;
 use crate::kind::is_extract;
 use crate::known::{Known, has_free};
-use crate::made::Made;
+use crate::made::MadeOption;
 use crate::part::taken_part;
 use crate::states::States;
 use crate::walk::{AfterExtraction, is_state_walked, is_walked};
@@ -34,7 +34,7 @@ use std::sync::ledger::Ledger;
 pub(crate) fn is_passed<P: Pattern, L: Ledger>(
     alloc: Global,
     options: &[Opt],
-    made: &[Made<P>],
+    made: &[MadeOption<P>],
     payload: &[u8],
     visits: &mut Steps<L>,
 ) -> Result<bool, NoMemory>
@@ -53,7 +53,7 @@ pub(crate) fn is_passed<P: Pattern, L: Ledger>(
         states: States::new(alloc),
         known: Known::nothing(alloc),
     };
-    let at = Asked {
+    let at = AskedPlaces {
         alloc,
         payload,
         places: &[0],
@@ -70,7 +70,7 @@ pub(crate) fn is_passed<P: Pattern, L: Ledger>(
 fn is_passed_after<P: Pattern, L: Ledger>(
     alloc: Global,
     options: &[Opt],
-    made: &[Made<P>],
+    made: &[MadeOption<P>],
     payload: &[u8],
     states: States,
     visits: &mut Steps<L>,
@@ -99,7 +99,7 @@ fn is_passed_after<P: Pattern, L: Ledger>(
 fn is_passed_from<P: Pattern, L: Ledger>(
     alloc: Global,
     options: &[Opt],
-    made: &[Made<P>],
+    made: &[MadeOption<P>],
     payload: &[u8],
     states: States,
     visits: &mut Steps<L>,
@@ -140,7 +140,7 @@ fn is_passed_from<P: Pattern, L: Ledger>(
 fn is_part_passed<P: Pattern, L: Ledger>(
     alloc: Global,
     options: &[Opt],
-    made: &[Made<P>],
+    made: &[MadeOption<P>],
     payload: &[u8],
     states: &mut States,
     visits: &mut Steps<L>,
@@ -183,8 +183,8 @@ fn nothing_known(alloc: Global, states: &States, options: &[Opt]) -> Result<Know
 /// The options after the first that extracts a value, and what was made of them.
 fn after_extraction<'a, 'b, P>(
     options: &'a [Opt],
-    made: &'b [Made<P>],
-) -> Option<(&'a [Opt], &'b [Made<P>])>
+    made: &'b [MadeOption<P>],
+) -> Option<(&'a [Opt], &'b [MadeOption<P>])>
     requires ready { AllZip IsReady options.now made.now }
     ensures none { IfNone result (ExtractsNothing options.now) }
     ensures some { IfSome result (λ after. ¬ ExtractsNothing options.now) }

@@ -9,7 +9,7 @@ ghost use Rattle.option_eval.specs.Values.{most_visits};
 ghost use Rattle.option_eval.specs.Walks.{ExtractsNothing, HasEachValueList, visits_of, visits_apart};
 
 use crate::Steps;
-use crate::made::Made;
+use crate::made::MadeOption;
 use crate::making::{PushFault, make_all};
 use crate::passing::is_passed;
 use edge_io::{NoMemory, Pattern, PatternMaker};
@@ -22,7 +22,7 @@ use std::sync::ledger::Ledger;
 #[derive(Drop)]
 pub struct RuleSet<P> {
     rules: Vec<Rule>,
-    made: Vec<Vec<Made<P>>>,
+    made: Vec<Vec<MadeOption<P>>>,
 }
 
 impl<P> Model for RuleSet<P> {
@@ -55,7 +55,7 @@ impl<P> RuleSet<P> {
     }
 
     /// Appends a rule with what serves its options.
-    fn append(&mut self, rule: Rule, made: Vec<Made<P>>) -> Result<(), PushFault>
+    fn append(&mut self, rule: Rule, made: Vec<MadeOption<P>>) -> Result<(), PushFault>
     where
         P: Drop,
         requires { AllZip IsReady rule.opts made.items }

@@ -4,7 +4,7 @@ ghost use Rattle.std.specs.Prelude.{◌≡◌, ℕ, ◌+◌, ◌++◌, [], ◌�
 ghost use Rattle.option_eval.specs.States.{map_at};
 
 use crate::fetch::Values;
-use crate::states::State;
+use crate::states::EvalState;
 use crate::sweep::Places;
 use edge_io::NoMemory;
 use smallvec::SmallVec;
@@ -21,7 +21,7 @@ pub(crate) struct StateMap {
 impl StateMap {
     /// One state.
     #[tactic(auto, unfolding(crate::specs::States::map_at))]
-    pub fn of(alloc: Global, state: State) -> Result<StateMap, NoMemory>
+    pub fn of(alloc: Global, state: EvalState) -> Result<StateMap, NoMemory>
         ensures { IfOk result (λ map. (other : List ℕ) → map_at map other
             ≡ (if bytes_eq state.values other then Some state.places.items else None)) }
     {
@@ -57,7 +57,7 @@ impl StateMap {
 
     /// Adds a state, in place of any of the same values.
     #[tactic(auto, unfolding(crate::specs::States::map_at))]
-    pub fn put(&mut self, state: State) -> Result<(), NoMemory>
+    pub fn put(&mut self, state: EvalState) -> Result<(), NoMemory>
         ensures { OnOk result ((other : List ℕ) → map_at self.new other
             ≡ (if bytes_eq state.values other then Some state.places.items else map_at self.old other)) }
     {
@@ -67,7 +67,7 @@ impl StateMap {
 
     /// Takes the state with the least values out.
     #[tactic(auto, unfolding(crate::specs::States::map_at))]
-    pub fn take_first(&mut self) -> Option<State>
+    pub fn take_first(&mut self) -> Option<EvalState>
         ensures taken { IfSome result (λ state. map_at self.old state.values ≡ Some state.places.items) }
         ensures left { IfSome result (λ state. (other : List ℕ) → map_at self.new other
             ≡ (if bytes_eq state.values other then None else map_at self.old other)) }
@@ -75,6 +75,6 @@ impl StateMap {
         ensures empty { IfNone result ((values : List ℕ) → map_at self.old values ≡ None) }
     {
         let (values, places) = self.places.pop_first()?;
-        Some(State { values, places })
+        Some(EvalState { values, places })
     }
 }

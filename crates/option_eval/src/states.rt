@@ -12,7 +12,7 @@ use std::alloc::Global;
 
 /// Extracted values, and the places where ways through the options so far end with them.
 #[derive(Drop)]
-pub(crate) struct State {
+pub(crate) struct EvalState {
     pub values: Values,
     /// The places, in any order, and perhaps more than once.
     pub places: Places,
@@ -22,55 +22,60 @@ pub(crate) struct State {
 #[derive(Drop)]
 pub(crate) struct States {
     alloc: Global,
-    held: Held,
+    held: HeldStates,
     /// How many places were added; one that was added again counts again.
     place_count: usize,
 }
 
 /// A state alone needs no map: most extractions give one value list.
 #[derive(Drop)]
-enum Held {
+enum HeldStates {
     Nothing,
-    One(State),
+    One(EvalState),
     Many(StateMap),
 }
 
 /// The state of one place.
-fn state_of(alloc: Global, values: Values, place: usize) -> Result<State, NoMemory>
+fn state_of(alloc: Global, values: Values, place: usize) -> Result<EvalState, NoMemory>
     ensures values { IfOk result (λ state. state.values ≡ values) }
     ensures places { IfOk result (λ state. state.places.items ≡ place ∷ []) }
 {
     let mut places = SmallVec::new(alloc);
     places.push(place)?;
-    Ok(State { values, places })
+    Ok(EvalState { values, places })
 }
 
 /// The states, with a place more in that of these values.
-fn with_place(alloc: Global, held: Held, values: Values, place: usize) -> Result<Held, NoMemory>
+fn with_place(
+    alloc: Global,
+    held: HeldStates,
+    values: Values,
+    place: usize,
+) -> Result<HeldStates, NoMemory>
     ensures { IfOk result (λ new. (other : List ℕ) → held_at new other
         ≡ (if bytes_eq values other then Some (unwrap_or (held_at held values) [] ++ place ∷ []) else held_at held other)) }
 {
     let mut map = match held {
-        Held::Nothing => return Ok(Held::One(state_of(alloc, values, place)?)),
-        Held::One(state) => StateMap::of(alloc, state)?,
-        Held::Many(map) => map,
+        HeldStates::Nothing => return Ok(HeldStates::One(state_of(alloc, values, place)?)),
+        HeldStates::One(state) => StateMap::of(alloc, state)?,
+        HeldStates::Many(map) => map,
     };
     map.add(values, place)?;
-    Ok(Held::Many(map))
+    Ok(HeldStates::Many(map))
 }
 
 /// The states, and another one in place of any of the same values.
-fn with_state(alloc: Global, held: Held, state: State) -> Result<Held, NoMemory>
+fn with_state(alloc: Global, held: HeldStates, state: EvalState) -> Result<HeldStates, NoMemory>
     ensures { IfOk result (λ new. (other : List ℕ) → held_at new other
         ≡ (if bytes_eq state.values other then Some state.places.items else held_at held other)) }
 {
     let mut map = match held {
-        Held::Nothing => return Ok(Held::One(state)),
-        Held::One(first) => StateMap::of(alloc, first)?,
-        Held::Many(map) => map,
+        HeldStates::Nothing => return Ok(HeldStates::One(state)),
+        HeldStates::One(first) => StateMap::of(alloc, first)?,
+        HeldStates::Many(map) => map,
     };
     map.put(state)?;
-    Ok(Held::Many(map))
+    Ok(HeldStates::Many(map))
 }
 
 impl States {
@@ -82,7 +87,7 @@ impl States {
     {
         States {
             alloc,
-            held: Held::Nothing,
+            held: HeldStates::Nothing,
             place_count: 0,
         }
     }
@@ -96,7 +101,7 @@ impl States {
 
     /// Whether there is more than one state.
     pub fn are_many(&self) -> bool {
-        matches!(&self.held, Held::Many(_))
+        matches!(&self.held, HeldStates::Many(_))
     }
 
     /// Adds a place to the state of these values.
@@ -107,10 +112,10 @@ impl States {
             else places_at self.old other)) }
     {
         self.place_count = self.place_count.saturating_add(1);
-        if let Held::Many(map) = &mut self.held {
+        if let HeldStates::Many(map) = &mut self.held {
             return map.add(values, place);
         }
-        if let Held::One(state) = &mut self.held {
+        if let HeldStates::One(state) = &mut self.held {
             if state.values == values {
                 state.places.push(place)?;
                 return Ok(());
@@ -126,39 +131,39 @@ impl States {
             ≡ (if bytes_eq values other then Some (unwrap_or (places_at self.old values) [] ++ place ∷ [])
             else places_at self.old other)) }
     {
-        let held = std::mem::replace(&mut self.held, Held::Nothing);
+        let held = std::mem::replace(&mut self.held, HeldStates::Nothing);
         self.held = with_place(self.alloc, held, values, place)?;
         Ok(())
     }
 
     /// Adds a state, in place of any of the same values.
     #[tactic(auto, unfolding(crate::specs::States::places_at))]
-    pub fn put(&mut self, state: State) -> Result<(), NoMemory>
+    pub fn put(&mut self, state: EvalState) -> Result<(), NoMemory>
         ensures put { OnOk result ((other : List ℕ) → places_at self.new other
             ≡ (if bytes_eq state.values other then Some state.places.items else places_at self.old other)) }
         ensures counted { OnOk result (self.new.place_count ≤ self.old.place_count + length state.places.items) }
     {
         self.place_count = self.place_count.saturating_add(state.places.len());
-        let held = std::mem::replace(&mut self.held, Held::Nothing);
+        let held = std::mem::replace(&mut self.held, HeldStates::Nothing);
         self.held = with_state(self.alloc, held, state)?;
         Ok(())
     }
 
     /// Takes a state out.
     #[tactic(auto, unfolding(crate::specs::States::places_at, crate::specs::States::state_count))]
-    pub fn take_first(&mut self) -> Option<State>
+    pub fn take_first(&mut self) -> Option<EvalState>
         ensures taken { IfSome result (λ state. places_at self.old state.values ≡ Some state.places.items) }
         ensures left { IfSome result (λ state. (other : List ℕ) → places_at self.new other
             ≡ (if bytes_eq state.values other then None else places_at self.old other)) }
         ensures fewer { IfSome result (λ state. state_count self.new + 1 ≡ state_count self.old) }
         ensures empty { IfNone result ((values : List ℕ) → places_at self.old values ≡ None) }
     {
-        match std::mem::replace(&mut self.held, Held::Nothing) {
-            Held::Nothing => None,
-            Held::One(state) => Some(state),
-            Held::Many(mut map) => {
+        match std::mem::replace(&mut self.held, HeldStates::Nothing) {
+            HeldStates::Nothing => None,
+            HeldStates::One(state) => Some(state),
+            HeldStates::Many(mut map) => {
                 let state = map.take_first()?;
-                self.held = Held::Many(map);
+                self.held = HeldStates::Many(map);
                 Some(state)
             }
         }

@@ -13,13 +13,13 @@ ghost use Rattle.option_eval.specs.Trying.{OfMade, IsWalked, beginning};
 ghost use Rattle.option_eval.specs.Walks.{ExtractsNothing, visits_of, upto_extraction};
 
 use crate::Steps;
-use crate::asked::Asked;
+use crate::asked::AskedPlaces;
 use crate::extract::Extraction;
 use crate::kept::names_read;
 use crate::known::{Known, next_known};
-use crate::made::Made;
-use crate::next::{Next, rising, sorted};
-use crate::states::{State, States};
+use crate::made::MadeOption;
+use crate::next::{NextPlaces, rising, sorted};
+use crate::states::{EvalState, States};
 use edge_io::{NoMemory, Pattern};
 use rule_types::Opt;
 use std::alloc::Global;
@@ -38,9 +38,9 @@ pub(crate) struct AfterExtraction {
 pub(crate) fn is_state_walked<P: Pattern, L: Ledger>(
     alloc: Global,
     options: &[Opt],
-    made: &[Made<P>],
+    made: &[MadeOption<P>],
     payload: &[u8],
-    state: State,
+    state: EvalState,
     after: &mut AfterExtraction,
     visits: &mut Steps<L>,
 ) -> Result<bool, NoMemory>
@@ -64,7 +64,7 @@ pub(crate) fn is_state_walked<P: Pattern, L: Ledger>(
     if places.is_empty() {
         return Ok(false);
     }
-    let at = Asked {
+    let at = AskedPlaces {
         alloc,
         payload,
         places: places.as_slice(),
@@ -77,8 +77,8 @@ pub(crate) fn is_state_walked<P: Pattern, L: Ledger>(
 #[cycle(walk)]
 pub(crate) fn is_walked<P: Pattern, L: Ledger>(
     options: &[Opt],
-    made: &[Made<P>],
-    at: &Asked,
+    made: &[MadeOption<P>],
+    at: &AskedPlaces,
     after: &mut AfterExtraction,
     visits: &mut Steps<L>,
 ) -> Result<bool, NoMemory>
@@ -130,10 +130,10 @@ pub(crate) fn is_walked<P: Pattern, L: Ledger>(
 /// Whether a way leads through the options that follow from the places after an option.
 #[cycle(walk)]
 fn is_walked_from<P: Pattern, L: Ledger>(
-    next: &Next,
+    next: &NextPlaces,
     options: &[Opt],
-    made: &[Made<P>],
-    at: &Asked,
+    made: &[MadeOption<P>],
+    at: &AskedPlaces,
     after: &mut AfterExtraction,
     visits: &mut Steps<L>,
 ) -> Result<bool, NoMemory>
@@ -156,12 +156,12 @@ fn is_walked_from<P: Pattern, L: Ledger>(
         after.old.known after.new.known) }
 {
     match next {
-        Next::Same => is_walked(options, made, at, after, visits),
-        Next::To(next) => {
+        NextPlaces::Same => is_walked(options, made, at, after, visits),
+        NextPlaces::To(next) => {
             if next.is_empty() {
                 return Ok(false);
             }
-            let there = Asked {
+            let there = AskedPlaces {
                 alloc: at.alloc,
                 payload: at.payload,
                 places: next.as_slice(),

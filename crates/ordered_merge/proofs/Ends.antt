@@ -6,7 +6,7 @@ use Rattle.std.specs.List.{AllWithin}
 use Rattle.std.specs.List.Sorted.{IsPermutation}
 use Rattle.std.proofs.lemmas.List.{append-nil, get_or_at}
 use Rattle.std.proofs.lemmas.List.Elements.{All-from_all_within, All-nil, AllWithin-more, at_read}
-use Rattle.ordered_merge.specs.declared.greatest.End.{End}
+use Rattle.ordered_merge.specs.declared.greatest.PartEnd.{PartEnd}
 use Rattle.ordered_merge.specs.declared.numbered.Numbered.{Numbered}
 use Rattle.ordered_merge.specs.Merging.{Ascends, joined}
 use Rattle.ordered_merge.specs.Greatest.{AtMost, EndsIn, GreatestUpTo, IsGreatest}
@@ -18,7 +18,7 @@ AtMost-empty number entries is = rw is (All-nil (λ entry. entry.number ≤ numb
 
 -- an empty part changes nothing
 pub GreatestUpTo-empty : {T A : Type 0} (parts : List (Vec (Numbered T) A)) (at : ℕ) (part : Vec (Numbered T) A)
-    (greatest : Option End)
+    (greatest : Option PartEnd)
     → GreatestUpTo parts at greatest
     → at < length parts
     → part ≡ get_or parts at part
@@ -36,7 +36,7 @@ GreatestUpTo-empty parts at part (Some end) so_far within is empty = record {
 
 -- a part that ends in no greater number changes nothing
 pub GreatestUpTo-keeps : {T A : Type 0} (parts : List (Vec (Numbered T) A)) (at number : ℕ) (part : Vec (Numbered T) A)
-    (greatest : Option End)
+    (greatest : Option PartEnd)
     → GreatestUpTo parts at greatest
     → at < length parts
     → part ≡ get_or parts at part
@@ -55,7 +55,7 @@ GreatestUpTo-keeps parts at number part (Some end) so_far within is up ends belo
 }
 
 -- every part so far is at most a number that is greater than the greatest
-AtMost-before : {T A : Type 0} (parts : List (Vec (Numbered T) A)) (at number : ℕ) (greatest : Option End)
+AtMost-before : {T A : Type 0} (parts : List (Vec (Numbered T) A)) (at number : ℕ) (greatest : Option PartEnd)
     → GreatestUpTo parts at greatest
     → IfSome greatest (λ end. end.number < number)
     → AllWithin (λ part. AtMost number part.items) parts 0 at
@@ -64,7 +64,7 @@ AtMost-before parts at number (Some end) so_far above k d low high = λ i e insi
 
 -- a part that ends in a greater number is the greatest
 pub GreatestUpTo-takes : {T A : Type 0} (parts : List (Vec (Numbered T) A)) (at number : ℕ) (part : Vec (Numbered T) A)
-    (greatest : Option End)
+    (greatest : Option PartEnd)
     → GreatestUpTo parts at greatest
     → at < length parts
     → part ≡ get_or parts at part
@@ -97,7 +97,7 @@ popped parts at had left (Some entry) within is items =
     IsPermutation-popped parts at left had entry within (ap (λ (part : Vec _ _). part.items) (sym is) ∙ items)
 
 -- the last entry of the part with the greatest end is above all entries
-pub popped_greatest : {T A : Type 0} (parts : List (Vec (Numbered T) A)) (end : End) (had left : Vec (Numbered T) A)
+pub popped_greatest : {T A : Type 0} (parts : List (Vec (Numbered T) A)) (end : PartEnd) (had left : Vec (Numbered T) A)
     (taken : Option (Numbered T))
     → IsGreatest parts (length parts) end
     → had ≡ get_or parts end.at had

@@ -9,7 +9,7 @@ use crate::Numbered;
 
 /// The end of a part: which part it is, and the number of its last entry.
 #[derive(Clone, Copy)]
-struct End {
+struct PartEnd {
     at: usize,
     number: u64,
 }
@@ -22,14 +22,14 @@ fn last_number<T>(part: &Vec<Numbered<T>>) -> Option<u64>
 }
 
 /// Whether a number is greater than the greatest so far, or the first.
-fn exceeds(number: u64, greatest: Option<End>) -> bool
+fn exceeds(number: u64, greatest: Option<PartEnd>) -> bool
     ensures { IsTrue result ↔ IfSome greatest (λ end. end.number < number) }
 {
     greatest.is_none_or(|end| end.number < number)
 }
 
 /// The end with the greatest number. None where every part is empty.
-fn greatest_end<T>(parts: &[Vec<Numbered<T>>]) -> Option<End>
+fn greatest_end<T>(parts: &[Vec<Numbered<T>>]) -> Option<PartEnd>
     requires { All (λ part. Ascends part.items) parts.now }
     ensures { GreatestUpTo parts.now (length parts.now) result }
 {
@@ -37,7 +37,7 @@ fn greatest_end<T>(parts: &[Vec<Numbered<T>>]) -> Option<End>
     for (at, part) in parts.iter().enumerate() {
         if let Some(number) = last_number(part) {
             if exceeds(number, greatest) {
-                greatest = Some(End { at, number });
+                greatest = Some(PartEnd { at, number });
             }
         }
     }

@@ -18,7 +18,7 @@ use Rattle.packet_decode.specs.declared.version.IpVersion.{IpVersion}
 use Rattle.packet_decode.specs.declared.version.IpVersion.TheVariants.{Four, Six}
 use Rattle.packet_decode.specs.declared.skip.Skip.{Skip}
 use Rattle.packet_decode.specs.declared.skip.Skip.TheVariants.{Short, OtherProtocol, Checksum, Malformed}
-use Rattle.packet_decode.specs.declared.ipv4.Bounds.{Bounds}
+use Rattle.packet_decode.specs.declared.ipv4.DataBounds.{DataBounds}
 use Rattle.packet_decode.specs.declared.packet.IpHead.{IpHead}
 use Rattle.packet_decode.specs.declared.packet.TcpHead.{TcpHead}
 use Rattle.packet_decode.specs.declared.packet.Body.{Body}
@@ -86,7 +86,7 @@ link_start version RawIp bytes =
 -- Where the data of the IPv4 datagram at `start` starts and stops, by the header length, which
 -- counts units of 4 bytes, and by the total length (RFC 791, section 3.1). The header isn't longer
 -- than the total, so it is captured where the total is.
-unfoldable pub data_bounds : List ℕ → ℕ → Result Bounds Skip
+unfoldable pub data_bounds : List ℕ → ℕ → Result DataBounds Skip
 data_bounds bytes start =
     if nat_lt (length bytes) (start + 20) then Err Short
     else (let version = byte_at bytes start / 16 in
@@ -188,7 +188,7 @@ transport_at ip bytes start stop checks =
 
 -- What the IPv4 datagram at `start` says, whose data have these bounds: the header's checksum is
 -- looked at first, and a fragment has no transport header of its own.
-unfoldable pub datagram_at : List ℕ → ℕ → Bounds → Checks → Result Fields Skip
+unfoldable pub datagram_at : List ℕ → ℕ → DataBounds → Checks → Result Fields Skip
 datagram_at bytes start bounds checks =
     let ip = ip_head_at bytes start in
     if checks.ip && not (is_all_ones (word_sum (slice bytes start bounds.start))) then Err Checksum

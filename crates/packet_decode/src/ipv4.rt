@@ -19,14 +19,14 @@ const OFFSET: u16 = 0x1fff;
 
 /// Where the data of a datagram start and stop in their record.
 #[derive(Clone, Copy, Debug)]
-pub struct Bounds {
+pub struct DataBounds {
     pub start: usize,
     pub stop: usize,
 }
 
 /// The bounds of the data of the IPv4 datagram at `start`.
 #[tactic(auto, unfolding(crate::specs::Decoding::data_bounds))]
-pub fn data_bounds(bytes: &[u8], start: usize) -> Result<Bounds, Skip>
+pub fn data_bounds(bytes: &[u8], start: usize) -> Result<DataBounds, Skip>
     requires { start ≤ length bytes.now }
     ensures exact { result ≡ data_bounds bytes.now start }
     ensures has_header { IfOk result (λ bounds. start + 20 ≤ bounds.start) }
@@ -46,7 +46,7 @@ pub fn data_bounds(bytes: &[u8], start: usize) -> Result<Bounds, Skip>
     if bytes.len() < start + total_len {
         return Err(Skip::Short);
     }
-    Ok(Bounds {
+    Ok(DataBounds {
         start: start + header_len,
         stop: start + total_len,
     })

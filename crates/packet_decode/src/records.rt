@@ -4,14 +4,19 @@ ghost use Rattle.std.specs.Result.{result_err};
 ghost use Rattle.packet_decode.specs.Decoding.{seen, placed, transport_at, datagram_at, decoded};
 
 use crate::checksum::is_header_right;
-use crate::ipv4::{Bounds, data_bounds, ip_head, is_fragment};
+use crate::ipv4::{DataBounds, data_bounds, ip_head, is_fragment};
 use crate::start::link_start;
 use crate::transport::transport;
 use crate::{Body, Checks, IpVersion, Packet, Placed, Skip};
 use edge_io::Link;
 
 /// The data of a datagram that is no fragment, between these bounds; its head is in `out`.
-fn datagram_data(bytes: &[u8], bounds: Bounds, checks: Checks, out: &mut Placed) -> Result<(), Skip>
+fn datagram_data(
+    bytes: &[u8],
+    bounds: DataBounds,
+    checks: Checks,
+    out: &mut Placed,
+) -> Result<(), Skip>
     requires in_order { bounds.start ≤ bounds.stop }
     requires captured { bounds.stop ≤ length bytes.now }
     ensures told { placed bytes.now (result_err result) out.new
@@ -29,7 +34,7 @@ fn datagram_data(bytes: &[u8], bounds: Bounds, checks: Checks, out: &mut Placed)
 fn datagram(
     bytes: &[u8],
     start: usize,
-    bounds: Bounds,
+    bounds: DataBounds,
     checks: Checks,
     out: &mut Placed,
 ) -> Result<(), Skip>

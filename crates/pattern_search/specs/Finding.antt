@@ -6,7 +6,7 @@
 use Rattle.std.specs.Prelude.{◌≡◌, ℕ, ◌+◌, ◌-◌, ◌*◌, ◌/◌, ◌%◌, ◌<◌, ◌≤◌, Bool, true, false, ◌&&◌, ◌||◌, List, length, map, take, nat_lt, slice_index, IfSome}
 use Rattle.std.specs.List.Sorted.{IsPermutation}
 use Rattle.pattern_search.specs.declared.automaton.Automaton.{Automaton}
-use Rattle.pattern_search.specs.declared.seen.Seen.{Seen}
+use Rattle.pattern_search.specs.declared.seen.MarkSet.{MarkSet}
 use Rattle.pattern_search.specs.Letters.{AllTold}
 use Rattle.pattern_search.specs.Marking.{is_marked}
 use Rattle.pattern_search.specs.Occurring.{numbers, occurring}
@@ -20,7 +20,7 @@ unfoldable pub is_ended : List (List ℕ) → List ℕ → ℕ → Bool
 is_ended patterns read place = nat_lt 0 (length (word_at patterns place)) && has_ended (word_at patterns place) read
 
 -- where a pattern is marked, those that it ends in are
-abbrev pub IsClosedUnder : List (List ℕ) → Seen → Type 0
+abbrev pub IsClosedUnder : List (List ℕ) → MarkSet → Type 0
 IsClosedUnder patterns seen = (one other : ℕ) → one < length patterns → other < length patterns → is_marked seen other ≡ true
     → 0 < length (word_at patterns one) → begins (word_at patterns one) (word_at patterns other) ≡ true
     → is_marked seen one ≡ true
@@ -35,7 +35,8 @@ abbrev pub MayBegin : List (List ℕ) → ℕ → Type 0
 MayBegin patterns head = (head ≤ length patterns) × (0 < head → 0 < length (word_at patterns (head - 1)))
 
 -- a chain's patterns were marked, and those that weren't marked before listed
-pub record Follows (nexts : List ℕ) (head : ℕ) (old : Seen) (old_hits : List ℕ) (new : Seen) (new_hits : List ℕ) : Type 0 where
+pub record Follows (nexts : List ℕ) (head : ℕ) (old : MarkSet) (old_hits : List ℕ) (new : MarkSet)
+    (new_hits : List ℕ) : Type 0 where
   pub marked : (patterns : List (List ℕ)) → length patterns ≡ length nexts → AreChained patterns nexts
       → IsClosedUnder patterns old → MayBegin patterns head
       → (place : ℕ) → place < length patterns → is_marked new place ≡ (is_marked old place || is_left patterns head place)
@@ -43,7 +44,7 @@ pub record Follows (nexts : List ℕ) (head : ℕ) (old : Seen) (old_hits : List
       → IsPermutation (numbers (is_marked new) 0 (length nexts)) new_hits
 
 -- a chain's patterns are being marked and listed: those of the chain from a place on are left
-pub record IsFollowing (nexts : List ℕ) (head : ℕ) (old : Seen) (old_hits : List ℕ) (at : ℕ) (new : Seen)
+pub record IsFollowing (nexts : List ℕ) (head : ℕ) (old : MarkSet) (old_hits : List ℕ) (at : ℕ) (new : MarkSet)
     (new_hits : List ℕ) : Type 0 where
   pub begins : (patterns : List (List ℕ)) → length patterns ≡ length nexts → AreChained patterns nexts → MayBegin patterns head
       → MayBegin patterns at
@@ -87,15 +88,15 @@ pub record Finds (automaton : Automaton) (patterns : List (List ℕ)) : Type 0 w
 
 -- what was found so far: patterns that are marked, and those that are listed
 pub record Found : Type 0 where
-  pub seen : Seen
+  pub seen : MarkSet
   pub hits : List ℕ
 
-abbrev pub so_far : Seen → List ℕ → Found
+abbrev pub so_far : MarkSet → List ℕ → Found
 so_far seen hits = record { seen = seen; hits = hits }
 
 -- after what was read, before which some patterns were marked, the walk is at a state's row, and has marked and listed
 -- what has ended
-pub record IsWalked (automaton : Automaton) (patterns words : List (List ℕ)) (read : List ℕ) (at : ℕ) (old : Seen)
+pub record IsWalked (automaton : Automaton) (patterns words : List (List ℕ)) (read : List ℕ) (at : ℕ) (old : MarkSet)
     (new : Found) : Type 0 where
   pub state : ℕ
   pub within : state < length words
@@ -117,7 +118,7 @@ pub record StepsBack (automaton : Automaton) (state letter entry : ℕ) : Type 0
       → letter < automaton.trie.width → HasEntry finds.words automaton.entries.items state letter entry
 
 -- whatever the patterns are that the automaton finds, the walk is right so far
-pub record Walks (automaton : Automaton) (read : List ℕ) (at : ℕ) (old : Seen) (old_hits : List ℕ) (seen : Seen)
+pub record Walks (automaton : Automaton) (read : List ℕ) (at : ℕ) (old : MarkSet) (old_hits : List ℕ) (seen : MarkSet)
     (hits : List ℕ) : Type 0 where
   pub walked : (patterns : List (List ℕ)) (finds : Finds automaton patterns)
       → IsClosedUnder (words_in automaton.letters patterns) old
@@ -125,7 +126,7 @@ pub record Walks (automaton : Automaton) (read : List ℕ) (at : ℕ) (old : See
       → IsWalked automaton (words_in automaton.letters patterns) finds.words read at old (so_far seen hits)
 
 -- no pattern but such as occur is marked, and each one is that begins before a place, wherever it ends
-pub record IsCovered (letters : List ℕ) (patterns : List (List ℕ)) (bytes : List ℕ) (done : ℕ) (seen : Seen)
+pub record IsCovered (letters : List ℕ) (patterns : List (List ℕ)) (bytes : List ℕ) (done : ℕ) (seen : MarkSet)
     (hits : List ℕ) : Type 0 where
   pub sound : (place : ℕ) → place < length patterns → is_marked seen place ≡ true
       → is_ended patterns (word_of letters bytes) place ≡ true
@@ -136,7 +137,7 @@ pub record IsCovered (letters : List ℕ) (patterns : List (List ℕ)) (bytes : 
   pub listed : IsPermutation (numbers (is_marked seen) 0 (length patterns)) hits
 
 -- whatever patterns the automaton finds, none is marked but such as occur, and each one is that begins before a place
-pub record Covers (automaton : Automaton) (bytes : List ℕ) (done : ℕ) (seen : Seen) (hits : List ℕ) : Type 0 where
+pub record Covers (automaton : Automaton) (bytes : List ℕ) (done : ℕ) (seen : MarkSet) (hits : List ℕ) : Type 0 where
   pub covered : (patterns : List (List ℕ)) → Finds automaton patterns
       → IsCovered automaton.letters (words_in automaton.letters patterns) bytes done seen hits
 
@@ -145,7 +146,8 @@ pub record CoversOn (automaton : Automaton) (bytes : List ℕ) (from : ℕ) (old
   pub on : Covers automaton bytes from old.seen old.hits → Covers automaton bytes to new.seen new.hits
 
 -- the chain of a state was marked and listed
-pub record Marks (automaton : Automaton) (at : ℕ) (old : Seen) (old_hits : List ℕ) (new : Seen) (new_hits : List ℕ) : Type 0 where
+pub record Marks (automaton : Automaton) (at : ℕ) (old : MarkSet) (old_hits : List ℕ) (new : MarkSet)
+    (new_hits : List ℕ) : Type 0 where
   pub marked : (patterns : List (List ℕ)) → 0 < automaton.trie.width → length patterns ≡ length automaton.nexts.items
       → AreChained patterns automaton.nexts.items → IsClosedUnder patterns old
       → MayBegin patterns (slice_index automaton.heads.items (state_of automaton.trie.width at))
@@ -163,7 +165,7 @@ pub record AreFound (automaton : Automaton) (text found : List ℕ) : Type 0 whe
   pub told : (patterns : List (List ℕ)) → Finds automaton patterns → found ≡ occurring patterns text
 
 -- a move was noted: the chain of the state that it goes to, if it says that a pattern ends there
-pub record Notes (automaton : Automaton) (entry : ℕ) (old : Seen) (old_hits : List ℕ) (new : Seen)
+pub record Notes (automaton : Automaton) (entry : ℕ) (old : MarkSet) (old_hits : List ℕ) (new : MarkSet)
     (new_hits : List ℕ) : Type 0 where
   pub marked : (patterns : List (List ℕ)) (head : ℕ) → 0 < automaton.trie.width → length patterns ≡ length automaton.nexts.items
       → AreChained patterns automaton.nexts.items → IsClosedUnder patterns old → MayBegin patterns head

@@ -4,8 +4,8 @@
 use Rattle.std.specs.Prelude.{ℕ, Bool}
 use Rattle.std.specs.Ordering.{nat_cmp}
 use Rattle.std.specs.BTreeSet.{contains}
-use Rattle.pattern_search.specs.declared.seen.Seen.{Seen}
+use Rattle.pattern_search.specs.declared.seen.MarkSet.{MarkSet}
 
 -- the place is marked
-unfoldable pub is_marked : Seen → ℕ → Bool
+unfoldable pub is_marked : MarkSet → ℕ → Bool
 is_marked seen place = contains nat_cmp seen.places place

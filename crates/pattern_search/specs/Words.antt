@@ -5,7 +5,7 @@
 -- To try it on: after the letters h, s, h, e the words `he` and `she` have ended, `his` hasn't; as lists
 -- they are e h, e h s and s i h, and what was read is e h s h.
 use Rattle.std.specs.Prelude.{◌≡◌, ℕ, ◌+◌, ◌-◌, ◌<◌, ◌≤◌, ◌==◌, Bool, true, false, ◌&&◌, ◌||◌, ◌⊎◌, List, [], ◌∷◌, ◌++◌, length, map, reverse, slice_index, slice_index_or}
-use Rattle.pattern_search.specs.declared.trie.Step.{Step}
+use Rattle.pattern_search.specs.declared.trie.TrieState.{TrieState}
 use Rattle.pattern_search.specs.declared.trie.Trie.{Trie}
 
 -- the list begins with the word
@@ -43,12 +43,12 @@ pub record IsFail (words : List (List ℕ)) (word fail : List ℕ) : Type 0 wher
       → begins (word_at words state) word ≡ begins (word_at words state) fail
 
 -- the words of a trie: each is an earlier word with a letter after it, and follows the words that there are
-unfoldable pub words_from : List (List ℕ) → List Step → List (List ℕ)
+unfoldable pub words_from : List (List ℕ) → List TrieState → List (List ℕ)
 words_from words [] = words
 words_from words (step ∷ steps) = words_from (words ++ (step.by ∷ word_at words step.up) ∷ []) steps
 
 -- the words of a trie: the empty one first
-abbrev pub words_of : List Step → List (List ℕ)
+abbrev pub words_of : List TrieState → List (List ℕ)
 words_of steps = words_from ([] ∷ []) steps
 
 -- which word is longer by a letter: none, where the number is 0
@@ -58,11 +58,11 @@ pub record IsChild (words : List (List ℕ)) (state letter child : ℕ) : Type 0
   pub grown : 0 < child → word_at words child ≡ letter ∷ word_at words state
 
 -- the step with this number: that of the state with the next one, for the empty word has none
-abbrev pub step_at : List Step → ℕ → Step
+abbrev pub step_at : List TrieState → ℕ → TrieState
 step_at steps number = slice_index_or steps number (record { up = 0; by = 0; same = 0 })
 
 -- of the states up to a number the last that is a state's with a letter after it; 0 where there is none
-pub record IsLastChild (steps : List Step) (upto state child : ℕ) : Type 0 where
+pub record IsLastChild (steps : List TrieState) (upto state child : ℕ) : Type 0 where
   pub within : child ≤ upto
   pub own : 0 < child → (step_at steps (child - 1)).up ≡ state
   pub greatest : (number : ℕ) → number < upto → (step_at steps number).up ≡ state → number < child
@@ -114,7 +114,7 @@ pub record AreChildren (trie : Trie) (state : ℕ) (children : List ℕ) : Type 
   pub each : (letter : ℕ) → letter < trie.width → FindsChild trie state letter (slice_index children letter)
 
 -- the state is still sought among those up to a number that are another's with a letter after it
-pub record IsSought (steps : List Step) (state letter at : ℕ) : Type 0 where
+pub record IsSought (steps : List TrieState) (state letter at : ℕ) : Type 0 where
   pub within : at ≤ length steps
   pub own : 0 < at → (step_at steps (at - 1)).up ≡ state
   pub rest : (number : ℕ) → number < length steps → (step_at steps number).up ≡ state → (step_at steps number).by ≡ letter

@@ -13,7 +13,7 @@ use crate::moves::reach;
 use crate::numbers::read;
 use crate::owned::Owned;
 use crate::rows::{FEW_LETTERS, Rows, SPARSE, shallow_bound};
-use crate::seen::Seen;
+use crate::seen::MarkSet;
 use crate::sieve::Sieve;
 use crate::trie::{Trie, place};
 use edge_io::{NoMemory, Text};
@@ -46,7 +46,7 @@ pub struct Automaton {
 }
 
 /// Marks a place below a count, and answers whether it is one that wasn't marked before.
-fn mark(seen: &mut Seen, count: usize, at: u32) -> Result<bool, AllocError>
+fn mark(seen: &mut MarkSet, count: usize, at: u32) -> Result<bool, AllocError>
     ensures answer { IfOk result (λ fresh. fresh ≡ (nat_lt at count && not (is_marked seen.old at))) }
     ensures marked { IfOk result (λ fresh. (place : ℕ)
         → is_marked seen.new place ≡ (is_marked seen.old place || (fresh && (place == at)))) }
@@ -60,7 +60,12 @@ fn mark(seen: &mut Seen, count: usize, at: u32) -> Result<bool, AllocError>
 
 /// Marks the patterns of a chain, up to one that is marked: those after it are marked too. Lists those that
 /// weren't marked.
-fn follow(nexts: &[u32], head: u32, seen: &mut Seen, hits: &mut Vec<u32>) -> Result<(), AllocError>
+fn follow(
+    nexts: &[u32],
+    head: u32,
+    seen: &mut MarkSet,
+    hits: &mut Vec<u32>,
+) -> Result<(), AllocError>
     ensures { OnOk result (Follows nexts.now head seen.old hits.old.items seen.new hits.new.items) }
 {
     let mut at = head;
@@ -168,7 +173,7 @@ impl Automaton {
 
     /// Marks and lists the patterns that end at the state with this place.
     #[inline(never)]
-    fn mark_ended(&self, at: u32, seen: &mut Seen, hits: &mut Vec<u32>) -> Result<(), NoMemory>
+    fn mark_ended(&self, at: u32, seen: &mut MarkSet, hits: &mut Vec<u32>) -> Result<(), NoMemory>
         ensures { OnOk result (Marks self.now at seen.old hits.old.items seen.new hits.new.items) }
     {
         let head = read(&self.heads, self.state_at(at) as usize);
@@ -178,7 +183,7 @@ impl Automaton {
 
     /// Marks and lists the patterns that end where the move goes to, if it says that some do.
     #[inline(always)]
-    fn note(&self, entry: u32, seen: &mut Seen, hits: &mut Vec<u32>) -> Result<(), NoMemory>
+    fn note(&self, entry: u32, seen: &mut MarkSet, hits: &mut Vec<u32>) -> Result<(), NoMemory>
         ensures { OnOk result (Notes self.now entry seen.old hits.old.items seen.new hits.new.items) }
     {
         if entry % 2 == 0 {
@@ -195,7 +200,7 @@ impl Automaton {
         bytes: &[u8],
         from: usize,
         reach: usize,
-        seen: &mut Seen,
+        seen: &mut MarkSet,
         hits: &mut Vec<u32>,
     ) -> Result<usize, NoMemory>
         requires { from < length bytes.now }
@@ -224,7 +229,7 @@ impl Automaton {
     fn mark_in_one_walk(
         &self,
         bytes: &[u8],
-        seen: &mut Seen,
+        seen: &mut MarkSet,
         hits: &mut Vec<u32>,
     ) -> Result<(), NoMemory>
         ensures { OnOk result (CoversOn self.now bytes.now 0 (so_far seen.old hits.old.items)
@@ -244,7 +249,7 @@ impl Automaton {
     fn mark_all(
         &self,
         bytes: &[u8],
-        seen: &mut Seen,
+        seen: &mut MarkSet,
         hits: &mut Vec<u32>,
         effort: &mut Effort,
     ) -> Result<(), NoMemory>
@@ -281,7 +286,7 @@ impl Automaton {
     ) -> Result<Vec<u32>, NoMemory>
         ensures { IfOk result (λ found. AreHits self.now text.now found.items) }
     {
-        let mut seen = Seen::new(alloc);
+        let mut seen = MarkSet::new(alloc);
         let mut hits = Vec::new(alloc);
         self.mark_all(text, &mut seen, &mut hits, effort)?;
         Ok(hits)

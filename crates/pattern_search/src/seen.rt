@@ -7,18 +7,18 @@ use std::collections::BTreeSet;
 
 /// Which places are marked.
 #[derive(Drop)]
-pub struct Seen {
+pub struct MarkSet {
     pub places: BTreeSet<u32>,
 }
 
-impl Seen {
+impl MarkSet {
     ghost use Rattle.pattern_search.specs.Marking.{is_marked};
 
     /// No place is marked. Takes no memory.
-    pub fn new(alloc: Global) -> Seen
+    pub fn new(alloc: Global) -> MarkSet
         ensures { (place : ℕ) → is_marked result place ≡ false }
     {
-        Seen {
+        MarkSet {
             places: BTreeSet::new(alloc),
         }
     }

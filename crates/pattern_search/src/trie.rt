@@ -10,7 +10,7 @@ use std::alloc::Global;
 /// A state: the word of an earlier state, with a letter after it. Before it the last state that is that state's
 /// word with another letter after it; 0 where there is none.
 #[derive(Clone, Copy)]
-pub struct Step {
+pub struct TrieState {
     pub up: u32,
     pub by: u16,
     pub same: u32,
@@ -22,7 +22,7 @@ const MOST_STEPS: usize = 1_073_741_823;
 /// The states. The state 0 is the empty word, and has no step.
 #[derive(Drop)]
 pub struct Trie {
-    pub steps: Vec<Step>,
+    pub steps: Vec<TrieState>,
     /// The last state that is each state's word with a letter after it; 0 where there is none.
     pub firsts: Vec<u32>,
     pub width: u16,
@@ -36,11 +36,11 @@ pub fn place(width: u16, row: u32, column: u16) -> usize
 }
 
 /// The step at a place.
-pub fn step_at(steps: &[Step], at: usize) -> Step
+pub fn step_at(steps: &[TrieState], at: usize) -> TrieState
     ensures { result ≡ step_at steps.now at }
 {
     if steps.len() <= at {
-        return Step {
+        return TrieState {
             up: 0,
             by: 0,
             same: 0,
@@ -112,7 +112,7 @@ impl Trie {
         let state = earlier as u32 + 1;
         let same = read(&self.firsts, up as usize);
         self.firsts.push(0)?;
-        self.steps.push(Step { up, by, same })?;
+        self.steps.push(TrieState { up, by, same })?;
         write(&mut self.firsts, up as usize, state);
         Ok(state)
     }

@@ -18,7 +18,7 @@ use Rattle.pcap_input.specs.declared.capture.CaptureHead.{CaptureHead}
 use Rattle.pcap_input.specs.declared.capture.Record.{Record}
 use Rattle.pcap_input.specs.declared.frames.Endpoint.{Endpoint}
 use Rattle.pcap_input.specs.declared.frames.Segment.{Segment}
-use Rattle.pcap_input.specs.declared.traffic.Session.{Session}
+use Rattle.pcap_input.specs.declared.traffic.TrafficSession.{TrafficSession}
 use Rattle.pcap_input.specs.declared.traffic.Traffic.{Traffic}
 use Rattle.pcap_input.specs.declared.traffic.Turn.{Turn}
 use Rattle.pcap_input.specs.declared.traffic.Turn.TheVariants.{Syn, SynAck, Established, Data, DataAck}
@@ -60,7 +60,7 @@ abbrev pub web_server : Endpoint
 web_server = record { net = 2; host = 1; port = 80 }
 
 -- session `s` before its first turn: the numbers that its client and its server send next
-abbrev pub first_session : ℕ → Session
+abbrev pub first_session : ℕ → TrafficSession
 first_session s = record { client = 1000 * s; server = 500000; turn = Syn }
 
 -- what session `s` sends at its turn: the flags are SYN 2, PSH 8, ACK 16
@@ -100,7 +100,7 @@ abbrev pub seq_after : ℕ → ℕ → ℕ
 seq_after seq count = (seq + count) % 2 ^ 32
 
 -- the session after its turn
-unfoldable pub session_after : ℕ → ℕ → Turn → Session
+unfoldable pub session_after : ℕ → ℕ → Turn → TrafficSession
 session_after client server Syn = record { client = seq_after client 1; server = server; turn = SynAck }
 session_after client server SynAck = record { client = client; server = seq_after server 1; turn = Established }
 session_after client server Established = record { client = client; server = server; turn = Data }
@@ -132,7 +132,7 @@ abbrev pub first_traffic : ℕ → Traffic
 first_traffic seed = record { draws = record { state = seed }; sessions = map first_session (range_with_len 0 16) }
 
 -- session `s` among these
-abbrev pub session_at : List Session → ℕ → Session
+abbrev pub session_at : List TrafficSession → ℕ → TrafficSession
 session_at sessions s = slice_index_or sessions s (first_session s)
 
 -- a frame, and the traffic after it

@@ -50,18 +50,18 @@ impl Turn {
 
 /// A TCP session: the sequence numbers that its client and its server send next, and its turn.
 #[derive(Clone, Copy, Debug, PartialEq, Eq)]
-pub(crate) struct Session {
+pub(crate) struct TrafficSession {
     pub client: u32,
     pub server: u32,
     pub turn: Turn,
 }
 
-impl Session {
+impl TrafficSession {
     /// Session `number` before its first turn.
-    fn first(number: u8) -> Session
+    fn first(number: u8) -> TrafficSession
         ensures { result ≡ first_session number }
     {
-        Session {
+        TrafficSession {
             client: 1000 * u32::from(number),
             server: 500_000,
             turn: Turn::Syn,
@@ -114,30 +114,30 @@ impl Session {
 
     /// The session after its turn.
     #[tactic(auto, unfolding(crate::specs::Generated::session_after))]
-    fn after(self) -> Session
+    fn after(self) -> TrafficSession
         ensures { result ≡ session_after self.client self.server self.turn }
     {
         match self.turn {
-            Turn::Syn => Session {
+            Turn::Syn => TrafficSession {
                 client: self.client.wrapping_add(1),
                 turn: Turn::SynAck,
                 ..self
             },
-            Turn::SynAck => Session {
+            Turn::SynAck => TrafficSession {
                 server: self.server.wrapping_add(1),
                 turn: Turn::Established,
                 ..self
             },
-            Turn::Established => Session {
+            Turn::Established => TrafficSession {
                 turn: Turn::Data,
                 ..self
             },
-            Turn::Data => Session {
+            Turn::Data => TrafficSession {
                 client: self.client.wrapping_add(64),
                 turn: Turn::DataAck,
                 ..self
             },
-            Turn::DataAck => Session {
+            Turn::DataAck => TrafficSession {
                 turn: Turn::Data,
                 ..self
             },
@@ -149,7 +149,7 @@ impl Session {
 #[derive(Drop)]
 pub(crate) struct Traffic {
     draws: Draws,
-    sessions: [Session; SESSIONS],
+    sessions: [TrafficSession; SESSIONS],
 }
 
 impl Traffic {
@@ -157,9 +157,9 @@ impl Traffic {
     pub fn new(seed: u32) -> Traffic
         ensures { result ≡ first_traffic seed }
     {
-        let mut sessions = [Session::first(0); SESSIONS];
+        let mut sessions = [TrafficSession::first(0); SESSIONS];
         for number in 0..SESSIONS {
-            sessions[number] = Session::first(number as u8);
+            sessions[number] = TrafficSession::first(number as u8);
         }
         Traffic {
             draws: Draws { state: seed },
@@ -168,7 +168,7 @@ impl Traffic {
     }
 
     /// Session `number`.
-    fn session(&self, number: u8) -> Session
+    fn session(&self, number: u8) -> TrafficSession
         requires { number < 16 }
         ensures { result ≡ session_at self.now.sessions number }
     {

@@ -16,12 +16,12 @@ use Rattle.pcap_input.specs.Savefile.{most_records, number_at, savefile}
 use Rattle.pcap_input.proofs.Laws.{number_at-append}
 use Rattle.edge_io.specs.declared.moment.Moment.{Moment}
 use Rattle.pcapng_input.specs.declared.block.Block.{Block}
-use Rattle.pcapng_input.specs.declared.block.Kind.TheVariants as kind
-use Rattle.pcapng_input.specs.declared.content.Packet.{Packet}
+use Rattle.pcapng_input.specs.declared.block.BlockKind.TheVariants as kind
+use Rattle.pcapng_input.specs.declared.content.PacketBlock.{PacketBlock}
 use Rattle.pcapng_input.specs.declared.resolution.Resolution.TheVariants.{TenToMinus}
 use Rattle.pcapng_input.specs.Moments.{moment_within, resolution_in, resolution_of_byte, ticks_a_second, moment_of as ng_moment}
-use Rattle.pcapng_input.specs.declared.content.Content.{Content}
-use Rattle.pcapng_input.specs.declared.content.Content.TheVariants as content
+use Rattle.pcapng_input.specs.declared.content.BlockContent.{BlockContent}
+use Rattle.pcapng_input.specs.declared.content.BlockContent.TheVariants as content
 use Rattle.pcapng_input.specs.declared.walk.Interface.{Interface}
 use Rattle.pcapng_input.specs.declared.walk.Walk.{Walk}
 use Rattle.pcapng_input.specs.Blocks.{Gives, Skips, content_of, enhanced_of, front_length, given_by, inner_length, interface_of}
@@ -82,7 +82,7 @@ six_other = (omega arith, by_order)
     by_order false total is = omega (arith, is)
 
 -- a block that is whole gives what its content says
-block-given : (swapped : Bool) (interfaces : List Interface) (number at : ℕ) (last : Moment) (kind : ℕ) (front inner more : List ℕ) (told : Content)
+block-given : (swapped : Bool) (interfaces : List Interface) (number at : ℕ) (last : Moment) (kind : ℕ) (front inner more : List ℕ) (told : BlockContent)
     → IsOther kind → 12 + length (front ++ inner) < 2 ^ 32 → number < 4294967295 → at < 2 ^ 62
     → is_sized (record { kind = kind_of kind; total = 12 + length (front ++ inner) }) ≡ true
     → length front ≡ front_length (kind_of kind) → length inner ≡ inner_length (record { kind = kind_of kind; total = 12 + length (front ++ inner) })
@@ -183,7 +183,7 @@ moment_is nanos time small =
     let fits : nat_lt (time * nanos_each nanos) (2 ^ 64) ≡ true = grind (arith, nat_tests, (time_small nanos time small).1) in
     ap moment_within (ticks_are nanos time) ∙ rw fits refl
 
-packet_told : Bool → Link → Caught → Packet
+packet_told : Bool → Link → Caught → PacketBlock
 packet_told nanos link packet = record {
   link = link;
   moment = record { nanos = packet.time * nanos_each nanos };

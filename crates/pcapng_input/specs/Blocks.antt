@@ -21,12 +21,12 @@ use Rattle.pcap_input.specs.Savefile.{longest, most_records, number_at}
 use Rattle.pcapng_input.specs.declared.capture.NgRecord.{NgRecord}
 use Rattle.pcapng_input.specs.declared.capture.NgFault.{NgFault}
 use Rattle.pcapng_input.specs.declared.capture.NgFault.TheVariants as fault
-use Rattle.pcapng_input.specs.declared.block.Kind.{Kind}
-use Rattle.pcapng_input.specs.declared.block.Kind.TheVariants as kind
+use Rattle.pcapng_input.specs.declared.block.BlockKind.{BlockKind}
+use Rattle.pcapng_input.specs.declared.block.BlockKind.TheVariants as kind
 use Rattle.pcapng_input.specs.declared.block.Block.{Block}
-use Rattle.pcapng_input.specs.declared.content.Packet.{Packet}
-use Rattle.pcapng_input.specs.declared.content.Content.{Content}
-use Rattle.pcapng_input.specs.declared.content.Content.TheVariants as content
+use Rattle.pcapng_input.specs.declared.content.PacketBlock.{PacketBlock}
+use Rattle.pcapng_input.specs.declared.content.BlockContent.{BlockContent}
+use Rattle.pcapng_input.specs.declared.content.BlockContent.TheVariants as content
 use Rattle.pcapng_input.specs.declared.walk.Interface.{Interface}
 use Rattle.pcapng_input.specs.declared.walk.Walk.{Walk}
 use Rattle.pcapng_input.specs.Moments.{moment_of}
@@ -66,7 +66,7 @@ abbrev pub bad_block : Walk → NgFault
 bad_block walk = fault.BadBlock walk.at
 
 -- the kind of a block of this type that is no section header
-abbrev pub kind_of : ℕ → Kind
+abbrev pub kind_of : ℕ → BlockKind
 kind_of number =
     if number == 1 then kind.Interface else
     if number == 3 then kind.Simple else
@@ -74,7 +74,7 @@ kind_of number =
     kind.Other
 
 -- how long a block is at least
-abbrev pub least_total : Kind → ℕ
+abbrev pub least_total : BlockKind → ℕ
 least_total kind.Section = 28
 least_total kind.Interface = 20
 least_total kind.Simple = 16
@@ -82,7 +82,7 @@ least_total kind.Enhanced = 32
 least_total kind.Other = 12
 
 -- how many bytes are before what differs in length
-abbrev pub fixed_front : Kind → ℕ
+abbrev pub fixed_front : BlockKind → ℕ
 fixed_front kind.Section = 24
 fixed_front kind.Interface = 16
 fixed_front kind.Simple = 12
@@ -91,7 +91,7 @@ fixed_front kind.Other = 8
 
 -- how many bytes of the fixed front are after what a block is known by: its type and total length, and of a
 -- section header the byte-order magic
-abbrev pub front_length : Kind → ℕ
+abbrev pub front_length : BlockKind → ℕ
 front_length kind.Section = 12
 front_length kind.Interface = 8
 front_length kind.Simple = 4
@@ -99,7 +99,7 @@ front_length kind.Enhanced = 20
 front_length kind.Other = 0
 
 -- a block of this kind is held to a length (own)
-abbrev pub is_short : Kind → Bool
+abbrev pub is_short : BlockKind → Bool
 is_short kind.Section = true
 is_short kind.Interface = true
 is_short kind.Simple = false
@@ -148,7 +148,7 @@ after_interface walk block interface = record walk {
 }
 
 -- the walk after a packet
-abbrev pub after_packet : Walk → Block → Packet → Walk
+abbrev pub after_packet : Walk → Block → PacketBlock → Walk
 after_packet walk block packet = record walk { number = walk.number + 1; last = packet.moment; at = walk.at + block.total }
 
 -- the link layer of a link type, where it is one of the three
@@ -160,7 +160,7 @@ link_of number =
     None
 
 -- the packet of an interface, or why it can't be read: its moment may not be told in 64 bits
-unfoldable pub packet_of : Walk → Block → Interface → Option Moment → ℕ → ℕ → Result Content NgFault
+unfoldable pub packet_of : Walk → Block → Interface → Option Moment → ℕ → ℕ → Result BlockContent NgFault
 packet_of walk block interface moment original captured =
     elim (link_of interface.link) [
       | None ↦ Err (fault.LinkType walk.at interface.link)
@@ -188,7 +188,7 @@ abbrev pub ticks_of : Bool → List ℕ → ℕ
 ticks_of swapped front = number_at swapped 4 4 front * 2 ^ 32 + number_at swapped 8 4 front
 
 -- what an enhanced packet's front tells: interface at 0, ticks at 4, captured length at 12, original at 16
-unfoldable pub enhanced_of : Walk → Block → List ℕ → Result Content NgFault
+unfoldable pub enhanced_of : Walk → Block → List ℕ → Result BlockContent NgFault
 enhanced_of walk block front =
     elim (slice_get walk.section.interfaces (number_at walk.section.swapped 0 4 front)) [
       | None ↦ Err (bad_block walk)
@@ -199,7 +199,7 @@ enhanced_of walk block front =
 
 -- what a simple packet's front tells, its original length: it is the first interface's, and has the moment
 -- of the record before, or 0 (own)
-unfoldable pub simple_of : Walk → Block → List ℕ → Result Content NgFault
+unfoldable pub simple_of : Walk → Block → List ℕ → Result BlockContent NgFault
 simple_of walk block front =
     elim (slice_get walk.section.interfaces 0) [
       | None ↦ Err (bad_block walk)
@@ -209,18 +209,18 @@ simple_of walk block front =
     ]
 
 -- what an interface's front tells: its link type at 0 and its snaplen at 4
-unfoldable pub interface_of : Walk → List ℕ → Result Content NgFault
+unfoldable pub interface_of : Walk → List ℕ → Result BlockContent NgFault
 interface_of walk front =
     if nat_le most_interfaces (length walk.section.interfaces) then Err (bad_block walk) else
     Ok (content.Interface (number_at walk.section.swapped 0 2 front) (number_at walk.section.swapped 4 4 front))
 
 -- what a section header's front tells: its major version is 1
-unfoldable pub section_of : Walk → List ℕ → Result Content NgFault
+unfoldable pub section_of : Walk → List ℕ → Result BlockContent NgFault
 section_of walk front =
     if number_at walk.section.swapped 0 2 front == 1 then Ok content.Skipped else Err (bad_block walk)
 
 -- what the fixed front of a block tells
-unfoldable pub content_of : Walk → Block → List ℕ → Result Content NgFault
+unfoldable pub content_of : Walk → Block → List ℕ → Result BlockContent NgFault
 content_of walk block front =
     elim block.kind [
       | kind.Section ↦ section_of walk front
@@ -231,14 +231,14 @@ content_of walk block front =
     ]
 
 -- the record of a packet whose captured bytes are these
-abbrev pub record_of : Walk → Packet → List ℕ → NgRecord
+abbrev pub record_of : Walk → PacketBlock → List ℕ → NgRecord
 record_of walk packet bytes = record {
   link = packet.link;
   item = record { number = walk.number; moment = packet.moment; original = packet.original; bytes = bytes };
 }
 
 -- what a whole block gives: these bytes are between its fixed front and its last four, and these come after
-unfoldable pub given_by : Walk → Block → Content → List ℕ → List ℕ → Step
+unfoldable pub given_by : Walk → Block → BlockContent → List ℕ → List ℕ → Step
 given_by walk block content.Skipped inner more = Skips (after_block walk block) more
 given_by walk block (content.Interface link snaplen) inner more =
     elim (resolution_told walk.section.swapped inner) [
@@ -251,7 +251,7 @@ given_by walk block (content.Packet packet) inner more =
 
 -- what comes after a fixed front that tells this: the block is whole, and its last four bytes are its
 -- total length again
-unfoldable pub closing : Walk → Block → Content → List ℕ → Step
+unfoldable pub closing : Walk → Block → BlockContent → List ℕ → Step
 closing walk block told after =
     if nat_lt (length after) (inner_length block + 4) then truncated walk else
     if number_at walk.section.swapped 0 4 (drop (inner_length block) after) == block.total

@@ -11,8 +11,8 @@ use Rattle.pcap_input.specs.Savefile.{number_at}
 use Rattle.pcapng_input.specs.declared.capture.NgFault.{NgFault}
 use Rattle.pcapng_input.specs.declared.capture.NgFault.TheVariants as fault
 use Rattle.pcapng_input.specs.declared.block.Block.{Block}
-use Rattle.pcapng_input.specs.declared.content.Content.{Content}
-use Rattle.pcapng_input.specs.declared.content.Content.TheVariants as content
+use Rattle.pcapng_input.specs.declared.content.BlockContent.{BlockContent}
+use Rattle.pcapng_input.specs.declared.content.BlockContent.TheVariants as content
 use Rattle.pcapng_input.specs.declared.walk.Walk.{Walk}
 use Rattle.pcapng_input.specs.declared.step.BlockRead.{BlockRead}
 use Rattle.pcapng_input.specs.declared.step.BlockRead.TheVariants as read
@@ -83,13 +83,13 @@ pub record Shows (stage : List ℕ → Step) (walk : Walk) (answer : Result Bloc
   pub shows : ShowsBy stage walk answer taken new
 
 -- a packet's captured bytes are within its block, and are no more than a record may have
-abbrev pub FitsIn : Block → Content → Type 0
+abbrev pub FitsIn : Block → BlockContent → Type 0
 FitsIn block content.Skipped = ⊤
 FitsIn block (content.Interface link snaplen) = ⊤
 FitsIn block (content.Packet packet) = (packet.captured ≤ inner_length block) × (packet.captured ≤ longest)
 
 -- no packet
-abbrev pub IsPlain : Content → Type 0
+abbrev pub IsPlain : BlockContent → Type 0
 IsPlain content.Skipped = ⊤
 IsPlain (content.Interface link snaplen) = ⊤
 IsPlain (content.Packet packet) = ⊥

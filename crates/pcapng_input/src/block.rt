@@ -4,7 +4,7 @@ ghost use Rattle.pcapng_input.specs.Blocks.{kind_of, least_total, fixed_front, f
 
 /// The kinds of blocks that are told apart.
 #[derive(Clone, Copy, Debug, PartialEq, Eq)]
-pub enum Kind {
+pub enum BlockKind {
     /// A section header (0a0d0d0a).
     Section,
     /// An interface description (1).
@@ -20,7 +20,7 @@ pub enum Kind {
 /// What the first eight bytes of a block tell.
 #[derive(Clone, Copy, Debug, PartialEq, Eq)]
 pub struct Block {
-    pub kind: Kind,
+    pub kind: BlockKind,
     /// How long the whole block is.
     pub total: u32,
 }
@@ -28,16 +28,16 @@ pub struct Block {
 /// The most bytes of a section header and of an interface description.
 const MOST_BYTES: u32 = 1_048_576;
 
-impl Kind {
+impl BlockKind {
     /// The kind of a block of this type that is no section header.
-    pub fn of(number: u32) -> Kind
+    pub fn of(number: u32) -> BlockKind
         ensures { result ≡ kind_of number }
     {
         match number {
-            1 => Kind::Interface,
-            3 => Kind::Simple,
-            6 => Kind::Enhanced,
-            _ => Kind::Other,
+            1 => BlockKind::Interface,
+            3 => BlockKind::Simple,
+            6 => BlockKind::Enhanced,
+            _ => BlockKind::Other,
         }
     }
 
@@ -46,11 +46,11 @@ impl Kind {
         ensures { result ≡ least_total self }
     {
         match self {
-            Kind::Section => 28,
-            Kind::Interface => 20,
-            Kind::Simple => 16,
-            Kind::Enhanced => 32,
-            Kind::Other => 12,
+            BlockKind::Section => 28,
+            BlockKind::Interface => 20,
+            BlockKind::Simple => 16,
+            BlockKind::Enhanced => 32,
+            BlockKind::Other => 12,
         }
     }
 
@@ -59,11 +59,11 @@ impl Kind {
         ensures { result ≡ fixed_front self }
     {
         match self {
-            Kind::Section => 24,
-            Kind::Interface => 16,
-            Kind::Simple => 12,
-            Kind::Enhanced => 28,
-            Kind::Other => 8,
+            BlockKind::Section => 24,
+            BlockKind::Interface => 16,
+            BlockKind::Simple => 12,
+            BlockKind::Enhanced => 28,
+            BlockKind::Other => 8,
         }
     }
 
@@ -73,11 +73,11 @@ impl Kind {
         ensures { result ≡ front_length self }
     {
         match self {
-            Kind::Section => 12,
-            Kind::Interface => 8,
-            Kind::Simple => 4,
-            Kind::Enhanced => 20,
-            Kind::Other => 0,
+            BlockKind::Section => 12,
+            BlockKind::Interface => 8,
+            BlockKind::Simple => 4,
+            BlockKind::Enhanced => 20,
+            BlockKind::Other => 0,
         }
     }
 
@@ -85,7 +85,7 @@ impl Kind {
     fn is_short(self) -> bool
         ensures { result ≡ is_short self }
     {
-        matches!(self, Kind::Section | Kind::Interface)
+        matches!(self, BlockKind::Section | BlockKind::Interface)
     }
 }
 

@@ -4,14 +4,14 @@ ghost use Rattle.pcapng_input.specs.Blocks.{front_length, is_sized, link_of, pac
 ghost use Rattle.pcapng_input.specs.Steps.{FitsIn, IsPlain};
 
 use crate::NgFault;
-use crate::block::{Block, Kind};
+use crate::block::{Block, BlockKind};
 use crate::walk::{Interface, Walk};
 use edge_io::{Link, Moment};
 use pcap_input::number::{u16_at, u32_at};
 
 /// What a packet's block tells of it.
 #[derive(Clone, Copy, Debug, PartialEq, Eq)]
-pub struct Packet {
+pub struct PacketBlock {
     pub link: Link,
     pub moment: Moment,
     /// How many bytes the packet had.
@@ -22,13 +22,13 @@ pub struct Packet {
 
 /// What the fixed front of a block tells.
 #[derive(Clone, Copy, Debug, PartialEq, Eq)]
-pub enum Content {
+pub enum BlockContent {
     /// Nothing is read from what follows.
     Skipped,
     /// An interface, whose options follow.
     Interface { link: u16, snaplen: u32 },
     /// A packet, whose bytes follow.
-    Packet(Packet),
+    Packet(PacketBlock),
 }
 
 /// The most bytes of a packet that a record may have.
@@ -69,7 +69,7 @@ fn packet_content(
     moment: Option<Moment>,
     original: u32,
     captured: u32,
-) -> Result<Content, NgFault>
+) -> Result<BlockContent, NgFault>
     requires { IsTrue (is_sized block) }
     ensures told { result ≡ packet_of walk.now block interface moment original captured }
     ensures fits { IfOk result (λ told. FitsIn block told) }
@@ -93,7 +93,7 @@ fn packet_content(
     let Some(moment) = moment else {
         return Err(walk.bad_block());
     };
-    Ok(Content::Packet(Packet {
+    Ok(BlockContent::Packet(PacketBlock {
         link,
         moment,
         original,
@@ -103,7 +103,7 @@ fn packet_content(
 
 /// What an enhanced packet's front tells.
 #[tactic(auto, unfolding(crate::specs::Blocks::enhanced_of))]
-fn enhanced_content(walk: &Walk, block: Block, front: &[u8]) -> Result<Content, NgFault>
+fn enhanced_content(walk: &Walk, block: Block, front: &[u8]) -> Result<BlockContent, NgFault>
     requires sized { IsTrue (is_sized block) }
     requires fits { length front.now ≡ 20 }
     ensures told { result ≡ enhanced_of walk.now block front.now }
@@ -137,7 +137,7 @@ fn ticks(swapped: bool, front: &[u8]) -> u64
 
 /// What a simple packet's front tells.
 #[tactic(auto, unfolding(crate::specs::Blocks::simple_of))]
-fn simple_content(walk: &Walk, block: Block, front: &[u8]) -> Result<Content, NgFault>
+fn simple_content(walk: &Walk, block: Block, front: &[u8]) -> Result<BlockContent, NgFault>
     requires sized { IsTrue (is_sized block) }
     requires fits { length front.now ≡ 4 }
     ensures told { result ≡ simple_of walk.now block front.now }
@@ -154,7 +154,7 @@ fn simple_content(walk: &Walk, block: Block, front: &[u8]) -> Result<Content, Ng
 
 /// What an interface's front tells.
 #[tactic(auto, unfolding(crate::specs::Blocks::interface_of))]
-fn interface_content(walk: &Walk, front: &[u8]) -> Result<Content, NgFault>
+fn interface_content(walk: &Walk, front: &[u8]) -> Result<BlockContent, NgFault>
     requires { length front.now ≡ 8 }
     ensures told { result ≡ interface_of walk.now front.now }
     ensures plain { IfOk result IsPlain }
@@ -164,7 +164,7 @@ fn interface_content(walk: &Walk, front: &[u8]) -> Result<Content, NgFault>
         return Err(walk.bad_block());
     }
     let swapped = walk.section.swapped;
-    Ok(Content::Interface {
+    Ok(BlockContent::Interface {
         link: u16_at(swapped, front, 0),
         snaplen: u32_at(swapped, front, 4),
     })
@@ -172,14 +172,14 @@ fn interface_content(walk: &Walk, front: &[u8]) -> Result<Content, NgFault>
 
 /// What a section header's front tells.
 #[tactic(auto, unfolding(crate::specs::Blocks::section_of))]
-fn section_content(walk: &Walk, front: &[u8]) -> Result<Content, NgFault>
+fn section_content(walk: &Walk, front: &[u8]) -> Result<BlockContent, NgFault>
     requires { length front.now ≡ 12 }
     ensures told { result ≡ section_of walk.now front.now }
     ensures plain { IfOk result IsPlain }
     ensures unfailed { IsErrOf result NgFault.Failed → ⊥ }
 {
     if u16_at(walk.section.swapped, front, 0) == 1 {
-        Ok(Content::Skipped)
+        Ok(BlockContent::Skipped)
     } else {
         Err(walk.bad_block())
     }
@@ -187,7 +187,7 @@ fn section_content(walk: &Walk, front: &[u8]) -> Result<Content, NgFault>
 
 /// What the fixed front of a block tells.
 #[tactic(auto, unfolding(crate::specs::Blocks::content_of))]
-pub fn front_content(walk: &Walk, block: Block, front: &[u8]) -> Result<Content, NgFault>
+pub fn front_content(walk: &Walk, block: Block, front: &[u8]) -> Result<BlockContent, NgFault>
     requires sized { IsTrue (is_sized block) }
     requires fits { length front.now ≡ front_length block.kind }
     ensures told { result ≡ content_of walk.now block front.now }
@@ -195,10 +195,10 @@ pub fn front_content(walk: &Walk, block: Block, front: &[u8]) -> Result<Content,
     ensures unfailed { IsErrOf result NgFault.Failed → ⊥ }
 {
     match block.kind {
-        Kind::Section => section_content(walk, front),
-        Kind::Interface => interface_content(walk, front),
-        Kind::Simple => simple_content(walk, block, front),
-        Kind::Enhanced => enhanced_content(walk, block, front),
-        Kind::Other => Ok(Content::Skipped),
+        BlockKind::Section => section_content(walk, front),
+        BlockKind::Interface => interface_content(walk, front),
+        BlockKind::Simple => simple_content(walk, block, front),
+        BlockKind::Enhanced => enhanced_content(walk, block, front),
+        BlockKind::Other => Ok(BlockContent::Skipped),
     }
 }

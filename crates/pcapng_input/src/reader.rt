@@ -9,7 +9,7 @@ ghost use Rattle.pcapng_input.specs.Steps.{Shows};
 ghost use Rattle.pcap_input.specs.Reader.{Tells};
 ghost use Rattle.pcapng_input.specs.Reader.{Opens, TakesHead, IsOfHead, Answers, TakesRecord, TakesBlocks, TakesNone, Goes, IsHeadAnswer, IsNothing};
 
-use crate::block::{Block, Kind};
+use crate::block::{Block, BlockKind};
 use crate::piece::read_piece;
 use crate::step::{BlockRead, SECTION, order_of, read_block, read_known};
 use crate::walk::Walk;
@@ -262,7 +262,7 @@ fn read_first<H: Host>(
         Some(swapped) => {
             walk.begin_section(alloc, swapped);
             let block = Block {
-                kind: Kind::Section,
+                kind: BlockKind::Section,
                 total: u32_at(swapped, &first, 4),
             };
             read_known(walk, spares, alloc, host, block)

@@ -3,12 +3,12 @@ ghost use Rattle.std.specs.Prelude.{◌≡◌, ◌<◌, ◌≤◌, Option, IsTru
 ghost use Rattle.edge_io.specs.Files.{Files, IsUnopened, MaySee, left_by};
 ghost use Rattle.edge_io.specs.Frames.{OnlyRead};
 ghost use Rattle.edge_io.specs.Told.{Rose};
-ghost use Rattle.pcapng_input.specs.declared.content.Content.TheVariants as content;
+ghost use Rattle.pcapng_input.specs.declared.content.BlockContent.TheVariants as content;
 ghost use Rattle.pcapng_input.specs.Blocks.{is_sized, inner_length, order_of, closing, known, section_begun, begun, step_of};
 ghost use Rattle.pcapng_input.specs.Steps.{Shows, FitsIn, IsAtEnd, HasRoom};
 
-use crate::block::{Block, Kind};
-use crate::content::{Content, Packet, front_content};
+use crate::block::{Block, BlockKind};
+use crate::content::{BlockContent, PacketBlock, front_content};
 use crate::last::is_closed;
 use crate::options::resolution_told;
 use crate::piece::{read_bytes, read_piece};
@@ -119,7 +119,7 @@ fn read_packet<H: Host>(
     alloc: Global,
     host: &mut H,
     block: Block,
-    packet: Packet,
+    packet: PacketBlock,
 ) -> Result<BlockRead, NgFault>
     requires sized { IsTrue (is_sized block) }
     requires room { HasRoom walk.old }
@@ -159,7 +159,7 @@ fn read_closing<H: Host>(
     alloc: Global,
     host: &mut H,
     block: Block,
-    told: Content,
+    told: BlockContent,
 ) -> Result<BlockRead, NgFault>
     requires sized { IsTrue (is_sized block) }
     requires room { HasRoom walk.old }
@@ -172,11 +172,11 @@ fn read_closing<H: Host>(
     ensures only_read { OnlyRead H.Host host.old host.new }
 {
     match told {
-        Content::Skipped => pass_over(walk, host, block),
-        Content::Interface { link, snaplen } => {
+        BlockContent::Skipped => pass_over(walk, host, block),
+        BlockContent::Interface { link, snaplen } => {
             read_interface(walk, alloc, host, block, link, snaplen)
         }
-        Content::Packet(packet) => read_packet(walk, spares, alloc, host, block, packet),
+        BlockContent::Packet(packet) => read_packet(walk, spares, alloc, host, block, packet),
     }
 }
 
@@ -230,7 +230,7 @@ fn read_section<H: Host>(
         Some(swapped) => {
             walk.begin_section(alloc, swapped);
             let block = Block {
-                kind: Kind::Section,
+                kind: BlockKind::Section,
                 total: u32_at(swapped, first, 4),
             };
             read_known(walk, spares, alloc, host, block)
@@ -261,7 +261,7 @@ fn read_begun<H: Host>(
     }
     let swapped = walk.section.swapped;
     let block = Block {
-        kind: Kind::of(u32_at(swapped, first, 0)),
+        kind: BlockKind::of(u32_at(swapped, first, 0)),
         total: u32_at(swapped, first, 4),
     };
     read_known(walk, spares, alloc, host, block)

@@ -12,7 +12,7 @@ use Rattle.std_alloc.proofs.SendSync.{quiet, lies, seen}
 use Rattle.piece_list.specs.Linked.{Linked}
 use Rattle.std.proofs.Crossing.{frees}
 use Rattle.piece_list.specs.Ownership.{heap, node_type, path, path_lent, heap_deed, vacant_owns, nodes_own, values_lent}
-use Rattle.piece_list.specs.contracts.node.Room as Room
+use Rattle.piece_list.specs.contracts.node.EmptyNode as EmptyNode
 use Rattle.piece_list.specs.contracts.ring.Ring as Nodes
 
 room : (τ : Ty) (p : Ptr) → Keyless (room_for τ p)
@@ -59,7 +59,7 @@ module _ (V : RattleType) where
     shared = λ d b o κ. ((struct_sync (shape O) (search sendable, tt)).shared (to O d) b o κ, (path_lent-Common d.head _ κ, values_lent-Common y d.nodes κ));
   }
 
-  pub Room-send : IsSend (Room.the_row V)
-  Room-send =
-      let O = Room.the_type V in let all : AllSend (fields O) = (pointer_send, tt) in
+  pub EmptyNode-send : IsSend (EmptyNode.the_row V)
+  EmptyNode-send =
+      let O = EmptyNode.the_type V in let all : AllSend (fields O) = (pointer_send, tt) in
       owning_send O all (λ d. ((room _ _, room _ _), vacant-Keyless d.ptr)) (λ k. quiet (to O) (exits_of k (fields O)) ((struct_send (shape O) all).leaving k))

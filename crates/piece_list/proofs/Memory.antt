@@ -40,7 +40,7 @@ use Rattle.piece_list.specs.Linked.{Linked, same_ptr}
 use Rattle.piece_list.specs.Ownership.{prev_of, next_of, link_room, edge, path, edge_lent, path_lent, val_offset, filled_owns, nodes_own, value_lent, values_lent}
 use Rattle.piece_list.specs.contracts.ring.Ring as G-type
 use Rattle.piece_list.specs.contracts.node.NodePtr as N-type
-use Rattle.piece_list.specs.contracts.node.Room as R-type
+use Rattle.piece_list.specs.contracts.node.EmptyNode as R-type
 use Rattle.piece_list.specs.contracts.node.Blank as B-type
 use Rattle.piece_list.specs.contracts.node.Detached as D-type
 use Rattle.piece_list.proofs.Splits.{last_from}

@@ -2,7 +2,7 @@
 ghost use Rattle.std.specs.Prelude.{◌≡◌, ◌+◌, ◌-◌, ◌^◌, ◌<◌, ◌≤◌, [], length, insert, remove, slice_get, Some, IfOk};
 
 use crate::iter::ChainIter;
-use crate::node::{Detached, NodePtr, Room};
+use crate::node::{Detached, EmptyNode, NodePtr};
 use crate::ring::Ring;
 use edge_io::NoMemory;
 use std::alloc::Global;
@@ -30,7 +30,7 @@ impl<T> Model for Chain<T> {
 }
 
 impl<T> Chain<T> {
-    pub(crate) fn new(head: Room<T>, tail: Room<T>) -> Chain<T>
+    pub(crate) fn new(head: EmptyNode<T>, tail: EmptyNode<T>) -> Chain<T>
         ensures { result ≡ ([], 0) }
     {
         let (ring, head, tail) = Ring::new(head, tail);
@@ -48,8 +48,8 @@ impl<T> Chain<T> {
     pub(crate) fn take(alloc: Global) -> Result<Chain<T>, NoMemory>
         ensures { IfOk result (λ chain. chain ≡ ([], 0)) }
     {
-        let head = Room::take(alloc)?;
-        match Room::take(alloc) {
+        let head = EmptyNode::take(alloc)?;
+        match EmptyNode::take(alloc) {
             Ok(tail) => Ok(Chain::new(head, tail)),
             Err(error) => {
                 head.free(alloc);
@@ -59,7 +59,7 @@ impl<T> Chain<T> {
     }
 
     /// The sentinels' rooms, where no value is left.
-    pub(crate) fn into_rooms(self) -> (Room<T>, Room<T>)
+    pub(crate) fn into_rooms(self) -> (EmptyNode<T>, EmptyNode<T>)
         requires { self.0 ≡ [] }
     {
         let Chain {

@@ -65,12 +65,12 @@ impl<'a, T> Iterator for ChainIter<'a, T> {
 /// The elements of a list that are left to give, from the first to the last.
 #[derive(Drop)]
 pub struct Iter<'a, T> {
-    left: Left<'a, T>,
+    left: IterLeft<'a, T>,
 }
 
 /// At most one element of a list that keeps it in itself, those of a row, or those in nodes.
 #[derive(Drop)]
-enum Left<'a, T> {
+enum IterLeft<'a, T> {
     One(Option<&'a T>),
     Few(&'a [T]),
     Many(ChainIter<'a, T>),
@@ -90,7 +90,7 @@ impl<'a, T> Iter<'a, T> {
         ensures { result ≡ option_to_list (option_copied element.entry) }
     {
         Iter {
-            left: Left::One(element),
+            left: IterLeft::One(element),
         }
     }
 
@@ -98,7 +98,7 @@ impl<'a, T> Iter<'a, T> {
         ensures { result ≡ row.now }
     {
         Iter {
-            left: Left::Few(row),
+            left: IterLeft::Few(row),
         }
     }
 
@@ -106,7 +106,7 @@ impl<'a, T> Iter<'a, T> {
         ensures { result ≡ chain.entry }
     {
         Iter {
-            left: Left::Many(chain),
+            left: IterLeft::Many(chain),
         }
     }
 }
@@ -120,13 +120,13 @@ impl<'a, T> Iterator for Iter<'a, T> {
 
     fn next(&mut self) -> Option<&'a T> {
         match &mut self.left {
-            Left::One(element) => element.take(),
-            Left::Few(row) => {
+            IterLeft::One(element) => element.take(),
+            IterLeft::Few(row) => {
                 let (first, rest) = row.split_first()?;
                 *row = rest;
                 Some(first)
             }
-            Left::Many(chain) => chain.next(),
+            IterLeft::Many(chain) => chain.next(),
         }
     }
 }

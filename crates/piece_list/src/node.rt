@@ -58,15 +58,15 @@ impl<T, A: Allocator> Model for Deed<T, A> {
 }
 
 /// An empty node, with the right to free it.
-pub(crate) struct Room<T> {
+pub(crate) struct EmptyNode<T> {
     pub(crate) ptr: *mut Node<T>,
 }
 
-impl<T> Model for Room<T> {
+impl<T> Model for EmptyNode<T> {
     ghost also_owns = { λ r. room_owns T.row r.ptr };
 }
 
-unsafe impl<T> Send for Room<T> {}
+unsafe impl<T> Send for EmptyNode<T> {}
 
 /// A node with its value that is in no ring.
 pub(crate) struct Detached<T> {
@@ -100,26 +100,26 @@ fn deallocate<T, A: Allocator>(alloc: &A, blank: Blank<T>, deed: Deed<T, A>)
     }
 }
 
-impl<T> Room<T> {
-    fn of(blank: Blank<T>, deed: Deed<T, Global>) -> Room<T>
+impl<T> EmptyNode<T> {
+    fn of(blank: Blank<T>, deed: Deed<T, Global>) -> EmptyNode<T>
         requires { deed.at ≡ blank.ptr }
     {
         let Blank { ptr } = blank;
         let Deed { mark: _ } = deed;
-        Room { ptr }
+        EmptyNode { ptr }
     }
 
     fn parts(self, _alloc: &Global) -> (Blank<T>, Deed<T, Global>)
         ensures { (result.1.at ≡ result.0.ptr) × (result.1.alloc ≡ _alloc.now) }
     {
-        let Room { ptr } = self;
+        let EmptyNode { ptr } = self;
         (Blank { ptr }, Deed { mark: PhantomData })
     }
 
     /// A new empty node.
-    pub(crate) fn take(alloc: Global) -> Result<Room<T>, AllocError> {
+    pub(crate) fn take(alloc: Global) -> Result<EmptyNode<T>, AllocError> {
         let (blank, deed) = allocate(&alloc)?;
-        Ok(Room::of(blank, deed))
+        Ok(EmptyNode::of(blank, deed))
     }
 
     /// Frees an empty node.
@@ -132,7 +132,7 @@ impl<T> Room<T> {
     pub(crate) fn fill(self, value: T) -> Detached<T>
         ensures { (result.ptr ≡ self.ptr) × (result.value ≡ value) }
     {
-        let Room { ptr } = self;
+        let EmptyNode { ptr } = self;
         unsafe {
             (&raw mut (*ptr).value).write(value);
         }
@@ -142,13 +142,13 @@ impl<T> Room<T> {
 
 impl<T> Detached<T> {
     /// Moves the value out.
-    pub(crate) fn empty(self) -> (T, Room<T>)
+    pub(crate) fn empty(self) -> (T, EmptyNode<T>)
         ensures { result.0 ≡ self.value }
     {
         let Detached { ptr } = self;
         unsafe {
             let value = (&raw const (*ptr).value).read();
-            (value, Room { ptr })
+            (value, EmptyNode { ptr })
         }
     }
 }

@@ -4,7 +4,7 @@ ghost use Rattle.piece_list.specs.Pieces.{pieces};
 
 use crate::chain::Chain;
 use crate::iter::ChainIter;
-use crate::node::Room;
+use crate::node::EmptyNode;
 use crate::spare::{add_rooms, free_rooms};
 use edge_io::NoMemory;
 use std::alloc::Global;
@@ -15,7 +15,7 @@ use std::marker::Model;
 pub(crate) struct NodeList<T: Drop> {
     alloc: Global,
     chain: Chain<T>,
-    spare: Vec<Room<T>>,
+    spare: Vec<EmptyNode<T>>,
 }
 
 impl<T: Drop> Model for NodeList<T> {

@@ -5,7 +5,7 @@ ghost use denote.RawPtr.{Ptr};
 ghost use Rattle.piece_list.specs.Linked.{Linked, linked, ring, places, IsApart, IsApart-prop, IsAt, AtNode, IsBefore, HasNext, HasPrev};
 ghost use Rattle.piece_list.specs.Ownership.{ring_owns, ring_lent};
 
-use crate::node::{Detached, Node, NodePtr, Room};
+use crate::node::{Detached, EmptyNode, Node, NodePtr};
 use std::marker::{Model, PhantomData, Send, Sync};
 use std::ptr;
 
@@ -30,11 +30,11 @@ unsafe impl<T: Sync> Sync for Ring<T> {}
 
 impl<T> Ring<T> {
     /// A ring of the two sentinels alone, and where they lie.
-    pub(crate) fn new(head: Room<T>, tail: Room<T>) -> (Ring<T>, NodePtr<T>, NodePtr<T>)
+    pub(crate) fn new(head: EmptyNode<T>, tail: EmptyNode<T>) -> (Ring<T>, NodePtr<T>, NodePtr<T>)
         ensures { (result.0.head ≡ result.1.ptr) × (result.0.tail ≡ result.2.ptr) × (result.0.nodes ≡ []) }
     {
-        let Room { ptr: head } = head;
-        let Room { ptr: tail } = tail;
+        let EmptyNode { ptr: head } = head;
+        let EmptyNode { ptr: tail } = tail;
         unsafe {
             (*head).prev = ptr::null_mut();
             (*head).next = tail;
@@ -48,12 +48,16 @@ impl<T> Ring<T> {
         )
     }
 
-    pub(crate) fn into_sentinels(self, head: NodePtr<T>, tail: NodePtr<T>) -> (Room<T>, Room<T>)
+    pub(crate) fn into_sentinels(
+        self,
+        head: NodePtr<T>,
+        tail: NodePtr<T>,
+    ) -> (EmptyNode<T>, EmptyNode<T>)
         requires { (head.ptr ≡ self.head) × (tail.ptr ≡ self.tail) × (self.nodes ≡ []) }
         ensures { (result.0.ptr ≡ self.head) × (result.1.ptr ≡ self.tail) }
     {
         let Ring { mark: _ } = self;
-        (Room { ptr: head.ptr }, Room { ptr: tail.ptr })
+        (EmptyNode { ptr: head.ptr }, EmptyNode { ptr: tail.ptr })
     }
 
     /// Takes the node out, between its two neighbours.

@@ -18,7 +18,7 @@ use Rattle.flow_lanes.specs.declared.job.Job.{Job}
 use Rattle.flow_lanes.specs.declared.job.Work.{Work}
 use Rattle.flow_lanes.specs.declared.job.Work.TheVariants as work
 use Rattle.flow_lanes.specs.Sessions.{is_tcp}
-use Rattle.record_jobs.specs.declared.item.Item.{Item}
+use Rattle.record_jobs.specs.declared.item.RecordItem.{RecordItem}
 use Rattle.record_jobs.specs.declared.time.Time.{Time}
 use Rattle.record_jobs.specs.Packets.{fragment_item, packet_in}
 use Rattle.record_jobs.specs.Touches.{most_flows, touch_in, touches}
@@ -45,18 +45,18 @@ end_of records = fold (λ _ (r : LinkedRecord). r.captured.moment) (record { nan
 -- ---- what is done for a record
 
 -- an item by itself
-abbrev pub alone : Item → Work
+abbrev pub alone : RecordItem → Work
 alone item = work.Alone item.head item.payload
 
 -- a packet of this flow
-unfoldable pub flow_packet : Way → Time → Item → ℕ → Work
+unfoldable pub flow_packet : Way → Time → RecordItem → ℕ → Work
 flow_packet way time item flow =
     let tcp : Bool = is_tcp item.head.body in
     work.Packet flow item.head item.payload (toward_address way tcp time item.head.ip.dst)
     (toward_address way tcp time item.head.ip.src)
 
 -- a packet that found this of its flow, if it has one
-abbrev pub packet_work : Way → Time → Option Touch → Item → Work
+abbrev pub packet_work : Way → Time → Option Touch → RecordItem → Work
 packet_work way time None item = alone item
 packet_work way time (Some touch) item = flow_packet way time item touch.flow
 
@@ -65,7 +65,7 @@ abbrev pub evicted_by : Option Touch → Option ℕ
 evicted_by touch = option_and_then (λ (t : Touch). t.evicted) touch
 
 -- what is done where a touch found this, for a fragment and for a packet
-abbrev pub works_by : Way → Time → Option Touch → Option Item → Option Item → List Work
+abbrev pub works_by : Way → Time → Option Touch → Option RecordItem → Option RecordItem → List Work
 works_by way time touch fragment packet =
     option_to_list (option_map (λ flow. work.Finish flow) (evicted_by touch))
     ++ (option_to_list (option_map alone fragment) ++ option_to_list (option_map (packet_work way time touch) packet))

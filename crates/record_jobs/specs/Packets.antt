@@ -26,7 +26,7 @@ use Rattle.frag3_core.specs.declared.answer.Datagram.{Datagram}
 use Rattle.frag3_core.specs.declared.answer.Taken.{Taken}
 use Rattle.frag3_core.specs.declared.answer.Taken.TheVariants as answer
 use Rattle.frag3_core.specs.Trackers.{Frag3State, Fragment, fragment, state_after, taken}
-use Rattle.record_jobs.specs.declared.item.Item.{Item}
+use Rattle.record_jobs.specs.declared.item.RecordItem.{RecordItem}
 use Rattle.record_jobs.specs.Way.{LinkedRecord, Way, frag_rules}
 
 -- nothing is known of a session
@@ -34,7 +34,7 @@ abbrev pub untracked : SessionFacts
 untracked = record { tracked = false; established = false; from_client = None; sizes = None }
 
 -- what rules see of what was read at this moment
-abbrev pub item_of : ItemKind → Moment → Fields → Item
+abbrev pub item_of : ItemKind → Moment → Fields → RecordItem
 item_of kind moment fields = record {
   head = record { kind = kind; moment = moment; ip = fields.ip; body = fields.body; session = untracked };
   payload = fields.payload;
@@ -105,11 +105,11 @@ datagram_said checks datagram = rebuilt_decoded datagram.ip datagram.bytes check
 -- ---- what is inspected
 
 -- the fragment by itself
-unfoldable pub fragment_item : Way → LinkedRecord → Option Item
+unfoldable pub fragment_item : Way → LinkedRecord → Option RecordItem
 fragment_item way r = option_map (item_of kind.Fragment r.captured.moment) (fragment_fields (said_by way r))
 
 -- the datagram, if there is one that can be read
-abbrev pub datagram_item : Checks → Moment → Option Datagram → Option Item
+abbrev pub datagram_item : Checks → Moment → Option Datagram → Option RecordItem
 datagram_item checks moment datagram =
     option_map (item_of kind.Rebuilt moment) (option_and_then (λ d. result_ok (datagram_said checks d)) datagram)
 
@@ -118,11 +118,11 @@ abbrev pub datagram_skip : Checks → Option Datagram → Option Skip
 datagram_skip checks datagram = option_and_then (λ d. result_err (datagram_said checks d)) datagram
 
 -- the packet: as it was captured, or the datagram that the record completed
-abbrev pub packet_from : Way → Moment → Option Datagram → Result Fields Skip → Option Item
+abbrev pub packet_from : Way → Moment → Option Datagram → Result Fields Skip → Option RecordItem
 packet_from way moment datagram said =
     option_or (option_map (item_of kind.Packet moment) (packet_fields said)) (datagram_item way.checks moment datagram)
 
-unfoldable pub packet_in : Way → List LinkedRecord → LinkedRecord → Option Item
+unfoldable pub packet_in : Way → List LinkedRecord → LinkedRecord → Option RecordItem
 packet_in way before r = packet_from way r.captured.moment (datagram_in way before r) (said_by way r)
 
 -- why the record, or the datagram that it completed, is skipped

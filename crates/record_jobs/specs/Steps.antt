@@ -19,7 +19,7 @@ use Rattle.flow_lanes.specs.declared.job.Job.{Job}
 use Rattle.flow_lanes.specs.declared.job.Work.{Work}
 use Rattle.record_jobs.specs.declared.counts.RecordCounts.{RecordCounts}
 use Rattle.record_jobs.specs.declared.content.RecordContent.{RecordContent}
-use Rattle.record_jobs.specs.declared.item.Item.{Item}
+use Rattle.record_jobs.specs.declared.item.RecordItem.{RecordItem}
 use Rattle.record_jobs.specs.Fronts.{FrontState}
 use Rattle.record_jobs.specs.Jobs.{numbered, time_by, works_by}
 use Rattle.record_jobs.specs.Packets.{datagram_from, datagram_item, datagram_skip, fragment_fields, fragment_of, item_of, packet_from, said_by, skip_from}
@@ -29,7 +29,7 @@ use Rattle.record_jobs.specs.Way.{LinkedRecord, Way}
 -- ---- what a record brings
 
 -- what is inspected of a packet of version 4 that was read so, with this payload
-abbrev pub read_item : Moment → Placed → List ℕ → Item
+abbrev pub read_item : Moment → Placed → List ℕ → RecordItem
 read_item moment read payload = item_of kind.Packet moment (record { ip = read.ip; body = read.body; payload = payload })
 
 -- nothing
@@ -84,7 +84,7 @@ abbrev pub IsShortDatagram : Datagram → Type 0
 IsShortDatagram datagram = length datagram.bytes ≤ 65535
 
 -- an item that is inspected has no more data than a datagram may have
-abbrev pub IsShortItem : Item → Type 0
+abbrev pub IsShortItem : RecordItem → Type 0
 IsShortItem item = length item.payload ≤ 65535
 
 -- a record's packet, if there is one, has no more data than that

@@ -16,7 +16,7 @@ use Rattle.stream5_sessions.specs.declared.flows.Touch.{Touch}
 use Rattle.stream5_sessions.specs.declared.key.Key.{Key}
 use Rattle.stream5_sessions.specs.Keys.{key_of}
 use Rattle.stream5_sessions.specs.Liveness.{MaxFlows, touch_found}
-use Rattle.record_jobs.specs.declared.item.Item.{Item}
+use Rattle.record_jobs.specs.declared.item.RecordItem.{RecordItem}
 use Rattle.record_jobs.specs.Packets.{packet_in}
 use Rattle.record_jobs.specs.Way.{LinkedRecord, Way}
 
@@ -34,7 +34,7 @@ tracked_key stream ip (body.Tcp head) = if stream.tcp then Some (key_between tru
 tracked_key stream ip (body.Udp sport dport) = if stream.udp then Some (key_between false ip sport dport) else None
 tracked_key stream ip carried = None
 
-abbrev pub item_key : Way → Item → Option Key
+abbrev pub item_key : Way → RecordItem → Option Key
 item_key way item = tracked_key way.stream item.head.ip item.head.body
 
 -- the key that a record touches

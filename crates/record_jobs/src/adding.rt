@@ -9,7 +9,7 @@ ghost use Rattle.record_jobs.specs.Way.{way_of};
 use crate::config::FrontConfig;
 use crate::content::RecordContent;
 use crate::engines::towards;
-use crate::item::{Item, head_of};
+use crate::item::{RecordItem, head_of};
 use crate::time::Time;
 use edge_io::{Moment, NoMemory};
 use flow_lanes::{Job, Payload, Work};
@@ -18,14 +18,14 @@ use std::mem;
 use stream5_sessions::Touch;
 
 /// The payload of an item, which has none then.
-fn payload_of<'a>(item: &mut Item<'a>) -> Payload<'a>
+fn payload_of<'a>(item: &mut RecordItem<'a>) -> Payload<'a>
     ensures { result ≡ item.old.payload }
 {
     mem::replace(&mut item.payload, Payload::lent(&[]))
 }
 
 /// An item by itself. Its payload goes with it.
-fn alone<'a>(item: &mut Item<'a>) -> Work<'a>
+fn alone<'a>(item: &mut RecordItem<'a>) -> Work<'a>
     ensures { result ≡ alone item.old }
 {
     Work::Alone {
@@ -36,7 +36,12 @@ fn alone<'a>(item: &mut Item<'a>) -> Work<'a>
 
 /// A packet of a flow. Its payload goes with it.
 #[tactic(auto, unfolding(crate::specs::Jobs::flow_packet))]
-fn flow_packet<'a>(by: &FrontConfig<'_>, time: Time, item: &mut Item<'a>, flow: u64) -> Work<'a>
+fn flow_packet<'a>(
+    by: &FrontConfig<'_>,
+    time: Time,
+    item: &mut RecordItem<'a>,
+    flow: u64,
+) -> Work<'a>
     requires { length by.now.config.now.stream.engines ≤ 1024 }
     ensures { result ≡ flow_packet (way_of by.now) time item.old flow }
 {
@@ -65,7 +70,7 @@ fn packet_work<'a>(
     by: &FrontConfig<'_>,
     time: Time,
     touch: Option<Touch>,
-    item: &mut Item<'a>,
+    item: &mut RecordItem<'a>,
 ) -> Work<'a>
     requires { length by.now.config.now.stream.engines ≤ 1024 }
     ensures { result ≡ packet_work (way_of by.now) time touch item.old }
@@ -163,7 +168,7 @@ fn add_fragment<'a>(
     out: &mut Vec<Job<'a>>,
     number: u64,
     moment: Moment,
-    fragment: &mut Option<Item<'a>>,
+    fragment: &mut Option<RecordItem<'a>>,
 ) -> Result<u64, NoMemory>
     requires { number + 1 < 2 ^ 64 }
     ensures next { IfOk result (λ next. next ≡ number + length (option_to_list (option_map alone fragment.old))) }
@@ -183,7 +188,7 @@ fn add_item<'a>(
     by: &FrontConfig<'_>,
     time: Time,
     touch: Option<Touch>,
-    packet: &mut Option<Item<'a>>,
+    packet: &mut Option<RecordItem<'a>>,
     number: u64,
 ) -> Result<u64, NoMemory>
     requires engines { length by.now.config.now.stream.engines ≤ 1024 }

@@ -8,7 +8,7 @@ ghost use Rattle.record_jobs.specs.Way.{linked, way_of};
 
 use crate::config::FrontConfig;
 use crate::engines::frag_rules;
-use crate::item::{Item, head_of};
+use crate::item::{RecordItem, head_of};
 use edge_io::{Link, Moment, NoMemory, Text};
 use flow_lanes::Payload;
 use frag3_core::{Datagram, Frag3, Taken};
@@ -23,9 +23,9 @@ use std::alloc::Global;
 #[derive(Debug, Drop)]
 pub(crate) struct RecordContent<'a> {
     /// The record's fragment, where it is one.
-    pub fragment: Option<Item<'a>>,
+    pub fragment: Option<RecordItem<'a>>,
     /// The record's packet, or the datagram that its fragment completed.
-    pub packet: Option<Item<'a>>,
+    pub packet: Option<RecordItem<'a>>,
     /// Why the record, or that datagram, is skipped.
     pub skip: Option<Skip>,
     /// Whether the record's fragment completed a datagram.
@@ -56,10 +56,10 @@ pub(crate) fn is_fragment(body: Body) -> bool
 }
 
 /// What is inspected of a packet, its payload lent; nothing is known of its session.
-fn item_of<'a>(kind: ItemKind, moment: Moment, packet: &Packet<'a>) -> Item<'a>
+fn item_of<'a>(kind: ItemKind, moment: Moment, packet: &Packet<'a>) -> RecordItem<'a>
     ensures { result ≡ item_of kind moment (fields_of packet.now) }
 {
-    Item {
+    RecordItem {
         head: head_of(kind, moment, packet.ip, packet.body),
         payload: Payload::lent(packet.payload),
     }
@@ -78,11 +78,11 @@ fn rebuilt_item<'a>(
     alloc: Global,
     moment: Moment,
     packet: &Packet<'_>,
-) -> Result<Item<'a>, NoMemory>
+) -> Result<RecordItem<'a>, NoMemory>
     ensures { IfOk result (λ item. item ≡ item_of ItemKind.Rebuilt moment (fields_of packet.now)) }
 {
     let payload = Text::copy(alloc, packet.payload)?;
-    Ok(Item {
+    Ok(RecordItem {
         head: head_of(ItemKind::Rebuilt, moment, packet.ip, packet.body),
         payload: Payload::own(payload),
     })

@@ -23,7 +23,7 @@ pub(crate) fn head_of(kind: ItemKind, moment: Moment, ip: IpHead, body: Body) ->
 
 /// What is inspected: what rules see of it beside its payload, and the payload.
 #[derive(Debug, Drop)]
-pub(crate) struct Item<'a> {
+pub(crate) struct RecordItem<'a> {
     pub head: ItemHead,
     pub payload: Payload<'a>,
 }

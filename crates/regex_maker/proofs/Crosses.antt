@@ -25,9 +25,9 @@ use Rattle.regex_maker.specs.contracts.made.RegexPattern as RegexPattern
 use Rattle.regex_maker.specs.contracts.memory.Memory as Memory
 use Rattle.regex_maker.specs.contracts.shelf.Kept as Kept
 use Rattle.regex_maker.specs.contracts.shelf.Shelf as Shelf
-use Rattle.regex_maker.specs.contracts.sieve.Sieve as Sieve
-use Rattle.regex_maker.specs.contracts.tally.Part as Part
-use Rattle.regex_maker.specs.contracts.tally.Tally as Tally
+use Rattle.regex_maker.specs.contracts.sieve.MatchTests as MatchTests
+use Rattle.regex_maker.specs.contracts.tally.MemoryCount as MemoryCount
+use Rattle.regex_maker.specs.contracts.tally.MemoryTally as MemoryTally
 
 Hir-send : IsSend Hir.the_field.row
 Hir-send = search (sendable, heap.crosses, knot.crosses, class.the_field_send, look.the_field_send) depth 40
@@ -44,17 +44,17 @@ Signs-send = search (sendable, heap.crosses, Hir-send, caseless.the_send) depth 
 Program-send : IsSend Program.the_field.row
 Program-send = search (sendable, heap.crosses, Hir-send, dfa.the_field_send, Plans-send, Signs-send, byte_set.the_send) depth 40
 
-Tally-send : IsSend Tally.the_field.row
-Tally-send = search (sendable, heap.crosses) depth 40
+MemoryTally-send : IsSend MemoryTally.the_field.row
+MemoryTally-send = search (sendable, heap.crosses) depth 40
 
-Tally-sync : IsSync Tally.the_field.row
-Tally-sync = search (sendable, heap.crosses) depth 40
+MemoryTally-sync : IsSync MemoryTally.the_field.row
+MemoryTally-sync = search (sendable, heap.crosses) depth 40
 
-Part-send : IsSend Part.the_field.row
-Part-send = search (sendable, heap.crosses, Tally-send, Tally-sync) depth 40
+MemoryCount-send : IsSend MemoryCount.the_field.row
+MemoryCount-send = search (sendable, heap.crosses, MemoryTally-send, MemoryTally-sync) depth 40
 
 Memory-send : IsSend Memory.the_field.row
-Memory-send = search (sendable, forward.the_field_send, reverse.the_field_send, Part-send) depth 40
+Memory-send = search (sendable, forward.the_field_send, reverse.the_field_send, MemoryCount-send) depth 40
 
 Kept-send : IsSend Kept.the_field.row
 Kept-send = search (sendable, heap.crosses, Memory-send) depth 40
@@ -62,11 +62,11 @@ Kept-send = search (sendable, heap.crosses, Memory-send) depth 40
 Shelf-send : IsSend Shelf.the_field.row
 Shelf-send = search (sendable, heap.crosses, slot.the_send, Kept-send) depth 40
 
-Sieve-send : IsSend Sieve.the_field.row
-Sieve-send = search (sendable, prefilter.the_send, ladder.the_field_send) depth 40
+MatchTests-send : IsSend MatchTests.the_field.row
+MatchTests-send = search (sendable, prefilter.the_send, ladder.the_field_send) depth 40
 
 pub RegexPattern-send : IsSend RegexPattern.the_row
-RegexPattern-send = search (sendable, heap.crosses, Program-send, Sieve-send, Shelf-send, Tally-send, Tally-sync) depth 40
+RegexPattern-send = search (sendable, heap.crosses, Program-send, MatchTests-send, Shelf-send, MemoryTally-send, MemoryTally-sync) depth 40
 
 Hir-sync : IsSync Hir.the_field.row
 Hir-sync = search (sendable, heap.crosses, knot.crosses, class.the_field_sync, look.the_field_sync) depth 40
@@ -83,11 +83,11 @@ Signs-sync = search (sendable, heap.crosses, Hir-sync, caseless.the_sync) depth 
 Program-sync : IsSync Program.the_field.row
 Program-sync = search (sendable, heap.crosses, Hir-sync, dfa.the_field_sync, Plans-sync, Signs-sync, byte_set.the_sync) depth 40
 
-Part-sync : IsSync Part.the_field.row
-Part-sync = search (sendable, heap.crosses, Tally-send, Tally-sync) depth 40
+MemoryCount-sync : IsSync MemoryCount.the_field.row
+MemoryCount-sync = search (sendable, heap.crosses, MemoryTally-send, MemoryTally-sync) depth 40
 
 Memory-sync : IsSync Memory.the_field.row
-Memory-sync = search (sendable, forward.the_field_sync, reverse.the_field_sync, Part-sync) depth 40
+Memory-sync = search (sendable, forward.the_field_sync, reverse.the_field_sync, MemoryCount-sync) depth 40
 
 Kept-sync : IsSync Kept.the_field.row
 Kept-sync = search (sendable, heap.crosses, Memory-sync) depth 40
@@ -95,8 +95,8 @@ Kept-sync = search (sendable, heap.crosses, Memory-sync) depth 40
 Shelf-sync : IsSync Shelf.the_field.row
 Shelf-sync = search (sendable, heap.crosses, slot.the_sync, Kept-sync, Kept-send) depth 40
 
-Sieve-sync : IsSync Sieve.the_field.row
-Sieve-sync = search (sendable, prefilter.the_sync, ladder.the_field_sync) depth 40
+MatchTests-sync : IsSync MatchTests.the_field.row
+MatchTests-sync = search (sendable, prefilter.the_sync, ladder.the_field_sync) depth 40
 
 pub RegexPattern-sync : IsSync RegexPattern.the_row
-RegexPattern-sync = search (sendable, heap.crosses, Program-sync, Sieve-sync, Shelf-sync, Tally-send, Tally-sync) depth 40
+RegexPattern-sync = search (sendable, heap.crosses, Program-sync, MatchTests-sync, Shelf-sync, MemoryTally-send, MemoryTally-sync) depth 40

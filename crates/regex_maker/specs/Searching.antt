@@ -10,7 +10,7 @@ use Rattle.regex_meta.specs.Programs.{pattern_of}
 use Rattle.regex_meta.specs.declared.program.Program.{Program}
 use Rattle.regex_maker.specs.declared.memory.Memory.{Memory}
 use Rattle.regex_maker.specs.declared.shelf.Shelf.{Shelf}
-use Rattle.regex_maker.specs.declared.sieve.Sieve.{Sieve}
+use Rattle.regex_maker.specs.declared.sieve.MatchTests.{MatchTests}
 
 -- the memory has states of this automaton alone
 abbrev pub IsMemoryFor : Memory → Dfa → Type 0
@@ -21,7 +21,7 @@ abbrev pub IsShelfFor : Shelf → Dfa → Type 0
 IsShelfFor shelf dfa = All (λ kept. kept ≡ dfa) shelf.slots.items
 
 -- what the sieve takes for granted holds of each match of the expression
-pub record IsSieveFor (sieve : Sieve) (program : Program) : Type 0 where
+pub record IsSieveFor (sieve : MatchTests) (program : Program) : Type 0 where
   pub required : ∥ ForSome sieve.required (ContainsNeedle (pattern_of program)) ∥₁
   pub ending : ∥ ForSome sieve.ending (ContainsNeedle (pattern_of program)) ∥₁
   pub admitted : ∥ ForSome sieve.ladder (IsAdmitted (pattern_of program)) ∥₁

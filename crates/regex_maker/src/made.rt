@@ -6,8 +6,8 @@ ghost use Rattle.regex_maker.specs.Searching.{IsSieveFor, IsShelfFor, IsMemoryFo
 
 use crate::memory::{GaveUp, Memory};
 use crate::shelf::Shelf;
-use crate::sieve::Sieve;
-use crate::tally::Tally;
+use crate::sieve::MatchTests;
+use crate::tally::MemoryTally;
 use edge_io::{NoMemory, Pattern, Span};
 use regex_meta::{Program, Searcher};
 use std::alloc::Global;
@@ -19,11 +19,11 @@ pub struct RegexPattern {
     alloc: Global,
     /// Boxed, as the sieve is, since every option of a rule has room for a pattern.
     pub(crate) program: Box<Program>,
-    sieve: Box<Sieve>,
+    sieve: Box<MatchTests>,
     /// The working memory of searches that have ended.
     pub(crate) shelf: Shelf,
     /// What the maker's patterns keep together.
-    tally: Arc<Tally>,
+    tally: Arc<MemoryTally>,
     ghost sifted: { IsSieveFor sieve.value program.value },
     ghost shelved: { IsShelfFor shelf program.value.dfa },
 }
@@ -33,11 +33,11 @@ impl RegexPattern {
     pub(crate) fn new(
         alloc: Global,
         program: Program,
-        tally: Arc<Tally>,
+        tally: Arc<MemoryTally>,
     ) -> Result<RegexPattern, NoMemory>
         ensures { IfOk result (λ pattern. pattern.program.value ≡ program) }
     {
-        let sieve = Sieve::new(alloc, &program)?;
+        let sieve = MatchTests::new(alloc, &program)?;
         let shelf = Shelf::new(alloc, &program.dfa)?;
         Ok(RegexPattern {
             alloc,

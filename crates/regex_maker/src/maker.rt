@@ -6,7 +6,7 @@ ghost use Rattle.regex_maker.specs.Spelled.{IsSpelled};
 ghost use Rattle.regex_maker.specs.Meaning.{IsPattern, pattern_text, options_of, regex_span};
 
 use crate::made::RegexPattern;
-use crate::tally::Tally;
+use crate::tally::MemoryTally;
 use edge_io::{MakeFault, NoMemory, PatternFlags, PatternMaker, Refusal, Text};
 use regex_compile::Error;
 use regex_meta::Program;
@@ -30,7 +30,7 @@ pub struct RegexMaker {
     /// How many bytes of working memory its patterns keep at most.
     most: u64,
     /// The memory that its patterns keep, counted. There is none before the first pattern.
-    pub(crate) tally: Option<Arc<Tally>>,
+    pub(crate) tally: Option<Arc<MemoryTally>>,
 }
 
 impl Model for RegexMaker {
@@ -105,13 +105,13 @@ impl RegexMaker {
     }
 
     /// What its patterns count their memory on.
-    fn tally(&mut self, alloc: Global) -> Result<Arc<Tally>, NoMemory>
+    fn tally(&mut self, alloc: Global) -> Result<Arc<MemoryTally>, NoMemory>
         ensures { self.new ≡ self.old }
     {
         if let Some(tally) = &self.tally {
             return Ok(Arc::try_clone(tally)?);
         }
-        let tally = Arc::new(alloc, Tally::new(self.most))?;
+        let tally = Arc::new(alloc, MemoryTally::new(self.most))?;
         let shared = Arc::try_clone(&tally)?;
         self.tally = Some(tally);
         Ok(shared)

@@ -5,7 +5,7 @@ ghost use Rattle.regex_extract.specs.Bounds.{IsAnchored};
 ghost use Rattle.regex_meta.specs.Programs.{pattern_of, leftmost};
 ghost use Rattle.regex_maker.specs.Searching.{IsMemoryFor};
 
-use crate::tally::{Part, Tally};
+use crate::tally::{MemoryCount, MemoryTally};
 use edge_io::NoMemory;
 use regex_dfa::{Dfa, End, Forward, Reverse, Start, Work};
 use regex_meta::Program;
@@ -36,19 +36,23 @@ pub(crate) struct Memory {
     forward: Forward,
     reverse: Reverse,
     /// What this memory counts for among the memories of the maker's patterns.
-    part: Part,
+    part: MemoryCount,
 }
 
 /// The automata met too many states: another way has to search.
 pub(crate) struct GaveUp;
 
 impl Memory {
-    pub(crate) fn new(alloc: Global, dfa: &Dfa, tally: &Arc<Tally>) -> Result<Memory, NoMemory>
+    pub(crate) fn new(
+        alloc: Global,
+        dfa: &Dfa,
+        tally: &Arc<MemoryTally>,
+    ) -> Result<Memory, NoMemory>
         ensures { IfOk result (λ memory. IsMemoryFor memory dfa.now) }
     {
         let forward = Forward::with_budget(alloc, dfa, false, BUDGET)?;
         let reverse = Reverse::with_budget(alloc, dfa, BUDGET)?;
-        let part = Part::new(tally)?;
+        let part = MemoryCount::new(tally)?;
         Ok(Memory {
             forward,
             reverse,

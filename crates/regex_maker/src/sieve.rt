@@ -21,7 +21,7 @@ const SHORT: usize = 128;
 
 /// Tests that every match of an expression passes.
 #[derive(Drop)]
-pub(crate) struct Sieve {
+pub(crate) struct MatchTests {
     /// Literals of which every match has one, those that are expected least often.
     required: Option<Prefilter>,
     /// Literals with one of which every match ends. A payload made to be slow often has the first
@@ -98,14 +98,14 @@ fn ladder(alloc: Global, program: &Program, anchored: bool) -> Result<Option<Lad
     Ok(regex_levels::ladder(alloc, &program.dfa.nfa)?)
 }
 
-impl Sieve {
+impl MatchTests {
     /// No literals are looked for where all matches start at the first byte and are short.
-    pub(crate) fn new(alloc: Global, program: &Program) -> Result<Sieve, NoMemory>
+    pub(crate) fn new(alloc: Global, program: &Program) -> Result<MatchTests, NoMemory>
         ensures { IfOk result (λ sieve. IsSieveFor sieve program.now) }
     {
         let anchored = regex_extract::is_anchored_start(&program.hir);
         if anchored && are_short(program.max_len) {
-            return Ok(Sieve {
+            return Ok(MatchTests {
                 required: None,
                 ending: None,
                 ladder: None,
@@ -115,7 +115,7 @@ impl Sieve {
         let required = required(alloc, program)?;
         let ending = ending(alloc, program, &required)?;
         let ladder = ladder(alloc, program, anchored)?;
-        Ok(Sieve {
+        Ok(MatchTests {
             required,
             ending,
             ladder,

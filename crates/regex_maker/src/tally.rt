@@ -7,14 +7,14 @@ use std::sync::atomic::Ordering::SeqCst;
 
 /// What patterns keep together, and how much they may. Memory counts by what it reports of itself.
 #[derive(Debug, Drop)]
-pub(crate) struct Tally {
+pub(crate) struct MemoryTally {
     most: u64,
     counted: AtomicU64,
 }
 
-impl Tally {
-    pub(crate) fn new(most: u64) -> Tally {
-        Tally {
+impl MemoryTally {
+    pub(crate) fn new(most: u64) -> MemoryTally {
+        MemoryTally {
             most,
             counted: AtomicU64::new(0),
         }
@@ -41,16 +41,16 @@ impl Tally {
 }
 
 /// What one memory counts for. When it is dropped, its bytes count no longer.
-pub(crate) struct Part {
-    tally: Arc<Tally>,
+pub(crate) struct MemoryCount {
+    tally: Arc<MemoryTally>,
     bytes: u64,
 }
 
-impl Part {
+impl MemoryCount {
     /// A part that counts for nothing yet.
-    pub(crate) fn new(tally: &Arc<Tally>) -> Result<Part, NoMemory> {
+    pub(crate) fn new(tally: &Arc<MemoryTally>) -> Result<MemoryCount, NoMemory> {
         let tally = Arc::try_clone(tally)?;
-        Ok(Part { tally, bytes: 0 })
+        Ok(MemoryCount { tally, bytes: 0 })
     }
 
     /// Counts this many bytes, where it counts fewer. Whether there was room for them: if not, it
@@ -68,9 +68,9 @@ impl Part {
     }
 }
 
-impl Drop for Part {
+impl Drop for MemoryCount {
     fn drop(self) {
-        let Part { tally, bytes } = self;
+        let MemoryCount { tally, bytes } = self;
         tally.subtract(bytes);
     }
 }

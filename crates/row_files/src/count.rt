@@ -6,17 +6,17 @@ use std::process::ExitCode;
 
 /// How many calls or runs gave what they must, and how many did not. A count stops at its end.
 #[derive(Clone, Copy, Debug)]
-pub struct Count {
+pub struct PassCount {
     pub passed: u32,
     pub differed: u32,
 }
 
-impl Count {
+impl PassCount {
     /// Nothing was tried.
-    pub fn new() -> Count
+    pub fn new() -> PassCount
         ensures { result ≡ record { passed = 0; differed = 0 } }
     {
-        Count {
+        PassCount {
             passed: 0,
             differed: 0,
         }

@@ -10,8 +10,8 @@ mod line;
 mod parts;
 mod words;
 
-pub use count::Count;
+pub use count::PassCount;
 pub use files::Files;
 pub use line::RowLine;
-pub use parts::{Parts, cut, named};
-pub use words::{Words, words_of};
+pub use parts::{TextParts, cut, named};
+pub use words::{RowWords, words_of};

@@ -1,16 +1,16 @@
 /// The parts of a text, read one after another: words and numbers between blanks, say. A number that isn't one is 0, and
 /// that is noted, so that what reads them goes on in a straight line and asks once.
 #[derive(Clone, Copy)]
-pub struct Parts<'a> {
+pub struct TextParts<'a> {
     left: &'a str,
     between: char,
     is_wrong: bool,
 }
 
-impl<'a> Parts<'a> {
+impl<'a> TextParts<'a> {
     /// The parts between these characters.
-    pub fn of(text: &'a str, between: char) -> Parts<'a> {
-        Parts {
+    pub fn of(text: &'a str, between: char) -> TextParts<'a> {
+        TextParts {
             left: text,
             between,
             is_wrong: false,

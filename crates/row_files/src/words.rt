@@ -4,7 +4,7 @@ use std::{env, io};
 
 /// Which rows are tried.
 #[derive(Drop)]
-pub struct Words {
+pub struct RowWords {
     /// The names of the files of rows.
     pub files: Vec<String>,
     /// What a row that is tried must have in it; empty for all rows.
@@ -12,7 +12,7 @@ pub struct Words {
 }
 
 /// What the program's words say: the names of files, and after `--only` a text.
-pub fn words_of(rt: &(impl Env + AllocGlobal)) -> io::Result<Words> {
+pub fn words_of(rt: &(impl Env + AllocGlobal)) -> io::Result<RowWords> {
     let alloc = rt.alloc();
     let mut files = Vec::new(alloc);
     let mut only = String::new(alloc);
@@ -27,5 +27,5 @@ pub fn words_of(rt: &(impl Env + AllocGlobal)) -> io::Result<Words> {
             files.push(word)?;
         }
     }
-    Ok(Words { files, only })
+    Ok(RowWords { files, only })
 }

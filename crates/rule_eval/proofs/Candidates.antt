@@ -3,7 +3,7 @@ use Rattle.std.proofs.Common.{◌≡◌, ℕ, zero, suc, ◌⊎◌, ⊎_elim, in
 use Rattle.std.proofs.lemmas.Bool.{false≢true, MatchBool-at_false, and_from, or_left, or_right}
 use Rattle.memchr.specs.Find.{OccursAt}
 use Rattle.edge_io.specs.Matching.{folded}
-use Rattle.net_lists.specs.declared.part.Bounds.{Bounds}
+use Rattle.net_lists.specs.declared.part.ValueBounds.{ValueBounds}
 use Rattle.net_lists.specs.declared.part.Part.{Part}
 use Rattle.net_lists.specs.Membership.{IsListed, Has, has_port}
 use Rattle.packet_decode.specs.declared.item.ItemHead.{ItemHead}
@@ -25,7 +25,7 @@ use Rattle.net_lists.proofs.Membership.Ports.{has_port-from}
 use Rattle.rule_eval.specs.Hits.{Bits, Item, RuleMatches}
 
 -- the ports of a way, and of the way back under `<>`
-ports_fit-from : (sports dports : List (Part (Bounds ℕ))) (both : Bool) (sport dport : ℕ)
+ports_fit-from : (sports dports : List (Part (ValueBounds ℕ))) (both : Bool) (sport dport : ℕ)
     → (IsListed (Has sport) sports × IsListed (Has dport) dports) ⊎ ((both ≡ true) × (IsListed (Has dport) sports × IsListed (Has sport) dports))
     → ports_fit sports dports both sport dport ≡ true
 ports_fit-from sports dports both sport dport (inl h) =
@@ -36,12 +36,12 @@ ports_fit-from sports dports both sport dport (inr h) =
     (and_from both (has_port sports dport && has_port dports sport) h.0
     (and_from (has_port sports dport) (has_port dports sport) (has_port-from dport sports h.1.0) (has_port-from sport dports h.1.1)))
 
-abbrev PortsHold : Proto → List (Part (Bounds ℕ)) → List (Part (Bounds ℕ)) → Bool → Body → Type 0
+abbrev PortsHold : Proto → List (Part (ValueBounds ℕ)) → List (Part (ValueBounds ℕ)) → Bool → Body → Type 0
 PortsHold protocol sports dports both carried =
     (PortHolds protocol sports (source_port carried) × PortHolds protocol dports (destination_port carried))
     ⊎ ((both ≡ true) × (PortHolds protocol sports (destination_port carried) × PortHolds protocol dports (source_port carried)))
 
-header_fits-from : (protocol : Proto) (sports dports : List (Part (Bounds ℕ))) (both : Bool) (carried : Body)
+header_fits-from : (protocol : Proto) (sports dports : List (Part (ValueBounds ℕ))) (both : Bool) (carried : Body)
     → is_of protocol carried ≡ true → PortsHold protocol sports dports both carried → header_fits protocol sports dports both carried ≡ true
 header_fits-from proto.Tcp sports dports both (body.Tcp head) is h = ports_fit-from sports dports both head.sport head.dport h
 header_fits-from proto.Tcp sports dports both (body.Stream sport dport) is h = ports_fit-from sports dports both sport dport h

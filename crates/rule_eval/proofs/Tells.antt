@@ -5,7 +5,7 @@ use Rattle.edge_io.specs.declared.address.Addr.{Addr}
 use Rattle.edge_io.specs.declared.address.Addr.TheVariants as addr
 use Rattle.net_lists.specs.declared.part.AddrBounds.{AddrBounds}
 use Rattle.net_lists.specs.declared.part.AddrBounds.TheVariants as bounds
-use Rattle.net_lists.specs.declared.part.Bounds.{Bounds}
+use Rattle.net_lists.specs.declared.part.ValueBounds.{ValueBounds}
 use Rattle.net_lists.specs.declared.part.Part.{Part}
 use Rattle.net_lists.specs.Membership.{IsListed, IsNegated, IsPositive, Has, HasAddress}
 use Rattle.packet_decode.specs.declared.item.ItemHead.{ItemHead}
@@ -33,7 +33,7 @@ decided_listed {B = B} has each parts =
     decided_lacks : (part : Part B) → Decided (IsNegated part → ¬ has part.bounds)
     decided_lacks part = by_sign part.negated part.bounds
 
-decided_has : (value : ℕ) (within : Bounds ℕ) → Decided (Has value within)
+decided_has : (value : ℕ) (within : ValueBounds ℕ) → Decided (Has value within)
 decided_has value within = decided_both (decided_le within.low value) (decided_le value within.high)
 
 decided_address : (a : Addr) (b : AddrBounds) → Decided (HasAddress a b)
@@ -42,17 +42,17 @@ decided_address (addr.V4 value) (bounds.V6 within) = decided_no (λ h. h)
 decided_address (addr.V6 value) (bounds.V4 within) = decided_no (λ h. h)
 decided_address (addr.V6 value) (bounds.V6 within) = decided_has value within
 
-decided_port : (ports : List (Part (Bounds ℕ))) (port : Option ℕ) → Decided (HasPort ports port)
+decided_port : (ports : List (Part (ValueBounds ℕ))) (port : Option ℕ) → Decided (HasPort ports port)
 decided_port ports None = decided_no (λ h. h)
 decided_port ports (Some port) = decided_listed (Has port) (decided_has port) ports
 
-decided_ports : (protocol : Proto) (ports : List (Part (Bounds ℕ))) (port : Option ℕ) → Decided (PortHolds protocol ports port)
+decided_ports : (protocol : Proto) (ports : List (Part (ValueBounds ℕ))) (port : Option ℕ) → Decided (PortHolds protocol ports port)
 decided_ports proto.Tcp ports port = decided_port ports port
 decided_ports proto.Udp ports port = decided_port ports port
 decided_ports proto.Icmp ports port = decided_yes tt
 decided_ports proto.Ip ports port = decided_yes tt
 
-decided_end : (protocol : Proto) (addrs : List (Part AddrBounds)) (ports : List (Part (Bounds ℕ))) (a : Addr) (port : Option ℕ)
+decided_end : (protocol : Proto) (addrs : List (Part AddrBounds)) (ports : List (Part (ValueBounds ℕ))) (a : Addr) (port : Option ℕ)
     → Decided (IsEnd protocol addrs ports (record { addr = a; port = port }))
 decided_end protocol addrs ports a port = decided_both (decided_listed (HasAddress a) (decided_address a) addrs) (decided_ports protocol ports port)
 

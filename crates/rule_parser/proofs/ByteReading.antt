@@ -2,7 +2,7 @@
 use Rattle.std.proofs.Common.{◌≡◌, ℕ, Some, Ok, List, refl, pos, negsuc}
 use Rattle.net_lists.specs.Numbers.{number_in}
 use Rattle.rule_parser.specs.declared.byte_words.Which.TheVariants.{Test, Jump}
-use Rattle.rule_parser.specs.declared.byte_words.Words.{Words}
+use Rattle.rule_parser.specs.declared.byte_words.ByteWords.{ByteWords}
 use Rattle.rule_types.specs.declared.option.Fetch.{Fetch}
 use Rattle.rule_types.specs.declared.option.Num.{Num}
 use Rattle.rule_types.specs.declared.option.Opt.TheVariants as opt
@@ -10,7 +10,7 @@ use Rattle.rule_parser.specs.ByteOptions.{Part, first_part, next_part, words_of,
 use Rattle.rule_parser.specs.Names.{signed_or_named}
 
 pub jump-read : (names : List (List ℕ)) (left : ℕ) (value : List ℕ) (count place : Part) (bytes : ℕ) (offset : Num)
-    (words : Words) (fetch : Fetch)
+    (words : ByteWords) (fetch : Fetch)
     → count ≡ first_part left value
     → number_in 1 10 count.text ≡ Some bytes
     → next_part count ≡ Ok place
@@ -23,7 +23,7 @@ unfolding byte_jump
 jump-read names left value count place bytes offset words fetch first number next at after fetched = rw (← first, number, next, at, after, fetched) refl
 
 pub test-read : (names : List (List ℕ)) (left : ℕ) (value : List ℕ) (count place : Part) (bytes : ℕ) (comparison : Comparison)
-    (offset : Num) (words : Words) (fetch : Fetch)
+    (offset : Num) (words : ByteWords) (fetch : Fetch)
     → count ≡ first_part left value
     → number_in 1 10 count.text ≡ Some bytes
     → comparison_of names count ≡ Ok comparison

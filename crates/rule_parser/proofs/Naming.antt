@@ -4,12 +4,12 @@ use Rattle.std.proofs.lemmas.List.{take_all, take-take}
 use Rattle.net_lists.specs.Stops.{Gives}
 use Rattle.net_lists.specs.declared.stop.Stop.{Stop}
 use Rattle.net_lists.specs.declared.stop.Stop.TheVariants.{NoMemory, Wrong}
-use Rattle.rule_parser.specs.declared.draft.Draft.{Draft}
+use Rattle.rule_parser.specs.declared.draft.RuleDraft.{RuleDraft}
 use Rattle.rule_parser.specs.declared.fault.Fault.{Fault}
 use Rattle.rule_parser.specs.Bits.{GivesWith, Begins}
 use Rattle.rule_parser.specs.Flowbits.{with_names}
 
-pub gives_with : (names : List (List ℕ)) (answer : Result Draft (Stop Fault)) (meant : Result Draft Fault) → Gives answer meant → GivesWith answer names (with_names names meant)
+pub gives_with : (names : List (List ℕ)) (answer : Result RuleDraft (Stop Fault)) (meant : Result RuleDraft Fault) → Gives answer meant → GivesWith answer names (with_names names meant)
 gives_with names (Ok draft) meant e = ap (with_names names) e
 gives_with names (Err NoMemory) meant e = e
 gives_with names (Err (Wrong why)) meant e = ap (with_names names) e

@@ -5,9 +5,9 @@ use Rattle.std.specs.Option.{option_map}
 use Rattle.net_lists.specs.Stops.{or_kind}
 use Rattle.rule_parser.specs.declared.fault.Fault.TheVariants.{OptionValue}
 use Rattle.rule_parser.specs.declared.quoted.Style.{Style}
-use Rattle.rule_parser.specs.declared.quoted.Place.{Place}
-use Rattle.rule_parser.specs.declared.quoted.Place.TheVariants.{Plain}
-use Rattle.rule_parser.specs.declared.quoted.Step.{Step}
+use Rattle.rule_parser.specs.declared.quoted.QuotedPlace.{QuotedPlace}
+use Rattle.rule_parser.specs.declared.quoted.QuotedPlace.TheVariants.{Plain}
+use Rattle.rule_parser.specs.declared.quoted.QuotedStep.{QuotedStep}
 use Rattle.rule_parser.specs.Quotes.{closing_len, step_at, bytes_of, end_bytes, meaning}
 
 -- bytes with these in front, if there are any
@@ -22,45 +22,45 @@ pub in_front-none : (after : Option (List ℕ)) → in_front [] after ≡ after
 in_front-none None = refl
 in_front-none (Some rest) = refl
 
-meaning-none : (style : Style) (place : Place) (byte : ℕ) (rest out : List ℕ) → step_at style place byte ≡ None → in_front out (meaning style place (byte ∷ rest)) ≡ None
+meaning-none : (style : Style) (place : QuotedPlace) (byte : ℕ) (rest out : List ℕ) → step_at style place byte ≡ None → in_front out (meaning style place (byte ∷ rest)) ≡ None
 unfolding meaning
 meaning-none style place byte rest out none = rw (none, meaning) refl
 
-meaning-some : (style : Style) (place : Place) (byte : ℕ) (rest out : List ℕ) (step : Step) → step_at style place byte ≡ Some step
+meaning-some : (style : Style) (place : QuotedPlace) (byte : ℕ) (rest out : List ℕ) (step : QuotedStep) → step_at style place byte ≡ Some step
     → in_front out (meaning style place (byte ∷ rest)) ≡ in_front (out ++ bytes_of step.slash step.byte) (meaning style step.place rest)
 unfolding meaning
 meaning-some style place byte rest out step some = rw (some, meaning) (in_front-in_front out (bytes_of step.slash step.byte) (meaning style step.place rest))
 
-meaning-nil : (style : Style) (place : Place) (out : List ℕ) → in_front out (meaning style place []) ≡ in_front out (end_bytes style place)
+meaning-nil : (style : Style) (place : QuotedPlace) (out : List ℕ) → in_front out (meaning style place []) ≡ in_front out (end_bytes style place)
 unfolding meaning
 meaning-nil style place out = refl
 
 -- what was given and the meaning after it, one byte on
-pub meaning-step : (style : Style) (place : Place) (text out : List ℕ) (i : ℕ) (step : Step) → i < length text → step_at style place (get_or text i 0) ≡ Some step
+pub meaning-step : (style : Style) (place : QuotedPlace) (text out : List ℕ) (i : ℕ) (step : QuotedStep) → i < length text → step_at style place (get_or text i 0) ≡ Some step
     → in_front out (meaning style place (drop i text)) ≡ in_front (out ++ bytes_of step.slash step.byte) (meaning style step.place (drop (i + 1) text))
 meaning-step style place text out i step h some =
     at_drop_more (λ rest. in_front out (meaning style place rest)) text i 0 h ∙ meaning-some style place (get_or text i 0) (drop (i + 1) text) out step some
 
-pub meaning-stop : (style : Style) (place : Place) (text out : List ℕ) (i : ℕ) → i < length text → step_at style place (get_or text i 0) ≡ None
+pub meaning-stop : (style : Style) (place : QuotedPlace) (text out : List ℕ) (i : ℕ) → i < length text → step_at style place (get_or text i 0) ≡ None
     → in_front out (meaning style place (drop i text)) ≡ None
 meaning-stop style place text out i h none =
     at_drop_more (λ rest. in_front out (meaning style place rest)) text i 0 h ∙ meaning-none style place (get_or text i 0) (drop (i + 1) text) out none
 
 -- after the last byte, what the end gives
-pub meaning-end : (style : Style) (place : Place) (text out : List ℕ) (i : ℕ) → length text ≤ i → in_front out (meaning style place (drop i text)) ≡ in_front out (end_bytes style place)
+pub meaning-end : (style : Style) (place : QuotedPlace) (text out : List ℕ) (i : ℕ) → length text ≤ i → in_front out (meaning style place (drop i text)) ≡ in_front out (end_bytes style place)
 meaning-end style place text out i h = at_drop_all (λ rest. in_front out (meaning style place rest)) text i h ∙ meaning-nil style place out
 
 -- the meaning of a text whose bytes were all looked at
-pub meaning-whole : (style : Style) (place : Place) (text out new : List ℕ) (i : ℕ) (found : Option Step) (step : Step)
+pub meaning-whole : (style : Style) (place : QuotedPlace) (text out new : List ℕ) (i : ℕ) (found : Option QuotedStep) (step : QuotedStep)
     → meaning style Plain text ≡ in_front out (meaning style place (drop i text)) → length text ≤ i
-    → option_map (λ (s : Step). bytes_of s.slash s.byte) found ≡ end_bytes style place → found ≡ Some step → new ≡ out ++ bytes_of step.slash step.byte
+    → option_map (λ (s : QuotedStep). bytes_of s.slash s.byte) found ≡ end_bytes style place → found ≡ Some step → new ≡ out ++ bytes_of step.slash step.byte
     → or_kind OptionValue (meaning style Plain text) ≡ Ok new
 meaning-whole style place text out new i found step so_far h ends is pushed =
     ap (or_kind OptionValue) (so_far ∙ meaning-end style place text out i h ∙ ap (in_front out) (sym ends)
-    ∙ ap (λ (f : Option Step). in_front out (option_map (λ (s : Step). bytes_of s.slash s.byte) f)) is) ∙ ap Ok (sym pushed)
+    ∙ ap (λ (f : Option QuotedStep). in_front out (option_map (λ (s : QuotedStep). bytes_of s.slash s.byte) f)) is) ∙ ap Ok (sym pushed)
 
 -- the meaning of a text that is looked at one byte further
-pub meaning-next : (style : Style) (place : Place) (text out new : List ℕ) (i : ℕ) (step : Step)
+pub meaning-next : (style : Style) (place : QuotedPlace) (text out new : List ℕ) (i : ℕ) (step : QuotedStep)
     → meaning style Plain text ≡ in_front out (meaning style place (drop i text)) → i < length text
     → step_at style place (get_or text i 0) ≡ Some step → new ≡ out ++ bytes_of step.slash step.byte
     → meaning style Plain text ≡ in_front new (meaning style step.place (drop (i + 1) text))

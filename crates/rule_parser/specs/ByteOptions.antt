@@ -20,8 +20,8 @@ use Rattle.rule_parser.specs.declared.byte_options.LentExtraction.{LentExtractio
 use Rattle.rule_parser.specs.declared.byte_options.LentPart.{LentPart}
 use Rattle.rule_parser.specs.declared.byte_words.Which.{Which}
 use Rattle.rule_parser.specs.declared.byte_words.Which.TheVariants.{Test, Jump, Extract}
-use Rattle.rule_parser.specs.declared.byte_words.Words.{Words}
-use Rattle.rule_parser.specs.declared.draft.Draft.{Draft}
+use Rattle.rule_parser.specs.declared.byte_words.ByteWords.{ByteWords}
+use Rattle.rule_parser.specs.declared.draft.RuleDraft.{RuleDraft}
 use Rattle.rule_parser.specs.declared.fault.Fault.{Fault}
 use Rattle.rule_parser.specs.declared.fault.Fault.TheVariants.{OptionValue, OutsideProfile, Limit}
 use Rattle.rule_types.specs.declared.option.Base.{Base}
@@ -73,7 +73,7 @@ next_part part = do
   Ok (first_part part.left_after text)
 
 -- no words
-abbrev pub no_words : Words
+abbrev pub no_words : ByteWords
 no_words = record {
   relative = false;
   big = false;
@@ -87,28 +87,28 @@ no_words = record {
 }
 
 -- a word that may be given once
-abbrev pub once_only : Bool → Words → Result Words Fault
+abbrev pub once_only : Bool → ByteWords → Result ByteWords Fault
 once_only is_given next = if is_given then Err OptionValue else Ok next
 
 -- the numbers after the words `multiplier`, `post_offset` and `align`
-unfoldable pub with_times : Words → List ℕ → Result Words Fault
+unfoldable pub with_times : ByteWords → List ℕ → Result ByteWords Fault
 with_times words number = do
   times ← or_kind OptionValue (number_in 0 65535 number)
   once_only (is_some words.times) (record words { times = Some times })
 
-unfoldable pub with_post : Words → List ℕ → Result Words Fault
+unfoldable pub with_post : ByteWords → List ℕ → Result ByteWords Fault
 with_post words number = do
   post ← or_kind OptionValue (signed_in (negsuc 65534) (pos 65535) number)
   once_only (is_some words.post) (record words { post = Some post })
 
-unfoldable pub with_multiple : Words → List ℕ → Result Words Fault
+unfoldable pub with_multiple : ByteWords → List ℕ → Result ByteWords Fault
 with_multiple words number =
     if bytes_eq number (codes "2") then once_only (is_some words.align) (record words { align = Some 2 })
     else if bytes_eq number (codes "4") then once_only (is_some words.align) (record words { align = Some 4 })
     else Err OptionValue
 
 -- the words that each of the three options has
-unfoldable pub shared_word : Words → List ℕ → Result Words Fault
+unfoldable pub shared_word : ByteWords → List ℕ → Result ByteWords Fault
 shared_word words part =
     if bytes_eq part (codes "relative") then once_only words.relative (record words { relative = true })
     else if bytes_eq part (codes "big") then once_only words.big (record words { big = true })
@@ -121,7 +121,7 @@ shared_word words part =
     else Err OptionValue
 
 -- the words of byte_jump and byte_extract, with their number or without one
-unfoldable pub jump_word : Words → List ℕ → Result Words Fault
+unfoldable pub jump_word : ByteWords → List ℕ → Result ByteWords Fault
 jump_word words part =
     if bytes_eq (first_word part) (codes "multiplier") then with_times words (after_word part)
     else if bytes_eq (first_word part) (codes "post_offset") then with_post words (after_word part)
@@ -129,43 +129,43 @@ jump_word words part =
     else if bytes_eq part (codes "from_beginning") then once_only words.beginning (record words { beginning = true })
     else shared_word words part
 
-unfoldable pub extract_word : Words → List ℕ → Result Words Fault
+unfoldable pub extract_word : ByteWords → List ℕ → Result ByteWords Fault
 extract_word words part =
     if bytes_eq (first_word part) (codes "multiplier") then with_times words (after_word part)
     else if bytes_eq (first_word part) (codes "align") then with_multiple words (after_word part)
     else shared_word words part
 
 -- a word of an option
-abbrev pub word_of : Which → Words → List ℕ → Result Words Fault
+abbrev pub word_of : Which → ByteWords → List ℕ → Result ByteWords Fault
 word_of Test = shared_word
 word_of Jump = jump_word
 word_of Extract = extract_word
 
 -- all words after the parts that have their places
-unfoldable pub words_of : Which → Option (List ℕ) → Result Words Fault
+unfoldable pub words_of : Which → Option (List ℕ) → Result ByteWords Fault
 words_of which None = Ok no_words
 words_of which (Some text) = draft_after (word_of which) no_words (comma_parts text)
 
 -- how the bytes are read
-abbrev pub base_of : Words → Base
+abbrev pub base_of : ByteWords → Base
 base_of words = if words.string then unwrap_or words.base base.Dec else base.Binary words.little
 
 -- what needs a later part: `dec`, `hex` and `oct` want `string`, and so do more than 4 bytes
-abbrev pub lacks_string : ℕ → Words → Bool
+abbrev pub lacks_string : ℕ → ByteWords → Bool
 lacks_string bytes words = not words.string && (is_some words.base || not (nat_le bytes 4))
 
 -- which bytes are read
-unfoldable pub fetch_of : ℕ → Num → Words → Result Fetch Fault
+unfoldable pub fetch_of : ℕ → Num → ByteWords → Result Fetch Fault
 fetch_of bytes offset words =
     if lacks_string bytes words then Err OptionValue else Ok
     (record { bytes = bytes; offset = offset; relative = words.relative; base = base_of words })
 
 -- a byte_jump with these words, and a byte_extract with them under the name of this place
-abbrev pub jump_of : Fetch → Words → Opt
+abbrev pub jump_of : Fetch → ByteWords → Opt
 jump_of fetch words =
     opt.ByteJump fetch (unwrap_or words.times 1) (is_some words.align) words.beginning (unwrap_or words.post (pos 0))
 
-abbrev pub extract_of : Fetch → ℕ → Words → Opt
+abbrev pub extract_of : Fetch → ℕ → ByteWords → Opt
 extract_of fetch name words = opt.ByteExtract fetch name (unwrap_or words.times 1) (unwrap_or words.align 0)
 
 -- an operator of byte_test after its `!`, if there is one
@@ -222,7 +222,7 @@ byte_test names left value = do
   fetch ← fetch_of bytes offset words
   Ok (opt.ByteTest fetch comparison.negated comparison.cmp comparison.value)
 
-unfoldable pub byte_test_option : Draft → ℕ → List ℕ → Result Draft Fault
+unfoldable pub byte_test_option : RuleDraft → ℕ → List ℕ → Result RuleDraft Fault
 byte_test_option draft left value = byte_test draft.names left value >>= kept draft
 
 -- what the value of `byte_jump:n,offset[,..]` says, after these names
@@ -236,7 +236,7 @@ byte_jump names left value = do
   fetch ← fetch_of bytes offset words
   Ok (jump_of fetch words)
 
-unfoldable pub byte_jump_option : Draft → ℕ → List ℕ → Result Draft Fault
+unfoldable pub byte_jump_option : RuleDraft → ℕ → List ℕ → Result RuleDraft Fault
 byte_jump_option draft left value = byte_jump draft.names left value >>= kept draft
 
 -- the names with this one, and its place: a name that is there keeps its place
@@ -247,7 +247,7 @@ with_name names name None = if nat_le 2 (length names) then Err Limit else Ok (n
 -- A byte_extract before its name has a place among the others.
 pub record Extraction : Type 0 where
   pub fetch : Fetch
-  pub words : Words
+  pub words : ByteWords
   pub name : List ℕ
 
 -- what is seen of one that the code lends
@@ -267,12 +267,12 @@ byte_extract names left value = do
   Ok (record { fetch = fetch; words = words; name = name.text })
 
 -- the draft with a byte_extract, and its name among the others
-unfoldable pub with_extraction : Draft → Extraction → Result Draft Fault
+unfoldable pub with_extraction : RuleDraft → Extraction → Result RuleDraft Fault
 with_extraction draft found = do
   names ← with_name draft.names found.name (place_among found.name draft.names)
   kept (record draft { names = names.0 }) (extract_of found.fetch names.1 found.words)
 
-unfoldable pub byte_extract_option : Draft → ℕ → List ℕ → Result Draft Fault
+unfoldable pub byte_extract_option : RuleDraft → ℕ → List ℕ → Result RuleDraft Fault
 byte_extract_option draft left value = byte_extract draft.names left value >>= with_extraction draft
 
 -- one word after the number of isdataat: whether it is `relative`
@@ -302,5 +302,5 @@ isdataat names left value = do
   relative ← data_words (parts_after place.after)
   Ok (opt.IsDataAt at relative sign.0)
 
-unfoldable pub isdataat_option : Draft → ℕ → List ℕ → Result Draft Fault
+unfoldable pub isdataat_option : RuleDraft → ℕ → List ℕ → Result RuleDraft Fault
 isdataat_option draft left value = isdataat draft.names left value >>= kept draft

@@ -13,8 +13,8 @@ use Rattle.edge_io.specs.OnResult.{◌>>=◌}
 use Rattle.net_lists.specs.Cutting.{comma_parts}
 use Rattle.net_lists.specs.Numbers.{number_in}
 use Rattle.net_lists.specs.Stops.{or_kind}
-use Rattle.rule_parser.specs.declared.draft.Draft.{Draft}
-use Rattle.rule_parser.specs.declared.draft.Held.{Held}
+use Rattle.rule_parser.specs.declared.draft.RuleDraft.{RuleDraft}
+use Rattle.rule_parser.specs.declared.draft.LastContent.{LastContent}
 use Rattle.rule_parser.specs.declared.fault.Fault.{Fault}
 use Rattle.rule_parser.specs.declared.fault.Fault.TheVariants.{OptionValue, Misplaced, Limit}
 use Rattle.rule_parser.specs.declared.names.Modifier.{Modifier}
@@ -25,7 +25,7 @@ use Rattle.rule_types.specs.declared.option.FastMode.TheVariants as fast
 use Rattle.rule_types.specs.declared.option.Num.{Num}
 use Rattle.rule_types.specs.declared.option.Num.TheVariants as num
 use Rattle.rule_parser.specs.declared.quoted.Style.TheVariants.{Bytes}
-use Rattle.rule_parser.specs.declared.quoted.Place.TheVariants.{Plain}
+use Rattle.rule_parser.specs.declared.quoted.QuotedPlace.TheVariants.{Plain}
 use Rattle.rule_parser.specs.Drafts.{kept_count, settled}
 use Rattle.rule_parser.specs.Names.{signed_or_named, named}
 use Rattle.rule_parser.specs.Quotes.{meaning}
@@ -49,7 +49,7 @@ plain_content negated bytes = record {
 }
 
 -- the draft with the last content in its place, and this one apart
-abbrev pub with_content : Draft → Content → Draft
+abbrev pub with_content : RuleDraft → Content → RuleDraft
 with_content draft content = record draft {
   opts = settled draft;
   held = Some (record {
@@ -62,7 +62,7 @@ with_content draft content = record draft {
 }
 
 -- the draft with a content of these bytes, where there are some, not too many, and there is room
-abbrev pub with_bytes : Draft → Bool → List ℕ → Result Draft Fault
+abbrev pub with_bytes : RuleDraft → Bool → List ℕ → Result RuleDraft Fault
 with_bytes draft negated bytes =
     if length bytes == 0 then Err OptionValue
     else if nat_le (length bytes) 2048 && not (nat_le 64 (kept_count draft))
@@ -70,37 +70,37 @@ with_bytes draft negated bytes =
     else Err Limit
 
 -- `content:[!]"text"`
-unfoldable pub content_option : Draft → List ℕ → Result Draft Fault
+unfoldable pub content_option : RuleDraft → List ℕ → Result RuleDraft Fault
 content_option draft value = do
   inside ← quoted_whole (negation value).1
   bytes ← or_kind OptionValue (meaning Bytes Plain inside)
   with_bytes draft (negation value).0 bytes
 
 -- the last content, where there is one, and the draft without it
-unfoldable pub apart : Draft → Result (Held × Draft) Fault
+unfoldable pub apart : RuleDraft → Result (LastContent × RuleDraft) Fault
 apart draft = or_kind Misplaced draft.held >>= λ held. Ok (held, record draft { held = None })
 
 -- the draft with this last content
-abbrev pub with_last : Draft → Held → Draft
+abbrev pub with_last : RuleDraft → LastContent → RuleDraft
 with_last draft held = record draft { held = Some held }
 
 -- what `nocase` makes of the last content
-unfoldable pub nocase : Held → Option (List ℕ) → Result Held Fault
+unfoldable pub nocase : LastContent → Option (List ℕ) → Result LastContent Fault
 nocase held value = if held.content.nocase then Err Misplaced else if is_some value then Err OptionValue
     else Ok (record held { content = record held.content { nocase = true } })
 
-unfoldable pub nocase_option : Draft → Option (List ℕ) → Result Draft Fault
+unfoldable pub nocase_option : RuleDraft → Option (List ℕ) → Result RuleDraft Fault
 nocase_option draft value = do
   parts ← apart draft
   held ← nocase parts.0 value
   Ok (with_last parts.1 held)
 
 -- `rawbytes`, which changes nothing
-unfoldable pub rawbytes : Held → Option (List ℕ) → Result Held Fault
+unfoldable pub rawbytes : LastContent → Option (List ℕ) → Result LastContent Fault
 rawbytes held value = if held.raw then Err Misplaced else if is_some value then Err OptionValue
     else Ok (record held { raw = true })
 
-unfoldable pub rawbytes_option : Draft → Option (List ℕ) → Result Draft Fault
+unfoldable pub rawbytes_option : RuleDraft → Option (List ℕ) → Result RuleDraft Fault
 rawbytes_option draft value = do
   parts ← apart draft
   held ← rawbytes parts.0 value
@@ -133,18 +133,18 @@ abbrev pub place_text : Bool → Bool → Option (List ℕ) → Result (List ℕ
 place_text bars placeless value = if bars then Err Misplaced else if placeless then Err OptionValue else or_kind OptionValue value
 
 -- the names that were extracted before the content
-abbrev pub known_before : List (List ℕ) → Held → List (List ℕ)
+abbrev pub known_before : List (List ℕ) → LastContent → List (List ℕ)
 known_before names held = take held.known names
 
 -- what `offset` or `distance` makes of the last content; `left` is how many bytes of the line are left where the
 -- value begins
-unfoldable pub with_from : Modifier → Held → List (List ℕ) → ℕ → Option (List ℕ) → Result Held Fault
+unfoldable pub with_from : Modifier → LastContent → List (List ℕ) → ℕ → Option (List ℕ) → Result LastContent Fault
 with_from name held names left value = do
   text ← place_text (bars_from name held.content) held.placeless value
   from ← signed_or_named (negsuc 65534) (pos 65535) (known_before names held) left text
   Ok (record held { content = record held.content { relative = is_relative name; from = Some from } })
 
-unfoldable pub from_option : Modifier → Draft → ℕ → Option (List ℕ) → Result Draft Fault
+unfoldable pub from_option : Modifier → RuleDraft → ℕ → Option (List ℕ) → Result RuleDraft Fault
 from_option name draft left value = do
   parts ← apart draft
   held ← with_from name parts.0 parts.1.names left value
@@ -156,13 +156,13 @@ room_of size known left text None = named known left text
 room_of size known left text (Some number) = if nat_le size number then Ok (num.Value (pos number)) else Err OptionValue
 
 -- what `depth` or `within` makes of the last content
-unfoldable pub with_room : Modifier → Held → List (List ℕ) → ℕ → Option (List ℕ) → Result Held Fault
+unfoldable pub with_room : Modifier → LastContent → List (List ℕ) → ℕ → Option (List ℕ) → Result LastContent Fault
 with_room name held names left value = do
   text ← place_text (bars_room name held.content) held.placeless value
   room ← room_of (length held.content.bytes) (known_before names held) left text (number_in 0 65535 text)
   Ok (record held { content = record held.content { relative = is_relative name; room = Some room } })
 
-unfoldable pub room_option : Modifier → Draft → ℕ → Option (List ℕ) → Result Draft Fault
+unfoldable pub room_option : Modifier → RuleDraft → ℕ → Option (List ℕ) → Result RuleDraft Fault
 room_option name draft left value = do
   parts ← apart draft
   held ← with_room name parts.0 parts.1.names left value
@@ -203,7 +203,7 @@ abbrev pub bars_fast : FastMode → Content → Bool
 bars_fast mode content = (is_only mode && content.negated) || ((is_only mode || content.negated) && has_room content)
 
 -- `fast_pattern`, `fast_pattern:only`, `fast_pattern:o,l`
-unfoldable pub fast_pattern_option : Draft → Option (List ℕ) → Result Draft Fault
+unfoldable pub fast_pattern_option : RuleDraft → Option (List ℕ) → Result RuleDraft Fault
 fast_pattern_option draft value = do
   held ← if draft.fast then Err Misplaced else or_kind Misplaced draft.held
   mode ← fast_mode (length held.content.bytes) value

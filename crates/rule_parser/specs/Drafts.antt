@@ -8,13 +8,13 @@
 use Rattle.std.specs.Prelude.{ℕ, ◌+◌, false, Option, Some, None, Result, Ok, Err, List, [], ◌∷◌, ◌++◌, length, insert, nat_le, is_some, if◌then◌else◌}
 use Rattle.rule_types.specs.declared.option.Opt.{Opt}
 use Rattle.rule_types.specs.declared.option.Opt.TheVariants as opt
-use Rattle.rule_parser.specs.declared.draft.Draft.{Draft}
-use Rattle.rule_parser.specs.declared.draft.Held.{Held}
+use Rattle.rule_parser.specs.declared.draft.RuleDraft.{RuleDraft}
+use Rattle.rule_parser.specs.declared.draft.LastContent.{LastContent}
 use Rattle.rule_parser.specs.declared.fault.Fault.{Fault}
 use Rattle.rule_parser.specs.declared.fault.Fault.TheVariants.{Limit}
 
 -- the draft before the first option
-abbrev pub empty_draft : Draft
+abbrev pub empty_draft : RuleDraft
 empty_draft = record {
   opts = [];
   held = None;
@@ -33,20 +33,20 @@ empty_draft = record {
 }
 
 -- how many options there are, the last content among them
-abbrev pub kept_count : Draft → ℕ
+abbrev pub kept_count : RuleDraft → ℕ
 kept_count draft = length draft.opts + (if is_some draft.held then 1 else 0)
 
 -- the draft with one more option
-unfoldable pub kept : Draft → Opt → Result Draft Fault
+unfoldable pub kept : RuleDraft → Opt → Result RuleDraft Fault
 kept draft option = if nat_le 64 (kept_count draft) then Err Limit else Ok (record draft { opts = draft.opts ++ option ∷ [] })
 
 -- the options with the last content in its place
-abbrev pub with_held : List Opt → Option Held → List Opt
+abbrev pub with_held : List Opt → Option LastContent → List Opt
 with_held opts None = opts
 with_held opts (Some held) = insert opts held.place (opt.Content held.content)
 
 -- all options that there are, in their order
-unfoldable pub settled : Draft → List Opt
+unfoldable pub settled : RuleDraft → List Opt
 settled draft = with_held draft.opts draft.held
 
 -- the answer of a step that changes a draft in its place, with the draft after it

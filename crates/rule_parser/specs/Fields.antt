@@ -9,7 +9,7 @@ use Rattle.std.specs.Prelude.{ℕ, ◌+◌, ◌==◌, ◌&&◌, ◌||◌, Bool, 
 use Rattle.edge_io.specs.OnResult.{◌>>=◌}
 use Rattle.net_lists.specs.Numbers.{number_in}
 use Rattle.net_lists.specs.Stops.{or_kind}
-use Rattle.rule_parser.specs.declared.draft.Draft.{Draft}
+use Rattle.rule_parser.specs.declared.draft.RuleDraft.{RuleDraft}
 use Rattle.rule_parser.specs.declared.fault.Fault.{Fault}
 use Rattle.rule_parser.specs.declared.fault.Fault.TheVariants.{OptionValue}
 use Rattle.rule_parser.specs.declared.fields.Sign.{Sign}
@@ -145,15 +145,15 @@ compare_of field.IcmpId text = signed_compare field.IcmpId text
 compare_of field.IcmpSeq text = signed_compare field.IcmpSeq text
 
 -- an option of one number, `dsize` apart
-unfoldable pub field_option : Field → Draft → List ℕ → Result Draft Fault
+unfoldable pub field_option : Field → RuleDraft → List ℕ → Result RuleDraft Fault
 field_option field draft value = compare_of field value >>= kept draft
 
 -- `dsize`, which is given at most once
-unfoldable pub dsize_option : Draft → List ℕ → Result Draft Fault
+unfoldable pub dsize_option : RuleDraft → List ℕ → Result RuleDraft Fault
 dsize_option draft value = do
   option ← compare_of field.Dsize value
   if draft.dsize then Err OptionValue else kept (record draft { dsize = true }) option
 
 -- `sameip`
-unfoldable pub sameip_option : Draft → Option (List ℕ) → Result Draft Fault
+unfoldable pub sameip_option : RuleDraft → Option (List ℕ) → Result RuleDraft Fault
 sameip_option draft value = if is_some value then Err OptionValue else kept draft opt.SameIp

@@ -12,10 +12,10 @@ use Rattle.edge_io.specs.OnResult.{◌>>=◌}
 use Rattle.net_lists.specs.Cutting.{comma_parts}
 use Rattle.net_lists.specs.Folds.{draft_after}
 use Rattle.net_lists.specs.Stops.{or_kind}
-use Rattle.rule_parser.specs.declared.draft.Draft.{Draft}
+use Rattle.rule_parser.specs.declared.draft.RuleDraft.{RuleDraft}
 use Rattle.rule_parser.specs.declared.fault.Fault.{Fault}
 use Rattle.rule_parser.specs.declared.fault.Fault.TheVariants.{OptionValue}
-use Rattle.rule_parser.specs.declared.flags.Letters.{Letters}
+use Rattle.rule_parser.specs.declared.flags.FlagLetters.{FlagLetters}
 use Rattle.rule_types.specs.declared.option.FlowOpt.{FlowOpt}
 use Rattle.rule_types.specs.declared.option.Mode.{Mode}
 use Rattle.rule_types.specs.declared.option.Mode.TheVariants as mode
@@ -61,13 +61,13 @@ flow_word flow word =
     else item_word flow word
 
 -- `flow:w,..`, which is given at most once
-unfoldable pub flow_option : Draft → List ℕ → Result Draft Fault
+unfoldable pub flow_option : RuleDraft → List ℕ → Result RuleDraft Fault
 flow_option draft value = do
   flow ← draft_after flow_word no_flow (comma_parts value)
   if draft.flow then Err OptionValue else kept (record draft { flow = true }) (opt.Flow flow)
 
 -- the letters before the first one
-abbrev pub no_letters : Letters
+abbrev pub no_letters : FlagLetters
 no_letters = record { mode = None; bits = 0; any = false }
 
 -- the sign that a byte is: `!` (33), `*` (42), `+` (43)
@@ -87,25 +87,25 @@ abbrev pub frag_bit : ℕ → Option ℕ
 frag_bit byte = if byte == 77 then Some 1 else if byte == 68 then Some 2 else if byte == 82 then Some 4 else None
 
 -- the letters with one bit more, if the byte is a letter
-abbrev pub with_bit : Letters → Option ℕ → Option Letters
+abbrev pub with_bit : FlagLetters → Option ℕ → Option FlagLetters
 with_bit letters None = None
 with_bit letters (Some bit) = Some (record letters { bits = bit_or letters.bits bit; any = true })
 
 -- the letters with a sign, if the byte is one and there is none yet, or else a letter
-abbrev pub with_mode : Letters → Option Letters → Option Mode → Option Letters
+abbrev pub with_mode : FlagLetters → Option FlagLetters → Option Mode → Option FlagLetters
 with_mode letters else_ None = else_
 with_mode letters else_ (Some sign) = if is_some letters.mode then None else Some (record letters { mode = Some sign })
 
 -- the letters, where there is one
-abbrev pub if_any : Letters → Option Letters
+abbrev pub if_any : FlagLetters → Option FlagLetters
 if_any letters = if letters.any then Some letters else None
 
 -- the letters with a letter of TCP flags, or with a sign where signs may come
-unfoldable pub flag_step : Bool → Letters → ℕ → Option Letters
+unfoldable pub flag_step : Bool → FlagLetters → ℕ → Option FlagLetters
 flag_step signs letters byte = with_mode letters (with_bit letters (flag_bit byte)) (if signs then mode_of byte else None)
 
 -- the letters of TCP flags, a sign anywhere among them where `signs` holds
-unfoldable pub flag_letters : Bool → Letters → List ℕ → Option Letters
+unfoldable pub flag_letters : Bool → FlagLetters → List ℕ → Option FlagLetters
 flag_letters signs letters [] = if_any letters
 flag_letters signs letters (byte ∷ rest) =
     elim (flag_step signs letters byte) [
@@ -131,15 +131,15 @@ flags_parts (first ∷ rest) = do
 unfoldable pub flags_of : List ℕ → Result Opt Fault
 flags_of value = flags_parts (comma_parts value)
 
-unfoldable pub flags_option : Draft → List ℕ → Result Draft Fault
+unfoldable pub flags_option : RuleDraft → List ℕ → Result RuleDraft Fault
 flags_option draft value = flags_of value >>= kept draft
 
 -- the letters with a letter of fragment bits, or with a sign where the byte is the last one
-unfoldable pub frag_step : Bool → Letters → ℕ → Option Letters
+unfoldable pub frag_step : Bool → FlagLetters → ℕ → Option FlagLetters
 frag_step last letters byte = with_mode letters (with_bit letters (frag_bit byte)) (if last then mode_of byte else None)
 
 -- the letters of fragment bits, of which a sign may be the last byte where there is none yet
-unfoldable pub frag_letters : Letters → List ℕ → Option Letters
+unfoldable pub frag_letters : FlagLetters → List ℕ → Option FlagLetters
 frag_letters letters [] = if_any letters
 frag_letters letters (byte ∷ rest) =
     elim (frag_step (length rest == 0) letters byte) [
@@ -148,7 +148,7 @@ frag_letters letters (byte ∷ rest) =
     ]
 
 -- the letters of fragment bits after a sign in front, if there is one
-abbrev pub frag_signed : List ℕ → Option Letters
+abbrev pub frag_signed : List ℕ → Option FlagLetters
 frag_signed [] = None
 frag_signed (byte ∷ rest) = elim (mode_of byte) [
   | None ↦ frag_letters no_letters (byte ∷ rest)
@@ -156,7 +156,7 @@ frag_signed (byte ∷ rest) = elim (mode_of byte) [
 ]
 
 -- `fragbits`
-unfoldable pub fragbits_option : Draft → List ℕ → Result Draft Fault
+unfoldable pub fragbits_option : RuleDraft → List ℕ → Result RuleDraft Fault
 fragbits_option draft value = do
   letters ← or_kind OptionValue (frag_signed value)
   kept draft (opt.FragBits (unwrap_or letters.mode mode.Exact) letters.bits)

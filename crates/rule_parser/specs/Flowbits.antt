@@ -9,7 +9,7 @@ use Rattle.std.specs.Prelude.{ℕ, ◌==◌, ◌&&◌, ◌||◌, Bool, true, fal
 use Rattle.std.specs.Char.{is_ascii_alphanumeric}
 use Rattle.std.specs.List.{list_all, list_any}
 use Rattle.edge_io.specs.OnResult.{◌>>=◌}
-use Rattle.rule_parser.specs.declared.draft.Draft.{Draft}
+use Rattle.rule_parser.specs.declared.draft.RuleDraft.{RuleDraft}
 use Rattle.rule_parser.specs.declared.fault.Fault.{Fault}
 use Rattle.rule_parser.specs.declared.fault.Fault.TheVariants.{OptionValue, OutsideProfile, Limit}
 use Rattle.rule_types.specs.declared.option.BitChange.TheVariants.{Set, Unset, Toggle}
@@ -60,7 +60,7 @@ numbered names name (Some place) = Ok (names, place)
 numbered names name None = if nat_le 1024 (length names) then Err Limit else Ok (names ++ name ∷ [], length names)
 
 -- a draft, and the names of this and of all rules before
-abbrev pub with_names : List (List ℕ) → Result Draft Fault → Result (Draft × List (List ℕ)) Fault
+abbrev pub with_names : List (List ℕ) → Result RuleDraft Fault → Result (RuleDraft × List (List ℕ)) Fault
 with_names names result = result >>= λ draft. Ok (draft, names)
 
 -- a bit's name, after which nothing comes
@@ -70,7 +70,7 @@ last_name part = do
   if is_some part.after then Err OutsideProfile else Ok name
 
 -- a word, the first part, and a name
-unfoldable pub bit_parts : List (List ℕ) → Draft → Part → BitWord → Result (Draft × List (List ℕ)) Fault
+unfoldable pub bit_parts : List (List ℕ) → RuleDraft → Part → BitWord → Result (RuleDraft × List (List ℕ)) Fault
 bit_parts names draft first bit = do
   part ← next_part first
   name ← last_name part
@@ -78,15 +78,15 @@ bit_parts names draft first bit = do
   with_names numbering.0 (kept draft (bit_option bit numbering.1))
 
 -- `noalert`, after which nothing comes
-abbrev pub noalert : Draft → Part → Result Draft Fault
+abbrev pub noalert : RuleDraft → Part → Result RuleDraft Fault
 noalert draft first = if is_some first.after then Err OptionValue else Ok (record draft { noalert = true })
 
 -- what a `flowbits` makes of a draft, by the first part of its value
-unfoldable pub flowbits_parts : List (List ℕ) → Draft → Part → Result (Draft × List (List ℕ)) Fault
+unfoldable pub flowbits_parts : List (List ℕ) → RuleDraft → Part → Result (RuleDraft × List (List ℕ)) Fault
 flowbits_parts names draft first =
     if bytes_eq first.text (codes "noalert") then with_names names (noalert draft first)
     else bit_word first.text >>= bit_parts names draft first
 
 -- `flowbits:..`; `names` are those of this rule so far and of the rules before
-unfoldable pub flowbits_option : List (List ℕ) → Draft → List ℕ → Result (Draft × List (List ℕ)) Fault
+unfoldable pub flowbits_option : List (List ℕ) → RuleDraft → List ℕ → Result (RuleDraft × List (List ℕ)) Fault
 flowbits_option names draft value = flowbits_parts names draft (first_part 0 value)

@@ -9,7 +9,7 @@ use Rattle.std.specs.Prelude.{◌≡◌, ℕ, zero, suc, ◌-◌, ◌≤◌, ◌
 use Rattle.net_lists.specs.declared.fault.ExpandFault.{ExpandFault}
 use Rattle.net_lists.specs.declared.fault.ExpandFault.TheVariants as expand
 use Rattle.net_lists.specs.declared.part.AddrBounds.{AddrBounds}
-use Rattle.net_lists.specs.declared.part.Bounds.{Bounds}
+use Rattle.net_lists.specs.declared.part.ValueBounds.{ValueBounds}
 use Rattle.net_lists.specs.declared.part.Part.{Part}
 use Rattle.net_lists.specs.Addresses.{address_bounds}
 use Rattle.net_lists.specs.Cutting.{first_word, after_word}
@@ -79,7 +79,7 @@ expanded_word variables text = expanded_to (length text) (expansion variables (f
 unfoldable pub IsAddressWord : Variables → List ℕ → Result (List (Part AddrBounds)) Fault → Type 0
 IsAddressWord variables text = After (λ answer. answer ≡ expanded_word variables text) (IsReadAs address_bounds fault.Address)
 
-unfoldable pub IsPortWord : Variables → List ℕ → Result (List (Part (Bounds ℕ))) Fault → Type 0
+unfoldable pub IsPortWord : Variables → List ℕ → Result (List (Part (ValueBounds ℕ))) Fault → Type 0
 IsPortWord variables text = After (λ answer. answer ≡ expanded_word variables text) (IsReadAs port_bounds fault.Port)
 
 -- a word that is this value or fault

@@ -12,14 +12,14 @@ use Rattle.std.specs.List.{list_all, suffix_len}
 use Rattle.edge_io.specs.OnResult.{◌>>=◌}
 use Rattle.edge_io.specs.declared.pattern.PatternFlags.{PatternFlags}
 use Rattle.net_lists.specs.Stops.{or_kind}
-use Rattle.rule_parser.specs.declared.draft.Draft.{Draft}
+use Rattle.rule_parser.specs.declared.draft.RuleDraft.{RuleDraft}
 use Rattle.rule_parser.specs.declared.fault.Fault.{Fault}
 use Rattle.rule_parser.specs.declared.fault.Fault.TheVariants.{OptionValue, OutsideProfile, Limit}
 use Rattle.rule_types.specs.declared.option.Opt.{Opt}
 use Rattle.rule_types.specs.declared.option.Opt.TheVariants as opt
 use Rattle.rule_parser.specs.declared.patterns.Flags.{Flags}
 use Rattle.rule_parser.specs.declared.quoted.Style.TheVariants.{Pattern}
-use Rattle.rule_parser.specs.declared.quoted.Place.TheVariants.{Plain}
+use Rattle.rule_parser.specs.declared.quoted.QuotedPlace.TheVariants.{Plain}
 use Rattle.rule_parser.specs.Contents.{negation}
 use Rattle.rule_parser.specs.Drafts.{kept}
 use Rattle.rule_parser.specs.Quotes.{quoted, meaning}
@@ -89,5 +89,5 @@ pcre value = do
   if not (length parts.1 == 0) then Err OptionValue else if nat_lt 4096 (length text) then Err Limit
       else Ok (opt.Pcre text (pattern_flags flags) flags.relative (negation value).0)
 
-unfoldable pub pcre_option : Draft → List ℕ → Result Draft Fault
+unfoldable pub pcre_option : RuleDraft → List ℕ → Result RuleDraft Fault
 pcre_option draft value = pcre value >>= kept draft

@@ -7,7 +7,7 @@ use Rattle.edge_io.specs.OnResult.{◌>>=◌}
 use Rattle.net_lists.specs.Cutting.{comma_parts, first_word, after_word}
 use Rattle.net_lists.specs.Numbers.{number_in}
 use Rattle.net_lists.specs.Stops.{or_kind}
-use Rattle.rule_parser.specs.declared.draft.Draft.{Draft}
+use Rattle.rule_parser.specs.declared.draft.RuleDraft.{RuleDraft}
 use Rattle.rule_parser.specs.declared.fault.Fault.{Fault}
 use Rattle.rule_parser.specs.declared.fault.Fault.TheVariants.{OptionValue}
 use Rattle.rule_types.specs.declared.rule.Period.{Period}
@@ -41,7 +41,7 @@ period_parts (first ∷ second ∷ []) = Err OptionValue
 period_parts (first ∷ second ∷ third ∷ fourth ∷ more) = Err OptionValue
 
 -- `detection_filter`, which is given at most once
-unfoldable pub detection_filter_option : Draft → List ℕ → Result Draft Fault
+unfoldable pub detection_filter_option : RuleDraft → List ℕ → Result RuleDraft Fault
 detection_filter_option draft value = do
   period ← period_parts (comma_parts value)
   if is_some draft.period then Err OptionValue else Ok (record draft { period = Some period })

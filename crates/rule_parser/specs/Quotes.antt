@@ -12,9 +12,9 @@ use Rattle.edge_io.specs.Bytes.{is_blank}
 use Rattle.edge_io.specs.OnOption.{◌>>=◌}
 use Rattle.rule_parser.specs.declared.quoted.Style.{Style}
 use Rattle.rule_parser.specs.declared.quoted.Style.TheVariants.{Message, Bytes, Pattern}
-use Rattle.rule_parser.specs.declared.quoted.Place.{Place}
-use Rattle.rule_parser.specs.declared.quoted.Place.TheVariants.{Plain, Escaped, Bars, Half}
-use Rattle.rule_parser.specs.declared.quoted.Step.{Step}
+use Rattle.rule_parser.specs.declared.quoted.QuotedPlace.{QuotedPlace}
+use Rattle.rule_parser.specs.declared.quoted.QuotedPlace.TheVariants.{Plain, Escaped, Bars, Half}
+use Rattle.rule_parser.specs.declared.quoted.QuotedStep.{QuotedStep}
 
 -- how many bytes come before the first `"` (34) that no backslash (92) takes along
 unfoldable pub closing_len : Bool → List ℕ → Option ℕ
@@ -40,13 +40,13 @@ hex_value byte =
     else None
 
 -- the step that goes on at this place, without a byte, with one, or with a backslash and one
-abbrev pub silent : Place → Step
+abbrev pub silent : QuotedPlace → QuotedStep
 silent place = record { place = place; slash = false; byte = None }
 
-abbrev pub giving : Place → ℕ → Step
+abbrev pub giving : QuotedPlace → ℕ → QuotedStep
 giving place byte = record { place = place; slash = false; byte = Some byte }
 
-abbrev pub giving_pair : Place → ℕ → Step
+abbrev pub giving_pair : QuotedPlace → ℕ → QuotedStep
 giving_pair place byte = record { place = place; slash = true; byte = Some byte }
 
 -- the pairs that stand for their second byte in a pattern: `"`, `;`, `:`, `/`
@@ -66,29 +66,29 @@ frees Message byte = true
 frees Pattern byte = is_freed byte
 
 -- What a byte gives outside bars.
-unfoldable pub plain_step : Style → ℕ → Step
+unfoldable pub plain_step : Style → ℕ → QuotedStep
 plain_step style byte =
     if byte == 92 then silent Escaped else if byte == 124 && has_bars style then silent Bars else giving Plain byte
 
 -- What a byte gives after a backslash.
-unfoldable pub escaped_step : Style → ℕ → Step
+unfoldable pub escaped_step : Style → ℕ → QuotedStep
 escaped_step style byte = if frees style byte then giving Plain byte else giving_pair Plain byte
 
 -- What a byte gives between bars.
-unfoldable pub bars_step : ℕ → Option Step
+unfoldable pub bars_step : ℕ → Option QuotedStep
 bars_step byte =
     if byte == 124 then Some (silent Plain) else if is_blank byte then Some (silent Bars)
     else if is_some (hex_value byte) then Some (silent (Half byte)) else None
 
 -- What a byte gives after the first digit of a pair.
-unfoldable pub half_step : ℕ → ℕ → Option Step
+unfoldable pub half_step : ℕ → ℕ → Option QuotedStep
 half_step first byte = do
   high ← hex_value first
   low ← hex_value byte
   Some (giving Bars (high * 16 + low))
 
 -- What a byte gives at its place.
-abbrev pub step_at : Style → Place → ℕ → Option Step
+abbrev pub step_at : Style → QuotedPlace → ℕ → Option QuotedStep
 step_at style Plain byte = Some (plain_step style byte)
 step_at style Escaped byte = Some (escaped_step style byte)
 step_at style Bars byte = bars_step byte
@@ -107,14 +107,14 @@ lone_backslash Message = None
 lone_backslash Pattern = Some (92 ∷ [])
 
 -- what the end of a text gives: it has no open bar, and no half of a pair of digits
-abbrev pub end_bytes : Style → Place → Option (List ℕ)
+abbrev pub end_bytes : Style → QuotedPlace → Option (List ℕ)
 end_bytes style Plain = Some []
 end_bytes style Escaped = lone_backslash style
 end_bytes style Bars = None
 end_bytes style (Half first) = None
 
 -- what a quoted text stands for
-unfoldable pub meaning : Style → Place → List ℕ → Option (List ℕ)
+unfoldable pub meaning : Style → QuotedPlace → List ℕ → Option (List ℕ)
 meaning style place [] = end_bytes style place
 meaning style place (byte ∷ rest) = elim (step_at style place byte) [
   | None ↦ None

@@ -16,7 +16,7 @@ use Rattle.net_lists.specs.Variables.{Variables}
 use Rattle.conf_types.specs.declared.classes.Class.{Class}
 use Rattle.rule_parser.specs.declared.draft.ClassName.{ClassName}
 use Rattle.rule_parser.specs.declared.draft.ClassName.TheVariants as class
-use Rattle.rule_parser.specs.declared.draft.Draft.{Draft}
+use Rattle.rule_parser.specs.declared.draft.RuleDraft.{RuleDraft}
 use Rattle.rule_parser.specs.declared.fault.Fault.{Fault}
 use Rattle.rule_parser.specs.declared.fault.Fault.TheVariants.{OptionSyntax, MissingSid, UnknownClass}
 use Rattle.rule_parser.specs.declared.fault.RuleFault.{RuleFault}
@@ -37,7 +37,8 @@ in_parentheses text =
 
 -- The draft and the flowbit names after all options, of which these texts are left; `left` bytes of the
 -- line are left where the first of them begins. After the last `;` only blanks may come.
-unfoldable pub rule_options : List Class → List (List ℕ) → Draft → ℕ → List (List ℕ) → Result (Draft × List (List ℕ)) Fault
+unfoldable pub rule_options : List Class → List (List ℕ) → RuleDraft → ℕ → List (List ℕ)
+    → Result (RuleDraft × List (List ℕ)) Fault
 rule_options classes names draft left [] = Ok (draft, names)
 rule_options classes names draft left (text ∷ []) = if list_all is_blank text then Ok (draft, names) else Err OptionSyntax
 rule_options classes names draft left (text ∷ next ∷ more) =
@@ -45,7 +46,7 @@ rule_options classes names draft left (text ∷ next ∷ more) =
     rule_options classes after.1 after.0 (left - (length text + 1)) (next ∷ more)
 
 -- the draft and the names after these texts of options, which are those of what is between the parentheses
-abbrev pub options_of : List Class → List (List ℕ) → List ℕ → List (List ℕ) → Result (Draft × List (List ℕ)) Fault
+abbrev pub options_of : List Class → List (List ℕ) → List ℕ → List (List ℕ) → Result (RuleDraft × List (List ℕ)) Fault
 options_of classes names inside texts = rule_options classes names empty_draft (length inside + 1) texts
 
 -- the class that a rule names, if it names one
@@ -66,14 +67,14 @@ class_priority classes None = 0
 class_priority classes (Some place) = unwrap_or (option_map (λ class. class.priority) (slice_get classes place)) 0
 
 -- the number of a rule whose options are read, and its class, if it names one
-abbrev pub told : Draft → Result (ℕ × Option ℕ) Fault
+abbrev pub told : RuleDraft → Result (ℕ × Option ℕ) Fault
 told draft = do
   sid ← or_kind MissingSid draft.sid
   place ← class_of draft.class
   Ok (sid, place)
 
 -- a rule of this header whose options are read
-unfoldable pub finished : List Class → Header → Draft → Result Rule Fault
+unfoldable pub finished : List Class → Header → RuleDraft → Result Rule Fault
 finished classes header draft = do
   sid ← or_kind MissingSid draft.sid
   place ← class_of draft.class

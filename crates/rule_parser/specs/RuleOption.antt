@@ -10,7 +10,7 @@ use Rattle.edge_io.specs.OnResult.{◌>>=◌}
 use Rattle.net_lists.specs.Stops.{or_kind}
 use Rattle.conf_types.specs.Classes.{class_place}
 use Rattle.conf_types.specs.declared.classes.Class.{Class}
-use Rattle.rule_parser.specs.declared.draft.Draft.{Draft}
+use Rattle.rule_parser.specs.declared.draft.RuleDraft.{RuleDraft}
 use Rattle.rule_parser.specs.declared.fault.Fault.{Fault}
 use Rattle.rule_parser.specs.declared.fault.Fault.TheVariants.{OptionValue, OptionSyntax, UnknownOption, OutsideProfile}
 use Rattle.rule_parser.specs.declared.names.Modifier.{Modifier}
@@ -63,7 +63,7 @@ abbrev pub with_value : {X : Type 0} → Option (List ℕ) → (List ℕ → Res
 with_value value option = or_kind OptionValue value >>= option
 
 -- options by which a rule names itself
-unfoldable pub text_option : List Class → Draft → TextName → Option (List ℕ) → Result Draft Fault
+unfoldable pub text_option : List Class → RuleDraft → TextName → Option (List ℕ) → Result RuleDraft Fault
 text_option classes draft text.Msg value = with_value value (msg_option draft)
 text_option classes draft text.Gid value = with_value value (gid_option draft)
 text_option classes draft text.Sid value = with_value value (sid_option draft)
@@ -73,7 +73,7 @@ text_option classes draft text.Classtype value = with_value value (classtype_opt
 text_option classes draft text.Ignored value = Ok draft
 
 -- modifiers of the last content
-unfoldable pub modifier_option : Draft → Modifier → ℕ → Option (List ℕ) → Result Draft Fault
+unfoldable pub modifier_option : RuleDraft → Modifier → ℕ → Option (List ℕ) → Result RuleDraft Fault
 modifier_option draft modifier.Nocase left value = nocase_option draft value
 modifier_option draft modifier.Rawbytes left value = rawbytes_option draft value
 modifier_option draft modifier.Offset left value = from_option modifier.Offset draft left value
@@ -83,7 +83,7 @@ modifier_option draft modifier.Within left value = room_option modifier.Within d
 modifier_option draft modifier.FastPattern left value = fast_pattern_option draft value
 
 -- tests of a payload
-unfoldable pub payload_option : Draft → PayloadName → ℕ → List ℕ → Result Draft Fault
+unfoldable pub payload_option : RuleDraft → PayloadName → ℕ → List ℕ → Result RuleDraft Fault
 payload_option draft payload.Content left value = content_option draft value
 payload_option draft payload.Pcre left value = pcre_option draft value
 payload_option draft payload.ByteTest left value = byte_test_option draft left value
@@ -92,7 +92,7 @@ payload_option draft payload.ByteExtract left value = byte_extract_option draft 
 payload_option draft payload.IsDataAt left value = isdataat_option draft left value
 
 -- tests of a session and of a packet as a whole
-unfoldable pub session_option : Draft → SessionName → Option (List ℕ) → Result Draft Fault
+unfoldable pub session_option : RuleDraft → SessionName → Option (List ℕ) → Result RuleDraft Fault
 session_option draft session.Flow value = with_value value (flow_option draft)
 session_option draft session.Flags value = with_value value (flags_option draft)
 session_option draft session.FragBits value = with_value value (fragbits_option draft)
@@ -103,7 +103,8 @@ session_option draft session.StreamSize value = with_value value (stream_size_op
 session_option draft session.StreamReassemble value = with_value value (stream_reassemble_option draft)
 
 -- an option of this name and value; `names` are the flowbit names so far
-abbrev pub named_option : List Class → List (List ℕ) → Draft → ℕ → Option (List ℕ) → Name → Result (Draft × List (List ℕ)) Fault
+abbrev pub named_option : List Class → List (List ℕ) → RuleDraft → ℕ → Option (List ℕ) → Name
+    → Result (RuleDraft × List (List ℕ)) Fault
 named_option classes names draft left value (name.Text n) = with_names names (text_option classes draft n value)
 named_option classes names draft left value (name.Modifier n) = with_names names (modifier_option draft n left value)
 named_option classes names draft left value (name.Payload n) = with_names names (with_value value (payload_option draft n left))
@@ -113,7 +114,7 @@ named_option classes names draft left value name.Flowbits = with_value value (fl
 
 -- An option of a rule: the draft and the flowbit names after it. `left` bytes of the line are left where
 -- its text begins; `names` are the flowbit names of this rule so far and of the rules before.
-unfoldable pub rule_option : List Class → List (List ℕ) → Draft → ℕ → List ℕ → Result (Draft × List (List ℕ)) Fault
+unfoldable pub rule_option : List Class → List (List ℕ) → RuleDraft → ℕ → List ℕ → Result (RuleDraft × List (List ℕ)) Fault
 rule_option classes names draft left text = do
   let option = written left text
   name ← or_kind (no_name option.name) (option_name option.name)

@@ -10,7 +10,7 @@ use Rattle.edge_io.specs.OnResult.{◌>>=◌}
 use Rattle.net_lists.specs.Cutting.{comma_parts}
 use Rattle.net_lists.specs.Numbers.{number_in}
 use Rattle.net_lists.specs.Stops.{or_kind}
-use Rattle.rule_parser.specs.declared.draft.Draft.{Draft}
+use Rattle.rule_parser.specs.declared.draft.RuleDraft.{RuleDraft}
 use Rattle.rule_parser.specs.declared.fault.Fault.{Fault}
 use Rattle.rule_parser.specs.declared.fault.Fault.TheVariants.{OptionValue, OutsideProfile}
 use Rattle.rule_types.specs.declared.option.Cmp.{Cmp}
@@ -59,7 +59,7 @@ size_parts (first ∷ second ∷ []) = Err OptionValue
 size_parts (first ∷ second ∷ third ∷ fourth ∷ more) = Err OptionValue
 
 -- `stream_size`
-unfoldable pub stream_size_option : Draft → List ℕ → Result Draft Fault
+unfoldable pub stream_size_option : RuleDraft → List ℕ → Result RuleDraft Fault
 stream_size_option draft value = size_parts (comma_parts value) >>= kept draft
 
 -- whether a word says on or off
@@ -93,7 +93,7 @@ reassemble_parts (first ∷ []) = do
   Err OptionValue
 
 -- `stream_reassemble`
-unfoldable pub stream_reassemble_option : Draft → List ℕ → Result Draft Fault
+unfoldable pub stream_reassemble_option : RuleDraft → List ℕ → Result RuleDraft Fault
 stream_reassemble_option draft value = do
   said ← reassemble_parts (comma_parts value)
   kept (record draft { noalert = draft.noalert || said.2 }) (opt.Reassemble said.0 said.1)

@@ -10,13 +10,13 @@ use Rattle.std.specs.Prelude.{ℕ, ◌||◌, ◌==◌, Bool, Option, Some, None,
 use Rattle.edge_io.specs.OnResult.{◌>>=◌}
 use Rattle.net_lists.specs.Numbers.{number_in}
 use Rattle.net_lists.specs.Stops.{or_kind}
-use Rattle.rule_parser.specs.declared.draft.Draft.{Draft}
+use Rattle.rule_parser.specs.declared.draft.RuleDraft.{RuleDraft}
 use Rattle.rule_parser.specs.declared.draft.ClassName.{ClassName}
 use Rattle.rule_parser.specs.declared.draft.ClassName.TheVariants as class
 use Rattle.rule_parser.specs.declared.fault.Fault.{Fault}
 use Rattle.rule_parser.specs.declared.fault.Fault.TheVariants.{OptionValue, Limit}
 use Rattle.rule_parser.specs.declared.quoted.Style.TheVariants.{Message}
-use Rattle.rule_parser.specs.declared.quoted.Place.TheVariants.{Plain}
+use Rattle.rule_parser.specs.declared.quoted.QuotedPlace.TheVariants.{Plain}
 use Rattle.rule_parser.specs.Quotes.{quoted, meaning}
 
 -- a number that may be given once
@@ -26,25 +26,25 @@ once before least value = do
   if is_some before then Err OptionValue else Ok number
 
 -- `gid:n`
-unfoldable pub gid_option : Draft → List ℕ → Result Draft Fault
+unfoldable pub gid_option : RuleDraft → List ℕ → Result RuleDraft Fault
 gid_option draft value = do
   gid ← once draft.gid 1 value
   Ok (record draft { gid = Some gid })
 
 -- `sid:n`
-unfoldable pub sid_option : Draft → List ℕ → Result Draft Fault
+unfoldable pub sid_option : RuleDraft → List ℕ → Result RuleDraft Fault
 sid_option draft value = do
   sid ← once draft.sid 1 value
   Ok (record draft { sid = Some sid })
 
 -- `rev:n`
-unfoldable pub rev_option : Draft → List ℕ → Result Draft Fault
+unfoldable pub rev_option : RuleDraft → List ℕ → Result RuleDraft Fault
 rev_option draft value = do
   rev ← once draft.rev 0 value
   Ok (record draft { rev = Some rev })
 
 -- `priority:n`
-unfoldable pub priority_option : Draft → List ℕ → Result Draft Fault
+unfoldable pub priority_option : RuleDraft → List ℕ → Result RuleDraft Fault
 priority_option draft value = do
   priority ← once draft.priority 0 value
   Ok (record draft { priority = Some priority })
@@ -62,7 +62,7 @@ message is_given value = do
   msg ← or_kind OptionValue (meaning Message Plain inside)
   if is_given then Err OptionValue else if nat_le (length msg) 1024 then Ok msg else Err Limit
 
-unfoldable pub msg_option : Draft → List ℕ → Result Draft Fault
+unfoldable pub msg_option : RuleDraft → List ℕ → Result RuleDraft Fault
 msg_option draft value = message (is_some draft.msg) value >>= λ msg. Ok (record draft { msg = Some msg })
 
 -- the class of this name among the configuration's
@@ -71,7 +71,7 @@ class_named None = class.Unknown
 class_named (Some place) = class.Known place
 
 -- `classtype:name`, where `find` is the look-up of the configuration's classes
-unfoldable pub classtype_option : (List ℕ → Option ℕ) → Draft → List ℕ → Result Draft Fault
+unfoldable pub classtype_option : (List ℕ → Option ℕ) → RuleDraft → List ℕ → Result RuleDraft Fault
 classtype_option find draft value =
     if length value == 0 || is_some draft.class then Err OptionValue
     else Ok (record draft { class = Some (class_named (find value)) })

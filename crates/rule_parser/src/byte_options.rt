@@ -9,9 +9,9 @@ ghost use Rattle.rule_parser.specs.ByteOptions.{seen, first_part, next_part, wor
 ghost use Rattle.rule_parser.specs.Drafts.{with_new};
 ghost use Rattle.rule_parser.specs.Bits.{GivesNumber};
 
-use crate::byte_words::{Which, Words};
+use crate::byte_words::{ByteWords, Which};
 use crate::contents::negation;
-use crate::draft::Draft;
+use crate::draft::RuleDraft;
 use crate::extracted::Extracted;
 use crate::fault::Fault;
 use crate::fields::place_of;
@@ -87,24 +87,24 @@ pub(crate) fn next_part<'a>(part: &LentPart<'a>) -> Result<LentPart<'a>, Fault>
 
 /// All words after the parts that have their places.
 #[tactic(auto, unfolding(crate::specs::ByteOptions::words_of))]
-fn words_of(which: Which, after: Option<&[u8]>) -> Result<Words, Fault>
+fn words_of(which: Which, after: Option<&[u8]>) -> Result<ByteWords, Fault>
     ensures { result ≡ words_of which (option_copied after.entry) }
 {
     match after {
-        None => Ok(Words::none()),
-        Some(text) => Parts::commas(text).fold_by(&which, Words::none()),
+        None => Ok(ByteWords::none()),
+        Some(text) => Parts::commas(text).fold_by(&which, ByteWords::none()),
     }
 }
 
 /// The words of a byte_test.
-fn test_words(after: Option<&[u8]>) -> Result<Words, Fault>
+fn test_words(after: Option<&[u8]>) -> Result<ByteWords, Fault>
     ensures { result ≡ words_of Which.Test (option_copied after.entry) }
 {
     words_of(Which::Test, after)
 }
 
 /// The words of a byte_jump.
-fn jump_words(after: Option<&[u8]>) -> Result<Words, Fault>
+fn jump_words(after: Option<&[u8]>) -> Result<ByteWords, Fault>
     ensures { result ≡ words_of Which.Jump (option_copied after.entry) }
 {
     words_of(Which::Jump, after)
@@ -161,7 +161,7 @@ fn byte_jump(names: &Extracted, left: usize, value: &[u8]) -> Result<Opt, Fault>
 
 #[tactic(auto, unfolding(crate::specs::ByteOptions::byte_jump_option))]
 pub(crate) fn byte_jump_option(
-    draft: &mut Draft,
+    draft: &mut RuleDraft,
     left: usize,
     value: &[u8],
 ) -> Result<(), Stop<Fault>>
@@ -224,7 +224,7 @@ fn byte_test(names: &Extracted, left: usize, value: &[u8]) -> Result<Opt, Fault>
 
 #[tactic(auto, unfolding(crate::specs::ByteOptions::byte_test_option))]
 pub(crate) fn byte_test_option(
-    draft: &mut Draft,
+    draft: &mut RuleDraft,
     left: usize,
     value: &[u8],
 ) -> Result<(), Stop<Fault>>
@@ -290,7 +290,7 @@ fn isdataat(names: &Extracted, left: usize, value: &[u8]) -> Result<Opt, Fault>
 
 #[tactic(auto, unfolding(crate::specs::ByteOptions::isdataat_option))]
 pub(crate) fn isdataat_option(
-    draft: &mut Draft,
+    draft: &mut RuleDraft,
     left: usize,
     value: &[u8],
 ) -> Result<(), Stop<Fault>>
@@ -314,7 +314,7 @@ fn placed(alloc: Global, names: &mut Extracted, name: &[u8]) -> Result<u8, Stop<
 }
 
 /// The words of a byte_extract, where its name has the form of one.
-fn extract_words(name: &[u8], after: Option<&[u8]>) -> Result<Words, Fault>
+fn extract_words(name: &[u8], after: Option<&[u8]>) -> Result<ByteWords, Fault>
     ensures { result ≡ (if is_name name.now then words_of Which.Extract (option_copied after.entry) else Err Fault.OptionValue) }
 {
     if !is_name(name) {
@@ -327,7 +327,7 @@ fn extract_words(name: &[u8], after: Option<&[u8]>) -> Result<Words, Fault>
 #[derive(Clone, Copy)]
 struct LentExtraction<'a> {
     fetch: Fetch,
-    words: Words,
+    words: ByteWords,
     name: &'a [u8],
 }
 
@@ -361,7 +361,7 @@ fn byte_extract<'a>(
 #[tactic(auto, unfolding(crate::specs::ByteOptions::with_extraction))]
 fn with_extraction(
     alloc: Global,
-    draft: &mut Draft,
+    draft: &mut RuleDraft,
     found: LentExtraction<'_>,
 ) -> Result<(), Stop<Fault>>
     ensures { Gives (with_new result draft.new) (with_extraction draft.old (seen_extraction found.entry)) }
@@ -373,7 +373,7 @@ fn with_extraction(
 #[tactic(auto, unfolding(crate::specs::ByteOptions::byte_extract_option))]
 pub(crate) fn byte_extract_option(
     alloc: Global,
-    draft: &mut Draft,
+    draft: &mut RuleDraft,
     left: usize,
     value: &[u8],
 ) -> Result<(), Stop<Fault>>

@@ -17,7 +17,7 @@ pub(crate) enum Which {
 
 /// The words that were given.
 #[derive(Clone, Copy)]
-pub(crate) struct Words {
+pub(crate) struct ByteWords {
     pub relative: bool,
     pub big: bool,
     pub little: bool,
@@ -33,11 +33,11 @@ pub(crate) struct Words {
     pub post: Option<i32>,
 }
 
-impl Words {
-    pub(crate) fn none() -> Words
+impl ByteWords {
+    pub(crate) fn none() -> ByteWords
         ensures { result ≡ no_words }
     {
-        Words {
+        ByteWords {
             relative: false,
             big: false,
             little: false,
@@ -51,7 +51,7 @@ impl Words {
     }
 
     /// These words, where the last one was not given before.
-    fn unless(self, is_given: bool) -> Result<Words, Fault>
+    fn unless(self, is_given: bool) -> Result<ByteWords, Fault>
         ensures { result ≡ once_only is_given self }
     {
         if is_given {
@@ -62,13 +62,13 @@ impl Words {
     }
 
     #[tactic(auto, unfolding(crate::specs::ByteOptions::with_times))]
-    fn with_times(self, number: &[u8]) -> Result<Words, Fault>
+    fn with_times(self, number: &[u8]) -> Result<ByteWords, Fault>
         ensures { result ≡ with_times self number.now }
     {
         let Some(times) = number_in(0, 65535, number) else {
             return Err(Fault::OptionValue);
         };
-        Words {
+        ByteWords {
             times: Some(times),
             ..self
         }
@@ -76,13 +76,13 @@ impl Words {
     }
 
     #[tactic(auto, unfolding(crate::specs::ByteOptions::with_post))]
-    fn with_post(self, number: &[u8]) -> Result<Words, Fault>
+    fn with_post(self, number: &[u8]) -> Result<ByteWords, Fault>
         ensures { result ≡ with_post self number.now }
     {
         let Some(post) = signed_in(-65535, 65535, number) else {
             return Err(Fault::OptionValue);
         };
-        Words {
+        ByteWords {
             post: Some(post),
             ..self
         }
@@ -90,17 +90,17 @@ impl Words {
     }
 
     #[tactic(auto, unfolding(crate::specs::ByteOptions::with_multiple))]
-    fn with_multiple(self, number: &[u8]) -> Result<Words, Fault>
+    fn with_multiple(self, number: &[u8]) -> Result<ByteWords, Fault>
         ensures { result ≡ with_multiple self number.now }
     {
         if is(number, b"2") {
-            Words {
+            ByteWords {
                 align: Some(2),
                 ..self
             }
             .unless(self.align.is_some())
         } else if is(number, b"4") {
-            Words {
+            ByteWords {
                 align: Some(4),
                 ..self
             }
@@ -112,43 +112,43 @@ impl Words {
 
     /// The words with one that each of the three options has.
     #[tactic(auto, unfolding(crate::specs::ByteOptions::shared_word))]
-    fn shared(self, part: &[u8]) -> Result<Words, Fault>
+    fn shared(self, part: &[u8]) -> Result<ByteWords, Fault>
         ensures { result ≡ shared_word self part.now }
     {
         if is(part, b"relative") {
-            Words {
+            ByteWords {
                 relative: true,
                 ..self
             }
             .unless(self.relative)
         } else if is(part, b"big") {
-            Words { big: true, ..self }.unless(self.big)
+            ByteWords { big: true, ..self }.unless(self.big)
         } else if is(part, b"little") {
-            Words {
+            ByteWords {
                 little: true,
                 ..self
             }
             .unless(self.little)
         } else if is(part, b"string") {
-            Words {
+            ByteWords {
                 string: true,
                 ..self
             }
             .unless(self.string)
         } else if is(part, b"dec") {
-            Words {
+            ByteWords {
                 base: Some(Base::Dec),
                 ..self
             }
             .unless(self.base.is_some())
         } else if is(part, b"hex") {
-            Words {
+            ByteWords {
                 base: Some(Base::Hex),
                 ..self
             }
             .unless(self.base.is_some())
         } else if is(part, b"oct") {
-            Words {
+            ByteWords {
                 base: Some(Base::Oct),
                 ..self
             }
@@ -162,7 +162,7 @@ impl Words {
 
     /// The words with one of byte_jump.
     #[tactic(auto, unfolding(crate::specs::ByteOptions::jump_word))]
-    fn jump(self, part: &[u8]) -> Result<Words, Fault>
+    fn jump(self, part: &[u8]) -> Result<ByteWords, Fault>
         ensures { result ≡ jump_word self part.now }
     {
         let (word, number) = first_word(part);
@@ -171,13 +171,13 @@ impl Words {
         } else if is(word, b"post_offset") {
             self.with_post(number)
         } else if is(part, b"align") {
-            Words {
+            ByteWords {
                 align: Some(4),
                 ..self
             }
             .unless(self.align.is_some())
         } else if is(part, b"from_beginning") {
-            Words {
+            ByteWords {
                 beginning: true,
                 ..self
             }
@@ -189,7 +189,7 @@ impl Words {
 
     /// The words with one of byte_extract.
     #[tactic(auto, unfolding(crate::specs::ByteOptions::extract_word))]
-    fn extract(self, part: &[u8]) -> Result<Words, Fault>
+    fn extract(self, part: &[u8]) -> Result<ByteWords, Fault>
         ensures { result ≡ extract_word self part.now }
     {
         let (word, number) = first_word(part);
@@ -239,7 +239,7 @@ impl Words {
     }
 }
 
-impl Words {
+impl ByteWords {
     /// A byte_jump with these words.
     pub(crate) fn jump_option(self, fetch: Fetch) -> Opt
         ensures { result ≡ jump_of fetch self }
@@ -266,10 +266,10 @@ impl Words {
     }
 }
 
-impl PartStep<Words, Fault> for Which {
+impl PartStep<ByteWords, Fault> for Which {
     ghost next_draft = { λ which words part. word_of which words part };
 
-    fn next(&self, words: Words, part: &[u8]) -> Result<Words, Fault> {
+    fn next(&self, words: ByteWords, part: &[u8]) -> Result<ByteWords, Fault> {
         match *self {
             Which::Test => words.shared(part),
             Which::Jump => words.jump(part),

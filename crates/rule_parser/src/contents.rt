@@ -6,7 +6,7 @@ ghost use Rattle.net_lists.specs.Stops.{Gives, or_kind};
 ghost use Rattle.rule_parser.specs.Contents.{negation, plain_content, with_content, with_bytes, content_option, nocase, nocase_option, rawbytes, rawbytes_option, is_placed, is_mixed, bars_from, bars_room, place_text, with_from, from_option, room_of, with_room, room_option, fast_part, fast_mode, is_only, fast_on, bars_fast, fast_pattern_option};
 ghost use Rattle.rule_parser.specs.Drafts.{with_new};
 
-use crate::draft::{Draft, Held};
+use crate::draft::{LastContent, RuleDraft};
 use crate::extracted::Extracted;
 use crate::fault::Fault;
 use crate::names::Modifier;
@@ -81,13 +81,13 @@ fn bars_room(name: Modifier, content: &Content) -> bool
 }
 
 /// Holds this content apart, the one before in its place.
-fn hold(alloc: Global, draft: &mut Draft, content: Content) -> Result<(), NoMemory>
+fn hold(alloc: Global, draft: &mut RuleDraft, content: Content) -> Result<(), NoMemory>
     ensures { OnOk result (draft.new ≡ with_content draft.old content) }
 {
     draft.settle(alloc)?;
     let known = draft.names.as_slice().len();
     let place = draft.opts.as_slice().len();
-    draft.held = Some(Held {
+    draft.held = Some(LastContent {
         content,
         place,
         known,
@@ -100,7 +100,7 @@ fn hold(alloc: Global, draft: &mut Draft, content: Content) -> Result<(), NoMemo
 /// Holds a content of these bytes, where there are some, not too many, and there is room.
 fn hold_bytes(
     alloc: Global,
-    draft: &mut Draft,
+    draft: &mut RuleDraft,
     negated: bool,
     bytes: Text,
 ) -> Result<(), Stop<Fault>>
@@ -118,7 +118,7 @@ fn hold_bytes(
 #[tactic(auto, unfolding(crate::specs::Contents::content_option))]
 pub(crate) fn content_option(
     alloc: Global,
-    draft: &mut Draft,
+    draft: &mut RuleDraft,
     value: &[u8],
 ) -> Result<(), Stop<Fault>>
     ensures { Gives (with_new result draft.new) (content_option draft.old value.now) }
@@ -131,7 +131,7 @@ pub(crate) fn content_option(
 
 /// What `nocase` makes of the last content.
 #[tactic(auto, unfolding(crate::specs::Contents::nocase))]
-fn nocase(held: &mut Held, value: Option<&[u8]>) -> Result<(), Fault>
+fn nocase(held: &mut LastContent, value: Option<&[u8]>) -> Result<(), Fault>
     ensures { with_new result held.new ≡ nocase held.old (option_copied value.entry) }
 {
     if held.content.nocase {
@@ -145,7 +145,7 @@ fn nocase(held: &mut Held, value: Option<&[u8]>) -> Result<(), Fault>
 }
 
 #[tactic(auto, unfolding(crate::specs::Contents::nocase_option, crate::specs::Contents::apart))]
-pub(crate) fn nocase_option(draft: &mut Draft, value: Option<&[u8]>) -> Result<(), Fault>
+pub(crate) fn nocase_option(draft: &mut RuleDraft, value: Option<&[u8]>) -> Result<(), Fault>
     ensures { with_new result draft.new ≡ nocase_option draft.old (option_copied value.entry) }
 {
     let Some(held) = &mut draft.held else {
@@ -156,7 +156,7 @@ pub(crate) fn nocase_option(draft: &mut Draft, value: Option<&[u8]>) -> Result<(
 
 /// What `rawbytes` makes of the last content.
 #[tactic(auto, unfolding(crate::specs::Contents::rawbytes))]
-fn rawbytes(held: &mut Held, value: Option<&[u8]>) -> Result<(), Fault>
+fn rawbytes(held: &mut LastContent, value: Option<&[u8]>) -> Result<(), Fault>
     ensures { with_new result held.new ≡ rawbytes held.old (option_copied value.entry) }
 {
     if held.raw {
@@ -170,7 +170,7 @@ fn rawbytes(held: &mut Held, value: Option<&[u8]>) -> Result<(), Fault>
 }
 
 #[tactic(auto, unfolding(crate::specs::Contents::rawbytes_option, crate::specs::Contents::apart))]
-pub(crate) fn rawbytes_option(draft: &mut Draft, value: Option<&[u8]>) -> Result<(), Fault>
+pub(crate) fn rawbytes_option(draft: &mut RuleDraft, value: Option<&[u8]>) -> Result<(), Fault>
     ensures { with_new result draft.new ≡ rawbytes_option draft.old (option_copied value.entry) }
 {
     let Some(held) = &mut draft.held else {
@@ -209,7 +209,7 @@ fn first_names(names: &[Text], count: usize) -> &[Text]
 #[tactic(auto, unfolding(crate::specs::Contents::with_from))]
 fn with_from(
     name: Modifier,
-    held: &mut Held,
+    held: &mut LastContent,
     names: &Extracted,
     left: usize,
     value: Option<&[u8]>,
@@ -227,7 +227,7 @@ fn with_from(
 #[tactic(auto, unfolding(crate::specs::Contents::from_option, crate::specs::Contents::apart))]
 pub(crate) fn from_option(
     name: Modifier,
-    draft: &mut Draft,
+    draft: &mut RuleDraft,
     left: usize,
     value: Option<&[u8]>,
 ) -> Result<(), Fault>
@@ -259,7 +259,7 @@ fn room_of(size: usize, known: &[Text], left: usize, text: &[u8]) -> Result<Num,
 #[tactic(auto, unfolding(crate::specs::Contents::with_room))]
 fn with_room(
     name: Modifier,
-    held: &mut Held,
+    held: &mut LastContent,
     names: &Extracted,
     left: usize,
     value: Option<&[u8]>,
@@ -277,7 +277,7 @@ fn with_room(
 #[tactic(auto, unfolding(crate::specs::Contents::room_option, crate::specs::Contents::apart))]
 pub(crate) fn room_option(
     name: Modifier,
-    draft: &mut Draft,
+    draft: &mut RuleDraft,
     left: usize,
     value: Option<&[u8]>,
 ) -> Result<(), Fault>
@@ -341,7 +341,7 @@ fn fast_on(negated: bool, mode: FastMode) -> FastMode
 }
 
 /// The last content, where there is no `fast_pattern` yet.
-fn held_for_fast(is_given: bool, held: Option<Held>) -> Result<Held, Fault>
+fn held_for_fast(is_given: bool, held: Option<LastContent>) -> Result<LastContent, Fault>
     ensures { result ≡ (if is_given then Err Fault.Misplaced else or_kind Fault.Misplaced held) }
 {
     if is_given {
@@ -358,7 +358,7 @@ fn bars_places(mode: FastMode, negated: bool) -> bool
 }
 
 /// Puts a `fast_pattern` of this form on a content.
-fn put_fast(held: &mut Held, mode: FastMode)
+fn put_fast(held: &mut LastContent, mode: FastMode)
     ensures { held.new ≡ record held.old {
       placeless = is_only mode || held.old.content.negated;
       content = record held.old.content { fast = fast_on held.old.content.negated mode };
@@ -377,7 +377,7 @@ fn bars_fast(mode: FastMode, content: &Content) -> bool
 }
 
 #[tactic(auto, unfolding(crate::specs::Contents::fast_pattern_option))]
-pub(crate) fn fast_pattern_option(draft: &mut Draft, value: Option<&[u8]>) -> Result<(), Fault>
+pub(crate) fn fast_pattern_option(draft: &mut RuleDraft, value: Option<&[u8]>) -> Result<(), Fault>
     ensures { with_new result draft.new ≡ fast_pattern_option draft.old (option_copied value.entry) }
 {
     let mut held = held_for_fast(draft.fast, draft.held.take())?;

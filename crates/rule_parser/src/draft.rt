@@ -20,7 +20,7 @@ pub(crate) enum ClassName {
 
 /// The last content of a rule, which modifiers may still change.
 #[derive(Drop)]
-pub(crate) struct Held {
+pub(crate) struct LastContent {
     pub content: Content,
     /// The content's place among the options that are kept.
     pub place: usize,
@@ -34,10 +34,10 @@ pub(crate) struct Held {
 
 /// A rule as far as its options are read.
 #[derive(Drop)]
-pub(crate) struct Draft {
+pub(crate) struct RuleDraft {
     /// The options that are kept, but for the last content.
     pub opts: Items<Opt>,
-    pub held: Option<Held>,
+    pub held: Option<LastContent>,
     /// The names that byte_extract gave, each once.
     pub names: Extracted,
     pub msg: Option<Text>,
@@ -59,12 +59,12 @@ pub(crate) struct Draft {
 /// Options that a rule may keep.
 pub(crate) const MOST_OPTIONS: usize = 64;
 
-impl Draft {
+impl RuleDraft {
     /// A rule before its first option.
-    pub(crate) fn new(alloc: Global) -> Draft
+    pub(crate) fn new(alloc: Global) -> RuleDraft
         ensures { result ≡ empty_draft }
     {
-        Draft {
+        RuleDraft {
             opts: Items::new(alloc),
             held: None,
             names: Extracted::new(alloc),
@@ -115,7 +115,7 @@ impl Draft {
 
 /// The options with the last content in its place.
 #[tactic(auto, using(crate::proofs::Settling::settling))]
-fn with_held(opts: Items<Opt>, held: Option<Held>) -> Result<Items<Opt>, NoMemory>
+fn with_held(opts: Items<Opt>, held: Option<LastContent>) -> Result<Items<Opt>, NoMemory>
     ensures { IfOk result (λ all. all ≡ with_held opts held) }
 {
     let Some(held) = held else {

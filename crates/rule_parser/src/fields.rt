@@ -5,7 +5,7 @@ ghost use Rattle.rule_parser.specs.Fields.{sign_of, cmp_of, allows, against, sig
 ghost use Rattle.rule_types.specs.Sound.{is_strict, compares, most_of};
 ghost use Rattle.rule_parser.specs.Drafts.{with_new};
 
-use crate::draft::Draft;
+use crate::draft::RuleDraft;
 use crate::fault::Fault;
 use crate::word::is;
 use crate::{Cmp, Field, Opt};
@@ -249,7 +249,11 @@ fn compare_of(field: Field, text: &[u8]) -> Result<Opt, Fault>
 
 /// An option of one number, `dsize` apart.
 #[tactic(auto, unfolding(crate::specs::Fields::field_option))]
-pub(crate) fn field_option(field: Field, draft: &mut Draft, value: &[u8]) -> Result<(), Stop<Fault>>
+pub(crate) fn field_option(
+    field: Field,
+    draft: &mut RuleDraft,
+    value: &[u8],
+) -> Result<(), Stop<Fault>>
     ensures { Gives (with_new result draft.new) (field_option field draft.old value.now) }
 {
     let option = compare_of(field, value)?;
@@ -257,7 +261,7 @@ pub(crate) fn field_option(field: Field, draft: &mut Draft, value: &[u8]) -> Res
 }
 
 #[tactic(auto, unfolding(crate::specs::Fields::dsize_option))]
-pub(crate) fn dsize_option(draft: &mut Draft, value: &[u8]) -> Result<(), Stop<Fault>>
+pub(crate) fn dsize_option(draft: &mut RuleDraft, value: &[u8]) -> Result<(), Stop<Fault>>
     ensures { Gives (with_new result draft.new) (dsize_option draft.old value.now) }
 {
     let option = compare_of(Field::Dsize, value)?;
@@ -269,7 +273,7 @@ pub(crate) fn dsize_option(draft: &mut Draft, value: &[u8]) -> Result<(), Stop<F
 }
 
 #[tactic(auto, unfolding(crate::specs::Fields::sameip_option))]
-pub(crate) fn sameip_option(draft: &mut Draft, value: Option<&[u8]>) -> Result<(), Stop<Fault>>
+pub(crate) fn sameip_option(draft: &mut RuleDraft, value: Option<&[u8]>) -> Result<(), Stop<Fault>>
     ensures { Gives (with_new result draft.new) (sameip_option draft.old (option_copied value.entry)) }
 {
     if value.is_some() {

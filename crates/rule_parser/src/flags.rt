@@ -6,7 +6,7 @@ ghost use Rattle.net_lists.specs.Stops.{Gives};
 ghost use Rattle.rule_parser.specs.Flags.{no_flow, first_of_group, session_word, item_word, flow_word, flow_option, no_letters, mode_of, flag_bit, frag_bit, with_bit, with_mode, if_any, flag_step, frag_step, flag_letters, frag_letters, frag_signed, mask_of, flags_parts, flags_of, flags_option, fragbits_option};
 ghost use Rattle.rule_parser.specs.Drafts.{with_new};
 
-use crate::draft::Draft;
+use crate::draft::RuleDraft;
 use crate::fault::Fault;
 use crate::word::is;
 use crate::{FlowOpt, Mode, Opt};
@@ -158,7 +158,7 @@ fn flow_words(value: &[u8]) -> Result<FlowOpt, Fault>
 }
 
 #[tactic(auto, unfolding(crate::specs::Flags::flow_option))]
-pub(crate) fn flow_option(draft: &mut Draft, value: &[u8]) -> Result<(), Stop<Fault>>
+pub(crate) fn flow_option(draft: &mut RuleDraft, value: &[u8]) -> Result<(), Stop<Fault>>
     ensures { Gives (with_new result draft.new) (flow_option draft.old value.now) }
 {
     let flow = flow_words(value)?;
@@ -171,7 +171,7 @@ pub(crate) fn flow_option(draft: &mut Draft, value: &[u8]) -> Result<(), Stop<Fa
 
 /// The letters of `flags` or `fragbits` so far.
 #[derive(Clone, Copy)]
-pub(crate) struct Letters {
+pub(crate) struct FlagLetters {
     /// The sign that was given.
     pub mode: Option<Mode>,
     pub bits: u8,
@@ -221,11 +221,11 @@ fn frag_bit(byte: u8) -> Option<u8>
     }
 }
 
-impl Letters {
-    fn none() -> Letters
+impl FlagLetters {
+    fn none() -> FlagLetters
         ensures { result ≡ no_letters }
     {
-        Letters {
+        FlagLetters {
             mode: None,
             bits: 0,
             any: false,
@@ -233,11 +233,11 @@ impl Letters {
     }
 
     /// The letters with one bit more, if there is one.
-    fn with_bit(self, bit: Option<u8>) -> Option<Letters>
+    fn with_bit(self, bit: Option<u8>) -> Option<FlagLetters>
         ensures { result ≡ with_bit self bit }
     {
         let bit = bit?;
-        Some(Letters {
+        Some(FlagLetters {
             bits: self.bits | bit,
             any: true,
             ..self
@@ -245,7 +245,7 @@ impl Letters {
     }
 
     /// The letters with a sign, if the byte is one, or else with its bit.
-    fn with_mode(self, bit: Option<u8>, mode: Option<Mode>) -> Option<Letters>
+    fn with_mode(self, bit: Option<u8>, mode: Option<Mode>) -> Option<FlagLetters>
         ensures { result ≡ with_mode self (with_bit self bit) mode }
     {
         match mode {
@@ -254,13 +254,13 @@ impl Letters {
                 if self.mode.is_some() {
                     return None;
                 }
-                Some(Letters { mode, ..self })
+                Some(FlagLetters { mode, ..self })
             }
         }
     }
 
     /// These letters, where there is one.
-    fn unless_none(self) -> Option<Letters>
+    fn unless_none(self) -> Option<FlagLetters>
         ensures { result ≡ if_any self }
     {
         if self.any { Some(self) } else { None }
@@ -268,7 +268,7 @@ impl Letters {
 
     /// The letters with a letter of TCP flags, or a sign where signs may come.
     #[tactic(auto, unfolding(crate::specs::Flags::flag_step))]
-    fn with_flag(self, signs: bool, byte: u8) -> Option<Letters>
+    fn with_flag(self, signs: bool, byte: u8) -> Option<FlagLetters>
         ensures { result ≡ flag_step signs self byte }
     {
         let mode = if signs { mode_of(byte) } else { None };
@@ -277,7 +277,7 @@ impl Letters {
 
     /// The letters with a letter of fragment bits, or a sign where it is the last byte.
     #[tactic(auto, unfolding(crate::specs::Flags::frag_step))]
-    fn with_frag(self, last: bool, byte: u8) -> Option<Letters>
+    fn with_frag(self, last: bool, byte: u8) -> Option<FlagLetters>
         ensures { result ≡ frag_step last self byte }
     {
         let mode = if last { mode_of(byte) } else { None };
@@ -287,10 +287,10 @@ impl Letters {
 
 /// The letters of TCP flags, a sign anywhere among them where signs may come.
 #[tactic(auto, using(crate::proofs::Lettering::flag_steps))]
-fn flag_letters(signs: bool, text: &[u8]) -> Option<Letters>
+fn flag_letters(signs: bool, text: &[u8]) -> Option<FlagLetters>
     ensures { result ≡ flag_letters signs no_letters text.now }
 {
-    let mut letters = Letters::none();
+    let mut letters = FlagLetters::none();
     for byte in text {
         letters = letters.with_flag(signs, *byte)?;
     }
@@ -299,12 +299,12 @@ fn flag_letters(signs: bool, text: &[u8]) -> Option<Letters>
 
 /// The letters of fragment bits after a sign of this mode, if there is one; a sign may be the last byte.
 #[tactic(auto, using(crate::proofs::Lettering::frag_steps))]
-fn frag_letters(mode: Option<Mode>, text: &[u8]) -> Option<Letters>
+fn frag_letters(mode: Option<Mode>, text: &[u8]) -> Option<FlagLetters>
     ensures { result ≡ frag_letters (record no_letters { mode = mode }) text.now }
 {
-    let mut letters = Letters {
+    let mut letters = FlagLetters {
         mode,
-        ..Letters::none()
+        ..FlagLetters::none()
     };
     let mut left = text.len();
     for byte in text {
@@ -315,7 +315,7 @@ fn frag_letters(mode: Option<Mode>, text: &[u8]) -> Option<Letters>
 }
 
 /// The letters of fragment bits with a sign before or after them.
-fn frag_signed(text: &[u8]) -> Option<Letters>
+fn frag_signed(text: &[u8]) -> Option<FlagLetters>
     ensures { result ≡ frag_signed text.now }
 {
     let [byte, rest @ ..] = text else {
@@ -364,7 +364,7 @@ fn flags_of(value: &[u8]) -> Result<Opt, Fault>
 }
 
 #[tactic(auto, unfolding(crate::specs::Flags::flags_option))]
-pub(crate) fn flags_option(draft: &mut Draft, value: &[u8]) -> Result<(), Stop<Fault>>
+pub(crate) fn flags_option(draft: &mut RuleDraft, value: &[u8]) -> Result<(), Stop<Fault>>
     ensures { Gives (with_new result draft.new) (flags_option draft.old value.now) }
 {
     let option = flags_of(value)?;
@@ -372,7 +372,7 @@ pub(crate) fn flags_option(draft: &mut Draft, value: &[u8]) -> Result<(), Stop<F
 }
 
 #[tactic(auto, unfolding(crate::specs::Flags::fragbits_option))]
-pub(crate) fn fragbits_option(draft: &mut Draft, value: &[u8]) -> Result<(), Stop<Fault>>
+pub(crate) fn fragbits_option(draft: &mut RuleDraft, value: &[u8]) -> Result<(), Stop<Fault>>
     ensures { Gives (with_new result draft.new) (fragbits_option draft.old value.now) }
 {
     let Some(letters) = frag_signed(value) else {

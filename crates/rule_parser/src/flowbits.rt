@@ -9,7 +9,7 @@ ghost use Rattle.rule_parser.specs.Drafts.{with_new};
 
 use crate::bits::{BitNames, MOST_BITS};
 use crate::byte_options::{LentPart, first_part, next_part};
-use crate::draft::Draft;
+use crate::draft::RuleDraft;
 use crate::fault::Fault;
 use crate::number::place_among;
 use crate::word::is;
@@ -145,7 +145,7 @@ fn last_name<'a>(part: &LentPart<'a>) -> Result<&'a [u8], Fault>
 fn bit_parts(
     alloc: Global,
     bits: &mut BitNames,
-    draft: &mut Draft,
+    draft: &mut RuleDraft,
     first: &LentPart,
     word: BitWord,
 ) -> Result<(), Stop<Fault>>
@@ -159,7 +159,7 @@ fn bit_parts(
 }
 
 /// `noalert`, after which nothing comes.
-fn noalert(draft: &mut Draft, first: &LentPart) -> Result<(), Fault>
+fn noalert(draft: &mut RuleDraft, first: &LentPart) -> Result<(), Fault>
     ensures { with_new result draft.new ≡ noalert draft.old (seen first.now) }
 {
     if first.after.is_some() {
@@ -173,7 +173,7 @@ fn noalert(draft: &mut Draft, first: &LentPart) -> Result<(), Fault>
 pub(crate) fn flowbits_option(
     alloc: Global,
     bits: &mut BitNames,
-    draft: &mut Draft,
+    draft: &mut RuleDraft,
     value: &[u8],
 ) -> Result<(), Stop<Fault>>
     ensures gives { GivesWith (with_new result draft.new) bits.new (flowbits_option bits.old draft.old value.now) }

@@ -11,7 +11,7 @@ ghost use Rattle.rule_parser.specs.Written.{outside, option_texts, AreOptionText
 
 use crate::Rule;
 use crate::bits::BitNames;
-use crate::draft::{ClassName, Draft};
+use crate::draft::{ClassName, RuleDraft};
 use crate::fault::{Fault, RuleFault, stop_fault};
 use crate::header::{Header, HeaderTexts};
 use crate::options::rule_option;
@@ -46,12 +46,12 @@ fn read_options(
     classes: &Classes,
     bits: &mut BitNames,
     inside: &[u8],
-) -> Result<Draft, Stop<Fault>>
+) -> Result<RuleDraft, Stop<Fault>>
     ensures gives { GivesWith result bits.new
         (options_of classes.now bits.old inside.now (option_texts outside inside.now)) }
     ensures begins { Begins bits.old bits.new }
 {
-    let mut draft = Draft::new(alloc);
+    let mut draft = RuleDraft::new(alloc);
     let mut rest = inside;
     while let Some((text, after)) = first_option(rest) {
         rule_option(alloc, classes, bits, &mut draft, left_from(rest), text)?;
@@ -69,7 +69,7 @@ fn rule_options(
     classes: &Classes,
     bits: &mut BitNames,
     inside: &[u8],
-) -> Result<Draft, Stop<Fault>>
+) -> Result<RuleDraft, Stop<Fault>>
     ensures gives { GivesWith result bits.new
         (options_of classes.now bits.old inside.now (option_texts outside inside.now)) }
     ensures begins { Begins bits.old bits.new }
@@ -104,7 +104,7 @@ fn class_priority(classes: &Classes, class: Option<u32>) -> u32
 }
 
 /// The number and the class of a rule whose options are read; its last content comes in its place.
-fn told(alloc: Global, draft: &mut Draft) -> Result<(u32, Option<u32>), Stop<Fault>>
+fn told(alloc: Global, draft: &mut RuleDraft) -> Result<(u32, Option<u32>), Stop<Fault>>
     ensures gives { Gives result (told draft.old) }
     ensures settles { OnOk result (draft.new ≡ record draft.old { opts = settled draft.old; held = None }) }
 {
@@ -122,7 +122,7 @@ fn finished(
     alloc: Global,
     classes: &Classes,
     header: Header,
-    mut draft: Draft,
+    mut draft: RuleDraft,
 ) -> Result<Rule, Stop<Fault>>
     requires { IsClassOf (length classes.now) draft.class }
     ensures { Gives result (finished classes.now header draft) }

@@ -12,7 +12,7 @@ use crate::byte_options::{
 use crate::contents::{
     content_option, fast_pattern_option, from_option, nocase_option, rawbytes_option, room_option,
 };
-use crate::draft::Draft;
+use crate::draft::RuleDraft;
 use crate::fault::Fault;
 use crate::fields::{dsize_option, field_option, sameip_option};
 use crate::flags::{flags_option, flow_option, fragbits_option};
@@ -34,7 +34,7 @@ use std::alloc::Global;
 pub(crate) fn text_option(
     alloc: Global,
     classes: &Classes,
-    draft: &mut Draft,
+    draft: &mut RuleDraft,
     name: TextName,
     value: Option<&[u8]>,
 ) -> Result<(), Stop<Fault>>
@@ -60,7 +60,7 @@ pub(crate) fn text_option(
 /// Modifiers of the last content.
 #[tactic(auto, unfolding(crate::specs::RuleOption::modifier_option))]
 pub(crate) fn modifier_option(
-    draft: &mut Draft,
+    draft: &mut RuleDraft,
     name: Modifier,
     left: usize,
     value: Option<&[u8]>,
@@ -80,7 +80,7 @@ pub(crate) fn modifier_option(
 #[tactic(auto, unfolding(crate::specs::RuleOption::payload_option))]
 pub(crate) fn payload_option(
     alloc: Global,
-    draft: &mut Draft,
+    draft: &mut RuleDraft,
     name: PayloadName,
     left: usize,
     value: &[u8],
@@ -100,7 +100,7 @@ pub(crate) fn payload_option(
 /// Tests of a session, and of a packet as a whole.
 #[tactic(auto, unfolding(crate::specs::RuleOption::session_option))]
 pub(crate) fn session_option(
-    draft: &mut Draft,
+    draft: &mut RuleDraft,
     name: SessionName,
     value: Option<&[u8]>,
 ) -> Result<(), Stop<Fault>>
@@ -143,7 +143,7 @@ fn named_option(
     alloc: Global,
     classes: &Classes,
     bits: &mut BitNames,
-    draft: &mut Draft,
+    draft: &mut RuleDraft,
     name: Name,
     left: usize,
     value: Option<&[u8]>,
@@ -183,7 +183,7 @@ pub(crate) fn rule_option(
     alloc: Global,
     classes: &Classes,
     bits: &mut BitNames,
-    draft: &mut Draft,
+    draft: &mut RuleDraft,
     left: usize,
     text: &[u8],
 ) -> Result<(), Stop<Fault>>

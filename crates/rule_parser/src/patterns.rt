@@ -7,7 +7,7 @@ ghost use Rattle.rule_parser.specs.Drafts.{with_new};
 
 use crate::Opt;
 use crate::contents::negation;
-use crate::draft::Draft;
+use crate::draft::RuleDraft;
 use crate::fault::Fault;
 use crate::quoted::{Style, meaning, quoted};
 use edge_io::{PatternFlags, Text};
@@ -199,7 +199,11 @@ fn pcre(alloc: Global, value: &[u8]) -> Result<Opt, Stop<Fault>>
 }
 
 #[tactic(auto, unfolding(crate::specs::Patterns::pcre_option))]
-pub(crate) fn pcre_option(alloc: Global, draft: &mut Draft, value: &[u8]) -> Result<(), Stop<Fault>>
+pub(crate) fn pcre_option(
+    alloc: Global,
+    draft: &mut RuleDraft,
+    value: &[u8],
+) -> Result<(), Stop<Fault>>
     ensures { Gives (with_new result draft.new) (pcre_option draft.old value.now) }
 {
     let option = pcre(alloc, value)?;

@@ -5,7 +5,7 @@ ghost use Rattle.rule_parser.specs.Periods.{after_key, tracked, counted, period_
 ghost use Rattle.rule_parser.specs.Drafts.{with_new};
 
 use crate::Period;
-use crate::draft::Draft;
+use crate::draft::RuleDraft;
 use crate::fault::Fault;
 use crate::word::is;
 use net_lists::{Parts, first_word, number_in};
@@ -73,7 +73,7 @@ fn period_of(value: &[u8]) -> Result<Period, Fault>
 }
 
 #[tactic(auto, unfolding(crate::specs::Periods::detection_filter_option))]
-pub(crate) fn detection_filter_option(draft: &mut Draft, value: &[u8]) -> Result<(), Fault>
+pub(crate) fn detection_filter_option(draft: &mut RuleDraft, value: &[u8]) -> Result<(), Fault>
     ensures { with_new result draft.new ≡ detection_filter_option draft.old value.now }
 {
     let period = period_of(value)?;

@@ -18,7 +18,7 @@ pub(crate) enum Style {
 
 /// Where the next byte is.
 #[derive(Clone, Copy)]
-pub(crate) enum Place {
+pub(crate) enum QuotedPlace {
     Plain,
     /// After a backslash.
     Escaped,
@@ -30,28 +30,28 @@ pub(crate) enum Place {
 
 /// Where the next byte is, and what was given.
 #[derive(Clone, Copy)]
-pub(crate) struct Step {
-    pub place: Place,
+pub(crate) struct QuotedStep {
+    pub place: QuotedPlace,
     /// A backslash goes before the byte.
     pub slash: bool,
     pub byte: Option<u8>,
 }
 
-impl Step {
-    fn silent(place: Place) -> Step
+impl QuotedStep {
+    fn silent(place: QuotedPlace) -> QuotedStep
         ensures { result ≡ silent place }
     {
-        Step {
+        QuotedStep {
             place,
             slash: false,
             byte: None,
         }
     }
 
-    fn giving(place: Place, byte: u8) -> Step
+    fn giving(place: QuotedPlace, byte: u8) -> QuotedStep
         ensures { result ≡ giving place byte }
     {
-        Step {
+        QuotedStep {
             place,
             slash: false,
             byte: Some(byte),
@@ -137,25 +137,25 @@ impl Style {
     }
 
     #[tactic(auto, unfolding(crate::specs::Quotes::plain_step))]
-    fn plain_step(self, byte: u8) -> Step
+    fn plain_step(self, byte: u8) -> QuotedStep
         ensures { result ≡ plain_step self byte }
     {
         if byte == b'\\' {
-            Step::silent(Place::Escaped)
+            QuotedStep::silent(QuotedPlace::Escaped)
         } else if byte == b'|' && self.has_bars() {
-            Step::silent(Place::Bars)
+            QuotedStep::silent(QuotedPlace::Bars)
         } else {
-            Step::giving(Place::Plain, byte)
+            QuotedStep::giving(QuotedPlace::Plain, byte)
         }
     }
 
     #[tactic(auto, unfolding(crate::specs::Quotes::escaped_step))]
-    fn escaped_step(self, byte: u8) -> Step
+    fn escaped_step(self, byte: u8) -> QuotedStep
         ensures { result ≡ escaped_step self byte }
     {
         let slash = !self.frees(byte);
-        Step {
-            place: Place::Plain,
+        QuotedStep {
+            place: QuotedPlace::Plain,
             slash,
             byte: Some(byte),
         }
@@ -163,53 +163,56 @@ impl Style {
 }
 
 #[tactic(auto, unfolding(crate::specs::Quotes::bars_step))]
-fn bars_step(byte: u8) -> Option<Step>
+fn bars_step(byte: u8) -> Option<QuotedStep>
     ensures { result ≡ bars_step byte }
 {
     match byte {
-        b'|' => Some(Step::silent(Place::Plain)),
-        b' ' | b'\t' => Some(Step::silent(Place::Bars)),
+        b'|' => Some(QuotedStep::silent(QuotedPlace::Plain)),
+        b' ' | b'\t' => Some(QuotedStep::silent(QuotedPlace::Bars)),
         _ => match hex_value(byte) {
-            Some(_) => Some(Step::silent(Place::Half(byte))),
+            Some(_) => Some(QuotedStep::silent(QuotedPlace::Half(byte))),
             None => None,
         },
     }
 }
 
 #[tactic(auto, unfolding(crate::specs::Quotes::half_step))]
-fn half_step(first: u8, byte: u8) -> Option<Step>
+fn half_step(first: u8, byte: u8) -> Option<QuotedStep>
     ensures { result ≡ half_step first byte }
 {
     let high = hex_value(first)?;
     let low = hex_value(byte)?;
-    Some(Step::giving(Place::Bars, high * 16 + low))
+    Some(QuotedStep::giving(QuotedPlace::Bars, high * 16 + low))
 }
 
 /// What a byte gives where it is.
-fn step_at(style: Style, place: Place, byte: u8) -> Option<Step>
+fn step_at(style: Style, place: QuotedPlace, byte: u8) -> Option<QuotedStep>
     ensures { result ≡ step_at style place byte }
 {
     match place {
-        Place::Plain => Some(style.plain_step(byte)),
-        Place::Escaped => Some(style.escaped_step(byte)),
-        Place::Bars => bars_step(byte),
-        Place::Half(first) => half_step(first, byte),
+        QuotedPlace::Plain => Some(style.plain_step(byte)),
+        QuotedPlace::Escaped => Some(style.escaped_step(byte)),
+        QuotedPlace::Bars => bars_step(byte),
+        QuotedPlace::Half(first) => half_step(first, byte),
     }
 }
 
 /// What the end of a text gives where it is: in a pattern a lone backslash is no pair.
-fn end_step(style: Style, place: Place) -> Option<Step>
+fn end_step(style: Style, place: QuotedPlace) -> Option<QuotedStep>
     ensures { option_map (λ step. bytes_of step.slash step.byte) result ≡ end_bytes style place }
 {
     match (place, style) {
-        (Place::Plain, _) => Some(Step::silent(Place::Plain)),
-        (Place::Escaped, Style::Pattern) => Some(Step::giving(Place::Plain, b'\\')),
+        (QuotedPlace::Plain, _) => Some(QuotedStep::silent(QuotedPlace::Plain)),
+        (QuotedPlace::Escaped, Style::Pattern) => Some(QuotedStep::giving(
+            QuotedPlace::Plain,
+            b'\\',
+        )),
         _ => None,
     }
 }
 
 /// Adds what a step gives.
-fn push_step(out: &mut Vec<u8>, step: Step) -> Result<(), AllocError>
+fn push_step(out: &mut Vec<u8>, step: QuotedStep) -> Result<(), AllocError>
     ensures { OnOk result (out.new.items ≡ out.old.items ++ bytes_of step.slash step.byte) }
 {
     let Some(byte) = step.byte else {
@@ -225,10 +228,10 @@ fn push_step(out: &mut Vec<u8>, step: Step) -> Result<(), AllocError>
 /// What the text between quotes stands for.
 #[tactic(auto, using(crate::proofs::Quoting::meanings))]
 pub(crate) fn meaning(alloc: Global, style: Style, text: &[u8]) -> Result<Text, Stop<Fault>>
-    ensures { Gives result (or_kind Fault.OptionValue (meaning style Place.Plain text.now)) }
+    ensures { Gives result (or_kind Fault.OptionValue (meaning style QuotedPlace.Plain text.now)) }
 {
     let mut out = Vec::with_capacity(alloc, text.len())?;
-    let mut place = Place::Plain;
+    let mut place = QuotedPlace::Plain;
     for byte in text {
         let Some(step) = step_at(style, place, *byte) else {
             return Err(Stop::Wrong(Fault::OptionValue));

@@ -5,7 +5,7 @@ ghost use Rattle.net_lists.specs.Stops.{Gives};
 ghost use Rattle.rule_parser.specs.Steering.{side_of, sized_side, size_cmp, size_parts, stream_size_option, switched, quiet, quiet_end, reassemble_parts, stream_reassemble_option};
 ghost use Rattle.rule_parser.specs.Drafts.{with_new};
 
-use crate::draft::Draft;
+use crate::draft::RuleDraft;
 use crate::fault::Fault;
 use crate::word::is;
 use crate::{Cmp, Opt, Side};
@@ -88,7 +88,7 @@ fn stream_size(value: &[u8]) -> Result<Opt, Fault>
 }
 
 #[tactic(auto, unfolding(crate::specs::Steering::stream_size_option))]
-pub(crate) fn stream_size_option(draft: &mut Draft, value: &[u8]) -> Result<(), Stop<Fault>>
+pub(crate) fn stream_size_option(draft: &mut RuleDraft, value: &[u8]) -> Result<(), Stop<Fault>>
     ensures { Gives (with_new result draft.new) (stream_size_option draft.old value.now) }
 {
     let option = stream_size(value)?;
@@ -153,7 +153,10 @@ fn stream_reassemble(value: &[u8]) -> Result<(bool, Side, bool), Fault>
 }
 
 #[tactic(auto, unfolding(crate::specs::Steering::stream_reassemble_option))]
-pub(crate) fn stream_reassemble_option(draft: &mut Draft, value: &[u8]) -> Result<(), Stop<Fault>>
+pub(crate) fn stream_reassemble_option(
+    draft: &mut RuleDraft,
+    value: &[u8],
+) -> Result<(), Stop<Fault>>
     ensures { Gives (with_new result draft.new) (stream_reassemble_option draft.old value.now) }
 {
     let (on, side, noalert) = stream_reassemble(value)?;

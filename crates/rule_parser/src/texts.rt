@@ -5,7 +5,7 @@ ghost use Rattle.rule_parser.specs.Texts.{once, gid_option, sid_option, rev_opti
 ghost use Rattle.conf_types.specs.Classes.{class_place};
 ghost use Rattle.rule_parser.specs.Drafts.{with_new};
 
-use crate::draft::{ClassName, Draft};
+use crate::draft::{ClassName, RuleDraft};
 use crate::fault::Fault;
 use crate::quoted::{Style, meaning, quoted};
 use conf_types::Classes;
@@ -31,7 +31,7 @@ fn once(before: Option<u32>, least: u32, value: &[u8]) -> Result<u32, Fault>
 }
 
 #[tactic(auto, unfolding(crate::specs::Texts::gid_option))]
-pub(crate) fn gid_option(draft: &mut Draft, value: &[u8]) -> Result<(), Fault>
+pub(crate) fn gid_option(draft: &mut RuleDraft, value: &[u8]) -> Result<(), Fault>
     ensures { with_new result draft.new ≡ gid_option draft.old value.now }
 {
     let gid = once(draft.gid, 1, value)?;
@@ -40,7 +40,7 @@ pub(crate) fn gid_option(draft: &mut Draft, value: &[u8]) -> Result<(), Fault>
 }
 
 #[tactic(auto, unfolding(crate::specs::Texts::sid_option))]
-pub(crate) fn sid_option(draft: &mut Draft, value: &[u8]) -> Result<(), Fault>
+pub(crate) fn sid_option(draft: &mut RuleDraft, value: &[u8]) -> Result<(), Fault>
     ensures { with_new result draft.new ≡ sid_option draft.old value.now }
 {
     let sid = once(draft.sid, 1, value)?;
@@ -49,7 +49,7 @@ pub(crate) fn sid_option(draft: &mut Draft, value: &[u8]) -> Result<(), Fault>
 }
 
 #[tactic(auto, unfolding(crate::specs::Texts::rev_option))]
-pub(crate) fn rev_option(draft: &mut Draft, value: &[u8]) -> Result<(), Fault>
+pub(crate) fn rev_option(draft: &mut RuleDraft, value: &[u8]) -> Result<(), Fault>
     ensures { with_new result draft.new ≡ rev_option draft.old value.now }
 {
     let rev = once(draft.rev, 0, value)?;
@@ -58,7 +58,7 @@ pub(crate) fn rev_option(draft: &mut Draft, value: &[u8]) -> Result<(), Fault>
 }
 
 #[tactic(auto, unfolding(crate::specs::Texts::priority_option))]
-pub(crate) fn priority_option(draft: &mut Draft, value: &[u8]) -> Result<(), Fault>
+pub(crate) fn priority_option(draft: &mut RuleDraft, value: &[u8]) -> Result<(), Fault>
     ensures { with_new result draft.new ≡ priority_option draft.old value.now }
 {
     let priority = once(draft.priority, 0, value)?;
@@ -98,7 +98,11 @@ fn message(alloc: Global, is_given: bool, value: &[u8]) -> Result<Text, Stop<Fau
 }
 
 #[tactic(auto, unfolding(crate::specs::Texts::msg_option))]
-pub(crate) fn msg_option(alloc: Global, draft: &mut Draft, value: &[u8]) -> Result<(), Stop<Fault>>
+pub(crate) fn msg_option(
+    alloc: Global,
+    draft: &mut RuleDraft,
+    value: &[u8],
+) -> Result<(), Stop<Fault>>
     ensures { Gives (with_new result draft.new) (msg_option draft.old value.now) }
 {
     let msg = message(alloc, draft.msg.is_some(), value)?;
@@ -119,7 +123,7 @@ fn class_named(place: Option<u32>) -> ClassName
 #[tactic(auto, unfolding(crate::specs::Texts::classtype_option))]
 pub(crate) fn classtype_option(
     classes: &Classes,
-    draft: &mut Draft,
+    draft: &mut RuleDraft,
     value: &[u8],
 ) -> Result<(), Fault>
     ensures { with_new result draft.new ≡ classtype_option (class_place classes.now) draft.old value.now }

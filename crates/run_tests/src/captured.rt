@@ -70,7 +70,7 @@ fn line_count(bytes: &[u8]) -> usize {
 
 /// How a run ended, and how many alerts it wrote.
 #[derive(Clone, Copy)]
-pub(crate) struct Outcome {
+pub(crate) struct RunOutcome {
     pub status: Status,
     pub alerts: usize,
 }
@@ -84,7 +84,7 @@ pub(crate) fn outcome_of<W: Watcher, G: Gate, R: Threads + Sync>(
     capture: &[u8],
     watcher: &W,
     gate: &G,
-) -> Result<Outcome, Fail> {
+) -> Result<RunOutcome, Fail> {
     let words = words_of(alloc, command)?;
     let mut host = MemHost::new(alloc);
     host.put("r", config.as_bytes())?;
@@ -102,7 +102,7 @@ pub(crate) fn outcome_of<W: Watcher, G: Gate, R: Threads + Sync>(
         &mut errors,
         gate,
     );
-    Ok(Outcome {
+    Ok(RunOutcome {
         status,
         alerts: line_count(alerts.bytes()),
     })

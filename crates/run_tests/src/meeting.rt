@@ -31,7 +31,7 @@ enum Who {
 
 /// A place where two meet: the first that comes waits for the second.
 #[derive(Drop)]
-struct Place {
+struct MeetingPlace {
     first: AtomicBool,
     second: AtomicBool,
     /// Whether one of the two waited in vain.
@@ -49,9 +49,9 @@ fn comes(clock: &impl Clock, other: &AtomicBool) -> bool {
     false
 }
 
-impl Place {
-    fn new() -> Place {
-        Place {
+impl MeetingPlace {
+    fn new() -> MeetingPlace {
+        MeetingPlace {
             first: AtomicBool::new(false),
             second: AtomicBool::new(false),
             missed: AtomicBool::new(false),
@@ -81,8 +81,8 @@ impl Place {
 #[derive(Drop)]
 struct Meeting<'a, R> {
     clock: &'a R,
-    entry: Place,
-    search: Place,
+    entry: MeetingPlace,
+    search: MeetingPlace,
 }
 
 impl<R: Clock + Sync> Gate for Meeting<'_, R> {
@@ -132,8 +132,8 @@ fn lanes_meet(rt: HostRuntime) -> Result<(), Fail> {
     for command in COMMANDS {
         let meeting = Meeting {
             clock: &rt,
-            entry: Place::new(),
-            search: Place::new(),
+            entry: MeetingPlace::new(),
+            search: MeetingPlace::new(),
         };
         let ran = outcome_of(&rt, alloc, command, CONFIG, &capture, &meeting, &meeting)?;
         assert!(rt;

@@ -82,14 +82,14 @@ fn lanes_write_the_same_records(rt: HostRuntime) -> Result<(), Fail> {
 
 /// What a run leaves: its status, its alerts and its errors.
 #[derive(Drop)]
-struct Left {
+struct RunOutput {
     status: Status,
     alerts: MemSink,
     errors: MemSink,
 }
 
 /// What showing a file of these bytes leaves.
-fn shown<R: Threads + Sync>(rt: &R, alloc: Global, bytes: &[u8]) -> Result<Left, Fail> {
+fn shown<R: Threads + Sync>(rt: &R, alloc: Global, bytes: &[u8]) -> Result<RunOutput, Fail> {
     let words = words_of(alloc, "snort --read-unified2 u")?;
     let mut host = MemHost::new(alloc);
     host.put("u", bytes)?;
@@ -106,7 +106,7 @@ fn shown<R: Threads + Sync>(rt: &R, alloc: Global, bytes: &[u8]) -> Result<Left,
         &mut errors,
         &OpenGate,
     );
-    Ok(Left {
+    Ok(RunOutput {
         status,
         alerts,
         errors,

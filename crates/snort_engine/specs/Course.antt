@@ -31,7 +31,7 @@ use Rattle.snort_setup.specs.Answers.{AreRefusedBy}
 use Rattle.snort_setup.specs.Setup.{Halt, Refused, Lacks, Ready, Warned, IsSetup, IsReading, conf_read}
 use Rattle.unified2_out.specs.declared.record.U2.{U2}
 use Rattle.unified2_out.specs.Reading.{AreRecordsOf, IsBadAt}
-use Rattle.command_words.specs.declared.asked.Form.{Form}
+use Rattle.command_words.specs.declared.asked.AlertForm.{AlertForm}
 use Rattle.alert_lines.specs.RecordLines.{entry_lines}
 use Rattle.snort_engine.specs.declared.status.Status.{Status}
 use Rattle.snort_engine.specs.declared.status.Status.TheVariants as status
@@ -52,7 +52,7 @@ pub record Plan : Type 0 where
   pub flush : ℕ
   pub rules : List Rule
   pub matches : Test
-  pub form : Form
+  pub form : AlertForm
   pub counted : Bool
 
 -- a run stops with a message and a status, or goes on with a plan: for the capture in the plan's file, or

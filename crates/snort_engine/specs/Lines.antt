@@ -8,7 +8,7 @@
 use Rattle.std.specs.Prelude.{◌≡◌, ℕ, ◌+◌, ◌≤◌, List, [], ◌++◌, length, take}
 use mathlib.Core.List.{IsPrefix}
 use Rattle.record_jobs.specs.Way.{LinkedRecord}
-use Rattle.command_words.specs.declared.asked.Form.TheVariants as form
+use Rattle.command_words.specs.declared.asked.AlertForm.TheVariants as form
 use Rattle.alert_lines.specs.Lines.{text_of, texts_from}
 use Rattle.snort_engine.specs.Course.{Plan}
 use Rattle.snort_engine.specs.Trace.{CaptureState, Open, trace}

@@ -17,7 +17,7 @@
 use Rattle.std.specs.Prelude.{◌≡◌, ℕ, Bool, true, false, List, Contains, Option, Some, filter, map}
 use Rattle.edge_io.specs.Along.{trail}
 use Rattle.packet_decode.specs.declared.item.ItemHead.{ItemHead}
-use Rattle.event_filters.specs.declared.counting.Key.{Key}
+use Rattle.event_filters.specs.declared.counting.CountKey.{CountKey}
 use Rattle.event_filters.specs.Counting.{Event}
 use Rattle.event_filters.specs.Events.{event_key, event_of, global_place, match_key, own_place}
 use Rattle.event_filters.specs.Keys.{same_key}
@@ -38,8 +38,8 @@ abbrev pub items_beside : Plan → List LinkedRecord → List (Beside LinkedReco
 items_beside plan records = trail (own (record_items (detection_of plan) (jobs_way plan))) records
 
 -- by these keys no item of the part is counted together with one that isn't, whichever rules match the two
-abbrev pub IsCountedApart : {S : Type 0} → (S → Bool) → List (Beside S Hits) → (Event → Option Key) → Type 0
-IsCountedApart {S} part items key_of = (a b : Beside S Hits) (p q : ℕ) (key other : Key)
+abbrev pub IsCountedApart : {S : Type 0} → (S → Bool) → List (Beside S Hits) → (Event → Option CountKey) → Type 0
+IsCountedApart {S} part items key_of = (a b : Beside S Hits) (p q : ℕ) (key other : CountKey)
     → Contains items a → Contains items b → part a.source ≡ true → part b.source ≡ false
     → key_of (event_of a.what.head p) ≡ Some key → key_of (event_of b.what.head q) ≡ Some other → same_key key other ≡ false
 

@@ -9,7 +9,7 @@ ghost use Rattle.snort_engine.specs.Steps.Seen.{OfSeen};
 ghost use Rattle.snort_engine.specs.Steps.Showing.{most_at, room_after};
 
 use crate::reader::RecordReader;
-use crate::stop::Stop;
+use crate::stop::RunStop;
 use alert_lines::LinkedRecord;
 use edge_io::Host;
 use pcapng_input::ReadFault;
@@ -20,7 +20,7 @@ const BATCH: usize = 256;
 
 /// What comes after the records that were read.
 #[derive(Clone, Copy, Debug)]
-pub(crate) enum Reached {
+pub(crate) enum BatchEnd {
     /// More records may be there.
     More,
     /// The capture ends there.
@@ -36,29 +36,29 @@ fn read_one<H: Host>(
     host: &mut H,
     reader: &mut RecordReader,
     records: &mut Vec<LinkedRecord>,
-) -> Reached
+) -> BatchEnd
     requires { IsFresh reader.old }
     ensures reads { OfSeen H.Host host.new (λ seen. ReadsOn
         (place (by seen H.Host) reader.old records.old.items host.old)
         (place (by seen H.Host) reader.new records.new.items host.new) result) }
-    ensures one { result ≡ Reached.More → vec_len records.new ≡ vec_len records.old + 1 }
-    ensures none { result ≢ Reached.More → vec_len records.new ≡ vec_len records.old }
-    ensures next { result ≡ Reached.More → IsFresh reader.new × IsNext reader.old reader.new }
+    ensures one { result ≡ BatchEnd.More → vec_len records.new ≡ vec_len records.old + 1 }
+    ensures none { result ≢ BatchEnd.More → vec_len records.new ≡ vec_len records.old }
+    ensures next { result ≡ BatchEnd.More → IsFresh reader.new × IsNext reader.old reader.new }
     ensures reason { HasReason reader.new (H.faults host.old) (H.faults host.new) result }
     ensures host { OnlyRead H.Host host.old host.new }
 {
     // Room comes first, so that no record is lost that was taken.
     match records.reserve(1) {
         Ok(()) => {}
-        Err(AllocError) => return Reached::Fault(ReadFault::NoMemory),
+        Err(AllocError) => return BatchEnd::Fault(ReadFault::NoMemory),
     }
     match reader.next(alloc, host) {
         Ok(Some(given)) => match records.push(given) {
-            Ok(()) => Reached::More,
-            Err(AllocFailed { value: _full }) => Reached::Fault(ReadFault::NoMemory),
+            Ok(()) => BatchEnd::More,
+            Err(AllocFailed { value: _full }) => BatchEnd::Fault(ReadFault::NoMemory),
         },
-        Ok(None) => Reached::End,
-        Err(why) => Reached::Fault(why),
+        Ok(None) => BatchEnd::End,
+        Err(why) => BatchEnd::Fault(why),
     }
 }
 
@@ -92,7 +92,7 @@ pub(crate) fn read_batch<H: Host>(
     reader: &mut RecordReader,
     most: usize,
     records: &mut Vec<LinkedRecord>,
-) -> Reached
+) -> BatchEnd
     requires fresh { IsFresh reader.old }
     requires some { 0 < most }
     requires empty { records.old.items ≡ [] }
@@ -100,38 +100,38 @@ pub(crate) fn read_batch<H: Host>(
         (place (by seen H.Host) reader.old [] host.old)
         (place (by seen H.Host) reader.new records.new.items host.new) result) }
     ensures filled { IsFilled most (vec_len records.new) result }
-    ensures goes_on { result ≡ Reached.More → HasGoneOn reader.old reader.new (vec_len records.new) }
+    ensures goes_on { result ≡ BatchEnd.More → HasGoneOn reader.old reader.new (vec_len records.new) }
     ensures within { 0 < vec_len records.new → number_of reader.old + vec_len records.new ≤ most_records }
     ensures reason { HasReason reader.new (H.faults host.old) (H.faults host.new) result }
     ensures host { OnlyRead H.Host host.old host.new }
 {
     'batch: while records.len() < most {
         match read_one(alloc, host, reader, records) {
-            Reached::More => {}
+            BatchEnd::More => {}
             stop => return stop,
         }
     }
-    Reached::More
+    BatchEnd::More
 }
 
 /// Whether reading stopped for want of memory.
-pub(crate) fn lacks_memory(reached: Reached) -> bool
+pub(crate) fn lacks_memory(reached: BatchEnd) -> bool
     ensures { result ≡ lacks_memory reached }
 {
     match reached {
-        Reached::Fault(ReadFault::NoMemory) => true,
+        BatchEnd::Fault(ReadFault::NoMemory) => true,
         _ => false,
     }
 }
 
 /// Whether more records may follow, or how what was reached stops a run.
-pub(crate) fn more(reached: Reached) -> Result<bool, Stop>
+pub(crate) fn more(reached: BatchEnd) -> Result<bool, RunStop>
     ensures { result ≡ more_of reached }
 {
     match reached {
-        Reached::More => Ok(true),
-        Reached::End => Ok(false),
-        Reached::Fault(why) => Err(Stop::from(why)),
+        BatchEnd::More => Ok(true),
+        BatchEnd::End => Ok(false),
+        BatchEnd::Fault(why) => Err(RunStop::from(why)),
     }
 }
 

@@ -16,9 +16,9 @@ ghost use Rattle.snort_engine.specs.Steps.Showing.{OfTest};
 use crate::context::Context;
 use crate::counts::Counts;
 use crate::made::{MadeCapture, made_reader};
-use crate::plan::Source;
+use crate::plan::CaptureSource;
 use crate::show::{show_file, show_opened};
-use crate::stop::Stop;
+use crate::stop::RunStop;
 use edge_io::{Gate, Host, Pattern, Sink};
 use pcap_input::make_capture;
 use std::thread::Threads;
@@ -32,7 +32,7 @@ fn show_made<P: Pattern, G: Gate, A: Sink, R: Threads + Sync>(
     count: u32,
     alerts: &mut A,
     counts: &mut Counts,
-) -> Result<(), Stop>
+) -> Result<(), RunStop>
     requires { IsSoundPlan context.now.plan.now }
     ensures ends { OfTest P.finds context.now.plan.now (λ plan. EndsUnseen (Makes plan seed count)
         (A.written alerts.old) (A.written alerts.new) result (said_of context.now.plan.now result counts.new)) }
@@ -54,7 +54,7 @@ pub(crate) fn show_capture<H: Host, P: Pattern, G: Gate, A: Sink, R: Threads + S
     host: &mut H,
     alerts: &mut A,
     counts: &mut Counts,
-) -> Result<(), Stop>
+) -> Result<(), RunStop>
     requires plan { IsSoundPlan context.now.plan.now }
     requires none { counts.old ≡ no_counts }
     ensures ends { OfTest P.finds context.now.plan.now (λ plan.
@@ -71,7 +71,7 @@ pub(crate) fn show_capture<H: Host, P: Pattern, G: Gate, A: Sink, R: Threads + S
     ensures host { OnlyOpened H.Host host.old host.new }
 {
     match context.plan.source {
-        Source::File(name) => show_file(context, host, name, alerts, counts),
-        Source::Made { seed, count } => show_made(context, seed, count, alerts, counts),
+        CaptureSource::File(name) => show_file(context, host, name, alerts, counts),
+        CaptureSource::Made { seed, count } => show_made(context, seed, count, alerts, counts),
     }
 }

@@ -18,7 +18,7 @@ use crate::context::Context;
 use crate::counts::Counts;
 use crate::plan::{Plan, front_config};
 use crate::reader::no_record;
-use crate::sources::{Made, keep_last};
+use crate::sources::{MadeJobs, keep_last};
 use alert_lines::{AlertWriter, LinkedRecord, Shown, Sources, WriteFault, sum};
 use edge_io::{Gate, NoMemory, Pattern, Sink};
 use fast_pattern::Groups;
@@ -97,7 +97,7 @@ pub(crate) fn make_jobs<'a>(
     by: &FrontConfig<'_>,
     records: &'a [LinkedRecord],
     front: &mut Front,
-) -> Result<Made<'a>, NoMemory>
+) -> Result<MadeJobs<'a>, NoMemory>
     requires sound { conf.IsSound by.now.config.now }
     requires few { front.old.counts.records + length records.now ≤ 2 ^ 32 }
     ensures makes { IfOk result (λ made. MakesJobs (ways.way_of by.now) records.now
@@ -114,7 +114,7 @@ pub(crate) fn make_jobs<'a>(
         places.resize(jobs.len(), place)?;
         place += 1;
     }
-    Ok(Made { jobs, places })
+    Ok(MadeJobs { jobs, places })
 }
 
 /// Runs a batch of jobs, which were made of these records, and writes the lines of what it finds, whole.

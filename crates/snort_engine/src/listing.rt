@@ -9,8 +9,8 @@ ghost use Rattle.snort_engine.specs.Steps.Preparing.{HasCause, ListsBytes, Lists
 ghost use Rattle.snort_engine.specs.Steps.Seen.{HostRose};
 ghost use Rattle.snort_engine.specs.Steps.Stop.{IsWriteStop, ReadsQuietly};
 
-use crate::stop::Stop;
-use alert_fast::Piece::Bytes;
+use crate::stop::RunStop;
+use alert_fast::TextPiece::Bytes;
 use alert_fast::push_pieces;
 use alert_lines::record_lines;
 use edge_io::{Host, LoadFault, NoMemory, Sink, Text, write_all};
@@ -21,31 +21,31 @@ use unified2_out::U2Fault;
 const MOST_BYTES: usize = 16_777_216;
 
 /// The lines of the records that these bytes are.
-fn lines_of(alloc: Global, bytes: &[u8]) -> Result<Text, Stop>
+fn lines_of(alloc: Global, bytes: &[u8]) -> Result<Text, RunStop>
     ensures { ListsBytes bytes.now result }
 {
     match record_lines(alloc, bytes) {
         Ok(lines) => Ok(lines),
-        Err(U2Fault::Bad { at }) => Err(Stop::BadUnified2 { at }),
-        Err(U2Fault::NoMemory) => Err(Stop::NoMemory),
+        Err(U2Fault::Bad { at }) => Err(RunStop::BadUnified2 { at }),
+        Err(U2Fault::NoMemory) => Err(RunStop::NoMemory),
     }
 }
 
 /// How a file of this name that was not loaded stops a run.
 #[tactic(auto, unfolding(crate::specs::Messages::too_large_text))]
-fn file_stop(alloc: Global, name: &[u8], fault: LoadFault) -> Stop
+fn file_stop(alloc: Global, name: &[u8], fault: LoadFault) -> RunStop
     ensures { StopsAtFile name.now fault result }
 {
     match fault {
         LoadFault::Failed => match Text::copy(alloc, name) {
-            Ok(name) => Stop::CannotReadFile { name },
-            Err(NoMemory) => Stop::NoMemory,
+            Ok(name) => RunStop::CannotReadFile { name },
+            Err(NoMemory) => RunStop::NoMemory,
         },
         LoadFault::TooLarge => match too_large(alloc, name) {
-            Ok(message) => Stop::Refused { message },
-            Err(NoMemory) => Stop::NoMemory,
+            Ok(message) => RunStop::Refused { message },
+            Err(NoMemory) => RunStop::NoMemory,
         },
-        LoadFault::NoMemory => Stop::NoMemory,
+        LoadFault::NoMemory => RunStop::NoMemory,
     }
 }
 
@@ -67,7 +67,11 @@ fn too_large(alloc: Global, name: &[u8]) -> Result<Text, NoMemory>
 }
 
 /// Reads the Unified2 file of this name, and gives the lines of its records.
-pub(crate) fn list_records<H: Host>(alloc: Global, name: &str, host: &mut H) -> Result<Text, Stop>
+pub(crate) fn list_records<H: Host>(
+    alloc: Global,
+    name: &str,
+    host: &mut H,
+) -> Result<Text, RunStop>
     ensures lists { (files : Files) → H.agrees host.new files
         → ListsFile name.now files (HostRose H.Host host.old host.new) result }
     ensures cause { IfErr result (HasCause (HostRose H.Host host.old host.new) (H.contents host.old)) }
@@ -82,16 +86,16 @@ pub(crate) fn list_records<H: Host>(alloc: Global, name: &str, host: &mut H) -> 
 }
 
 /// Writes lines, whole. Takes no memory.
-pub(crate) fn write_lines<A: Sink>(lines: &Text, alerts: &mut A) -> Result<(), Stop>
+pub(crate) fn write_lines<A: Sink>(lines: &Text, alerts: &mut A) -> Result<(), RunStop>
     ensures whole { OnOk result (A.written alerts.new ≡ grown (A.written alerts.old) lines.now) }
     ensures part { OnErr result (WritesPart (A.written alerts.old) lines.now (A.written alerts.new)) }
     ensures kind { IfErr result IsWriteStop }
-    ensures write_fault { IsErrOf result Stop.CannotWrite → Rose (A.faults alerts.old) (A.faults alerts.new) }
+    ensures write_fault { IsErrOf result RunStop.CannotWrite → Rose (A.faults alerts.old) (A.faults alerts.new) }
     ensures quiet { OnOk result (A.faults alerts.new ≡ A.faults alerts.old) }
     ensures later { A.faults alerts.old ≤ A.faults alerts.new }
 {
     match write_all(alerts, lines.bytes()) {
         Ok(()) => Ok(()),
-        Err(stop) => Err(Stop::from(stop)),
+        Err(stop) => Err(RunStop::from(stop)),
     }
 }

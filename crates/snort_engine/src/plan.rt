@@ -4,28 +4,28 @@ ghost use Rattle.record_jobs.specs.Way as ways;
 ghost use Rattle.snort_engine.specs.Trace.{jobs_way_by};
 ghost use Rattle.snort_engine.specs.Steps.Sources.{source_name};
 
-use command_words::Form;
+use command_words::AlertForm;
 use packet_decode::Checks;
 use record_jobs::FrontConfig;
 use snort_setup::Setup;
 
 /// Where a capture comes from.
 #[derive(Clone, Copy, Debug)]
-pub(crate) enum Source<'a> {
+pub(crate) enum CaptureSource<'a> {
     /// The file of this name.
     File(&'a str),
     /// A capture that is made of a seed, with this many packets.
     Made { seed: u32, count: u32 },
 }
 
-impl<'a> Source<'a> {
+impl<'a> CaptureSource<'a> {
     /// The name of its file; empty where it has none.
     pub fn name(self) -> &'a str
         ensures { result.now ≡ source_name self.entry }
     {
         match self {
-            Source::File(name) => name,
-            Source::Made { .. } => "",
+            CaptureSource::File(name) => name,
+            CaptureSource::Made { .. } => "",
         }
     }
 }
@@ -34,7 +34,7 @@ impl<'a> Source<'a> {
 #[derive(Drop)]
 pub(crate) struct Plan<'a, P> {
     /// Where the capture comes from.
-    pub source: Source<'a>,
+    pub source: CaptureSource<'a>,
     /// How many records are read at most, where there is a limit.
     pub limit: Option<u32>,
     /// The checksums that are verified.
@@ -47,7 +47,7 @@ pub(crate) struct Plan<'a, P> {
     /// How many bytes of a stream are acknowledged at least before they are an item, 1 to 65536.
     pub flush: u32,
     /// The form in which alerts are written.
-    pub form: Form,
+    pub form: AlertForm,
     /// The counts of the run are told.
     pub counted: bool,
 }

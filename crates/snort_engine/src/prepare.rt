@@ -18,8 +18,8 @@ ghost use Rattle.snort_engine.specs.Steps.Sources.{IsMade, IsSourceFor};
 ghost use Rattle.snort_engine.specs.Steps.Detecting.{IsRanged};
 
 use crate::listing::list_records;
-use crate::plan::{Plan, Source};
-use crate::stop::Stop;
+use crate::plan::{CaptureSource, Plan};
+use crate::stop::RunStop;
 use command_words::{ChecksumMode, Command, Words, WordsFault, read_words};
 use edge_io::{Host, Items, Pattern, PatternMaker, Text};
 use packet_decode::Checks;
@@ -134,21 +134,21 @@ fn set_up<H: Host, M: PatternMaker>(
 
 /// Where the words have the capture from, if from anywhere. A seed says something only of a capture that
 /// is made.
-fn source_of<'a>(wanted: &Words<'a>) -> Option<Source<'a>>
+fn source_of<'a>(wanted: &Words<'a>) -> Option<CaptureSource<'a>>
     ensures { IsSourceFor (run_of wanted.now) result }
 {
     match (wanted.generate, wanted.capture) {
-        (Some(count), _) => Some(Source::Made {
+        (Some(count), _) => Some(CaptureSource::Made {
             seed: wanted.seed,
             count,
         }),
-        (None, Some(name)) => Some(Source::File(name)),
+        (None, Some(name)) => Some(CaptureSource::File(name)),
         (None, None) => None,
     }
 }
 
 /// What is left to do with a detector that is set up.
-fn ready<'a, P: Pattern>(wanted: &Words<'a>, setup: Setup<P>) -> Result<Plan<'a, P>, Stop>
+fn ready<'a, P: Pattern>(wanted: &Words<'a>, setup: Setup<P>) -> Result<Plan<'a, P>, RunStop>
     ensures way { (matches : Test) → way_by (way_for matches) result
         ≡ way_of matches (run_of wanted.now) (Ok (ready_of setup)) }
     ensures made { IfOk result (λ ready. IsSome wanted.now.generate → IsMade ready.source) }
@@ -156,12 +156,12 @@ fn ready<'a, P: Pattern>(wanted: &Words<'a>, setup: Setup<P>) -> Result<Plan<'a,
     ensures ranges { IfOk result (λ ready. (ready.lanes ≡ wanted.now.lanes) × (ready.flush ≡ wanted.now.flush_point)) }
 {
     if wanted.test {
-        return Err(Stop::Accepted {
+        return Err(RunStop::Accepted {
             rules: setup.set.rules().len() as u64,
         });
     }
     let Some(source) = source_of(wanted) else {
-        return Err(Stop::CommandLine);
+        return Err(RunStop::CommandLine);
     };
     Ok(Plan {
         source,
@@ -182,7 +182,7 @@ fn prepare_run<'a, H: Host, M: PatternMaker>(
     host: &mut H,
     maker: &mut M,
     warnings: &mut Items<Text>,
-) -> Result<Plan<'a, M::Made>, Stop>
+) -> Result<Plan<'a, M::Made>, RunStop>
     requires named { HasName (setup_words (run_of wanted.now)).definition }
     requires ranged { IsRanged wanted.now.lanes wanted.now.flush_point }
     ensures prepared { (files : Files) → H.agrees host.new files
@@ -210,7 +210,7 @@ pub(crate) fn prepare<'a, H: Host, M: PatternMaker>(
     host: &mut H,
     maker: &mut M,
     warnings: &mut Items<Text>,
-) -> Result<Task<'a, M::Made>, Stop>
+) -> Result<Task<'a, M::Made>, RunStop>
     requires { warnings.old ≡ [] }
     ensures prepared { (files : Files) → H.agrees host.new files
         → IsPrepared task_way (command_line (map string_bytes words.entry.now)) files
@@ -230,13 +230,13 @@ pub(crate) fn prepare<'a, H: Host, M: PatternMaker>(
     ensures maker { OnlyMade (M.means maker.old) (M.means maker.new) (M.refusals maker.old) (M.refusals maker.new) }
 {
     match read_words(alloc, words) {
-        Ok(Command::Help) => Err(Stop::Usage),
-        Ok(Command::Version) => Err(Stop::Version),
+        Ok(Command::Help) => Err(RunStop::Usage),
+        Ok(Command::Version) => Err(RunStop::Version),
         Ok(Command::ReadUnified2(file)) => Ok(Task::Tell(list_records(alloc, file, host)?)),
         Ok(Command::Run(wanted)) => Ok(Task::Show(prepare_run(
             alloc, &wanted, host, maker, warnings,
         )?)),
-        Err(WordsFault::CommandLine) => Err(Stop::CommandLine),
-        Err(WordsFault::NoMemory) => Err(Stop::NoMemory),
+        Err(WordsFault::CommandLine) => Err(RunStop::CommandLine),
+        Err(WordsFault::NoMemory) => Err(RunStop::NoMemory),
     }
 }

@@ -8,7 +8,7 @@ ghost use Rattle.snort_engine.specs.Steps.Reporting.{Reports, TellsOn, TellsLast
 
 use crate::Status;
 use crate::counts::Counts;
-use crate::stop::{Stop, is_whole};
+use crate::stop::{RunStop, is_whole};
 use edge_io::{NoMemory, Sink, Text, write_all};
 use std::alloc::Global;
 
@@ -45,7 +45,7 @@ pub(crate) fn tell_all<E: Sink>(errors: &mut E, texts: &[Text]) -> bool
 /// was cut short.
 pub(crate) fn counts_due(
     counted: bool,
-    outcome: &Result<(), Stop>,
+    outcome: &Result<(), RunStop>,
     counts: Counts,
 ) -> Option<Counts>
     ensures { result ≡ counts_due counted outcome.now counts }
@@ -61,7 +61,7 @@ pub(crate) fn counts_due(
 fn push_report(
     out: &mut Vec<u8>,
     source: &str,
-    outcome: &Result<(), Stop>,
+    outcome: &Result<(), RunStop>,
     told: Option<Counts>,
 ) -> Result<(), NoMemory>
     ensures { OnOk result (out.new.items ≡ out.old.items ++ with_counts (outcome_text source.now outcome.now) told) }
@@ -76,7 +76,7 @@ fn push_report(
 }
 
 /// The status of an outcome.
-fn status_of(outcome: &Result<(), Stop>) -> Status
+fn status_of(outcome: &Result<(), RunStop>) -> Status
     ensures { result ≡ outcome_status outcome.now }
 {
     match outcome {
@@ -93,7 +93,7 @@ pub(crate) fn report<E: Sink>(
     errors: &mut E,
     well: bool,
     source: &str,
-    outcome: &Result<(), Stop>,
+    outcome: &Result<(), RunStop>,
     told: Option<Counts>,
 ) -> Status
     ensures reports { Reports (with_counts (outcome_text source.now outcome.now) told) outcome.now result

@@ -7,7 +7,7 @@ ghost use Rattle.record_jobs.specs.Way.{LinkedRecord};
 ghost use Rattle.unified2_out.specs.declared.record.U2.{U2};
 ghost use Rattle.unified2_out.specs.Reading.{AreRecordsOf, joined_text};
 ghost use Rattle.unified2_out.specs.Records.{AllFit};
-ghost use Rattle.command_words.specs.declared.asked.Form.TheVariants.{Unified2};
+ghost use Rattle.command_words.specs.declared.asked.AlertForm.TheVariants.{Unified2};
 ghost use Rattle.snort_engine.specs.Answer.{capture_answer};
 ghost use Rattle.snort_engine.specs.Course.{IsFileWay, Lists, Plan, Way, most_file_bytes};
 ghost use Rattle.snort_engine.specs.CutCaptures.{Holds, IsCutAfter, IsLimited, end_of, unlimited};

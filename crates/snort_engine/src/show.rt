@@ -21,7 +21,7 @@ use crate::context::Context;
 use crate::counts::Counts;
 use crate::detect::{Detector, close, show_records};
 use crate::reader::RecordReader;
-use crate::stop::{Stop, is_whole};
+use crate::stop::{RunStop, is_whole};
 use alert_lines::LinkedRecord;
 use edge_io::{Gate, Host, Pattern, Sink};
 use std::thread::Threads;
@@ -56,7 +56,7 @@ fn show_next_batch<H: Host, P: Pattern, G: Gate, A: Sink, R: Threads + Sync>(
     records: &mut Vec<LinkedRecord>,
     detector: &mut Detector,
     alerts: &mut A,
-) -> Result<bool, Stop>
+) -> Result<bool, RunStop>
     requires plan { IsSoundPlan context.now.plan.now }
     requires ready { MayGoOn context.now.plan.now reader.old detector.old }
     requires no_records { records.old.items ≡ [] }
@@ -79,7 +79,7 @@ fn show_next_batch<H: Host, P: Pattern, G: Gate, A: Sink, R: Threads + Sync>(
     *room = room_after(*room, records.len());
     if lacks_memory(reached) {
         show_some(context, records, detector, alerts);
-        return Err(Stop::NoMemory);
+        return Err(RunStop::NoMemory);
     }
     show_records(context, records, detector, alerts)?;
     give_back(context.alloc, reader, records);
@@ -95,7 +95,7 @@ fn show_batches<H: Host, P: Pattern, G: Gate, A: Sink, R: Threads + Sync>(
     reader: &mut RecordReader,
     detector: &mut Detector,
     alerts: &mut A,
-) -> Result<(), Stop>
+) -> Result<(), RunStop>
     requires plan { IsSoundPlan context.now.plan.now }
     requires ready { MayGoOn context.now.plan.now reader.old detector.old }
     ensures comes { OfTest P.finds context.now.plan.now (λ plan.
@@ -126,10 +126,10 @@ fn show_batches<H: Host, P: Pattern, G: Gate, A: Sink, R: Threads + Sync>(
 fn close_shown<P: Pattern, G: Gate, A: Sink, R: Threads + Sync>(
     context: &Context<'_, P, G, R>,
     detector: Detector,
-    shown: Result<(), Stop>,
+    shown: Result<(), RunStop>,
     alerts: &mut A,
     counts: &mut Counts,
-) -> Result<(), Stop>
+) -> Result<(), RunStop>
     requires plan { IsSoundPlan context.now.plan.now }
     requires closable { MayClose context.now.plan.now detector shown }
     ensures closes { OfTest P.finds context.now.plan.now (λ plan. ClosesShown plan detector shown
@@ -153,7 +153,7 @@ pub(crate) fn show_opened<H: Host, P: Pattern, G: Gate, A: Sink, R: Threads + Sy
     reader: &mut RecordReader,
     alerts: &mut A,
     counts: &mut Counts,
-) -> Result<(), Stop>
+) -> Result<(), RunStop>
     requires plan { IsSoundPlan context.now.plan.now }
     requires readable { IsReadable reader.old }
     ensures shows { OfTest P.finds context.now.plan.now (λ plan.
@@ -180,7 +180,7 @@ pub(crate) fn show_file<H: Host, P: Pattern, G: Gate, A: Sink, R: Threads + Sync
     name: &str,
     alerts: &mut A,
     counts: &mut Counts,
-) -> Result<(), Stop>
+) -> Result<(), RunStop>
     requires plan { IsSoundPlan context.now.plan.now }
     requires named { source_name context.now.plan.now.source ≡ name.now }
     requires none { counts.old ≡ no_counts }

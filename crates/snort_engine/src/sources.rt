@@ -8,7 +8,7 @@ use std::mem::swap;
 
 /// The jobs of records, lent by these, and for each the place of its record among these.
 #[derive(Drop)]
-pub(crate) struct Made<'a> {
+pub(crate) struct MadeJobs<'a> {
     pub jobs: Vec<Job<'a>>,
     pub places: Vec<usize>,
 }

@@ -5,7 +5,7 @@ ghost use Rattle.snort_engine.specs.Messages.{cannot_read_text};
 ghost use Rattle.snort_engine.specs.Steps.Stop.{is_whole, stop_status, stop_text};
 
 use crate::Status;
-use alert_fast::Piece::{Bytes, Number};
+use alert_fast::TextPiece::{Bytes, Number};
 use alert_fast::push_pieces;
 use alert_lines::WriteFault;
 use edge_io::{NoMemory, Text, WriteStop};
@@ -15,7 +15,7 @@ use std::alloc::AllocFailed;
 
 /// Why a run ends before a capture is read to its end. Each has a status and a message.
 #[derive(Debug, Drop)]
-pub(crate) enum Stop {
+pub(crate) enum RunStop {
     /// The words ask how the command is used.
     Usage,
     /// The words ask which program this is.
@@ -39,29 +39,30 @@ pub(crate) enum Stop {
 }
 
 /// Whether the work on a capture came to its end: it was read to its end, or to where it is refused.
-pub(crate) fn is_whole(outcome: &Result<(), Stop>) -> bool
+pub(crate) fn is_whole(outcome: &Result<(), RunStop>) -> bool
     ensures { result ≡ is_whole outcome.now }
 {
     match outcome {
         Ok(()) => true,
-        Err(Stop::Capture(ReadFault::Failed | ReadFault::NoMemory)) => false,
-        Err(Stop::CannotWrite | Stop::NoMemory) => false,
+        Err(RunStop::Capture(ReadFault::Failed | ReadFault::NoMemory)) => false,
+        Err(RunStop::CannotWrite | RunStop::NoMemory) => false,
         Err(_) => true,
     }
 }
 
-impl Stop {
+impl RunStop {
     /// The status with which it ends a run.
     pub fn status(&self) -> Status
         ensures { result ≡ stop_status self.now }
     {
         match self {
-            Stop::Usage | Stop::Version | Stop::Accepted { .. } => Status::Done,
-            Stop::CommandLine | Stop::Refused { .. } => Status::Refused,
-            Stop::CannotReadFile { .. } | Stop::Capture(ReadFault::Failed) => Status::HostFault,
-            Stop::CannotWrite => Status::WriteFault,
-            Stop::NoMemory | Stop::Capture(ReadFault::NoMemory) => Status::NoMemory,
-            Stop::BadUnified2 { .. } | Stop::Capture(ReadFault::Bad(_)) => Status::BadCapture,
+            RunStop::Usage | RunStop::Version | RunStop::Accepted { .. } => Status::Done,
+            RunStop::CommandLine | RunStop::Refused { .. } => Status::Refused,
+            RunStop::CannotReadFile { .. } | RunStop::Capture(ReadFault::Failed) =>
+                Status::HostFault,
+            RunStop::CannotWrite => Status::WriteFault,
+            RunStop::NoMemory | RunStop::Capture(ReadFault::NoMemory) => Status::NoMemory,
+            RunStop::BadUnified2 { .. } | RunStop::Capture(ReadFault::Bad(_)) => Status::BadCapture,
         }
     }
 
@@ -71,9 +72,12 @@ impl Stop {
         ensures { OnOk result (out.new.items ≡ out.old.items ++ stop_text source.now self.now) }
     {
         match self {
-            Stop::Usage => push_pieces(out, &[Bytes(b"usage: snort -c CONF -r FILE [options]\n")]),
-            Stop::Version => push_pieces(out, &[Bytes(b"snort offline profile 2.9\n")]),
-            Stop::Accepted { rules } => push_pieces(
+            RunStop::Usage => push_pieces(
+                out,
+                &[Bytes(b"usage: snort -c CONF -r FILE [options]\n")],
+            ),
+            RunStop::Version => push_pieces(out, &[Bytes(b"snort offline profile 2.9\n")]),
+            RunStop::Accepted { rules } => push_pieces(
                 out,
                 &[
                     Bytes(b"configuration accepted: "),
@@ -81,13 +85,13 @@ impl Stop {
                     Bytes(b" rules\n"),
                 ],
             ),
-            Stop::CommandLine => push_pieces(out, &[Bytes(b"ERROR: command line\n")]),
-            Stop::Refused { message } => push_pieces(out, &[Bytes(message.bytes())]),
-            Stop::CannotReadFile { name } => push_cannot_read(name.bytes(), out),
-            Stop::Capture(why) => push_fault(*why, source, out),
-            Stop::CannotWrite => push_pieces(out, &[Bytes(b"ERROR: cannot write\n")]),
-            Stop::NoMemory => push_pieces(out, &[Bytes(b"ERROR: no memory\n")]),
-            Stop::BadUnified2 { at } => push_pieces(
+            RunStop::CommandLine => push_pieces(out, &[Bytes(b"ERROR: command line\n")]),
+            RunStop::Refused { message } => push_pieces(out, &[Bytes(message.bytes())]),
+            RunStop::CannotReadFile { name } => push_cannot_read(name.bytes(), out),
+            RunStop::Capture(why) => push_fault(*why, source, out),
+            RunStop::CannotWrite => push_pieces(out, &[Bytes(b"ERROR: cannot write\n")]),
+            RunStop::NoMemory => push_pieces(out, &[Bytes(b"ERROR: no memory\n")]),
+            RunStop::BadUnified2 { at } => push_pieces(
                 out,
                 &[
                     Bytes(b"ERROR: unified2 file is bad at byte "),
@@ -122,69 +126,69 @@ fn push_fault(why: ReadFault, source: &str, out: &mut Vec<u8>) -> Result<(), NoM
     }
 }
 
-impl From<NoMemory> for Stop {
-    ghost use Rattle.snort_engine.specs.declared.stop.Stop.TheVariants.{NoMemory as out_of_memory};
+impl From<NoMemory> for RunStop {
+    ghost use Rattle.snort_engine.specs.declared.stop.RunStop.TheVariants.{NoMemory as out_of_memory};
 
     ghost from_gives = { λ _ stop. stop ≡ out_of_memory };
 
-    fn from(_error: NoMemory) -> Stop {
-        Stop::NoMemory
+    fn from(_error: NoMemory) -> RunStop {
+        RunStop::NoMemory
     }
 }
 
-impl<T: Drop> From<AllocFailed<T>> for Stop {
-    ghost use Rattle.snort_engine.specs.declared.stop.Stop.TheVariants.{NoMemory as out_of_memory};
+impl<T: Drop> From<AllocFailed<T>> for RunStop {
+    ghost use Rattle.snort_engine.specs.declared.stop.RunStop.TheVariants.{NoMemory as out_of_memory};
 
     ghost from_gives = { λ _ stop. stop ≡ out_of_memory };
 
-    fn from(_error: AllocFailed<T>) -> Stop {
-        Stop::NoMemory
+    fn from(_error: AllocFailed<T>) -> RunStop {
+        RunStop::NoMemory
     }
 }
 
-impl From<WriteFault> for Stop {
+impl From<WriteFault> for RunStop {
     ghost use Rattle.snort_engine.specs.Steps.Stop.{write_stop};
 
     ghost from_gives = { λ why stop. stop ≡ write_stop why };
 
-    fn from(why: WriteFault) -> Stop {
+    fn from(why: WriteFault) -> RunStop {
         match why {
-            WriteFault::Unwritten => Stop::CannotWrite,
-            WriteFault::NoMemory => Stop::NoMemory,
+            WriteFault::Unwritten => RunStop::CannotWrite,
+            WriteFault::NoMemory => RunStop::NoMemory,
         }
     }
 }
 
-impl From<WriteStop> for Stop {
-    ghost use Rattle.snort_engine.specs.declared.stop.Stop.TheVariants.{CannotWrite};
+impl From<WriteStop> for RunStop {
+    ghost use Rattle.snort_engine.specs.declared.stop.RunStop.TheVariants.{CannotWrite};
 
     ghost from_gives = { λ _ stop. stop ≡ CannotWrite };
 
-    fn from(_stop: WriteStop) -> Stop {
-        Stop::CannotWrite
+    fn from(_stop: WriteStop) -> RunStop {
+        RunStop::CannotWrite
     }
 }
 
-impl From<ReadFault> for Stop {
-    ghost use Rattle.snort_engine.specs.declared.stop.Stop.TheVariants.{Capture};
+impl From<ReadFault> for RunStop {
+    ghost use Rattle.snort_engine.specs.declared.stop.RunStop.TheVariants.{Capture};
 
     ghost from_gives = { λ why stop. stop ≡ Capture why };
 
-    fn from(why: ReadFault) -> Stop {
-        Stop::Capture(why)
+    fn from(why: ReadFault) -> RunStop {
+        RunStop::Capture(why)
     }
 }
 
-impl From<SetupStop> for Stop {
+impl From<SetupStop> for RunStop {
     ghost use Rattle.snort_engine.specs.Steps.Stop.{setup_stop};
 
     ghost from_gives = { λ why stop. stop ≡ setup_stop why };
 
-    fn from(why: SetupStop) -> Stop {
+    fn from(why: SetupStop) -> RunStop {
         match why {
-            SetupStop::Refused { message } => Stop::Refused { message },
-            SetupStop::CannotRead { name } => Stop::CannotReadFile { name },
-            SetupStop::NoMemory => Stop::NoMemory,
+            SetupStop::Refused { message } => RunStop::Refused { message },
+            SetupStop::CannotRead { name } => RunStop::CannotReadFile { name },
+            SetupStop::NoMemory => RunStop::NoMemory,
         }
     }
 }

@@ -5,7 +5,7 @@ use Rattle.std.proofs.lemmas.List.{take-append-drop, length-take}
 use Rattle.edge_io.specs.Files.{Files}
 use Rattle.edge_io.specs.Told.{before, grown, NothingLeft}
 use Rattle.edge_io.proofs.Told.{before-nil, grown-nil, before-before, grown-grown}
-use Rattle.snort_eve.specs.declared.copy.Stop.{Stop}
+use Rattle.snort_eve.specs.declared.copy.CopyStop.{CopyStop}
 use Rattle.snort_eve.specs.declared.form.Ending.{Ending}
 use Rattle.snort_eve.specs.Forms.{Adds, BeginsWith, Closes, Gives, IsLast, Meaning}
 use Rattle.snort_eve.specs.Copies.{BreaksIn, BreaksLast, Comes, Copies, IsLong, IsOver, Point, Stops, Tells, Took, point}
@@ -196,19 +196,19 @@ pub length-taken : (bytes : List ℕ) (count read now : ℕ) → count ≤ lengt
 length-taken bytes count read now within counted = omega (arith, within, counted, length-take count bytes)
 
 -- by how the last lines were written
-pub copied-last : (means : Meaning) (here : Point) (foreign : Type 0) (from : Files → Option (List ℕ)) (begun new : Option (List ℕ)) (result : Result Ending Stop) → Comes means from begun here
+pub copied-last : (means : Meaning) (here : Point) (foreign : Type 0) (from : Files → Option (List ℕ)) (begun new : Option (List ℕ)) (result : Result Ending CopyStop) → Comes means from begun here
     → IsOver foreign here.agrees here.left → IfOk result (λ (e : Ending). Tells here.written new (Closes here.came foreign means here.read e))
     → IfOk result (λ (e : Ending). Copies means here.agrees from begun new e)
 copied-last means here foreign from begun new (Ok ending) comes over last = copy-end means here foreign from begun new ending comes over last
 copied-last means here foreign from begun new (Err stop) comes over last = tt
 
 -- the same error, whatever a call gives else
-abbrev or_stop : {A : Type 0} → Result A Stop → Stop → Stop
+abbrev or_stop : {A : Type 0} → Result A CopyStop → CopyStop → CopyStop
 or_stop (Ok x) other = other
 or_stop (Err stop) other = stop
 
-pub other-stop : {A B : Type 0} (r : Result A Stop) (q : Result B Stop) (stop named : Stop) → r ≡ Err stop → q ≡ Err stop → r ≡ Err named → q ≡ Err named
-other-stop {A} {B} r q stop named is also same = also ∙ ap (λ (s : Stop). Err s) (ap (λ (x : Result A Stop). or_stop x stop) (sym is ∙ same))
+pub other-stop : {A B : Type 0} (r : Result A CopyStop) (q : Result B CopyStop) (stop named : CopyStop) → r ≡ Err stop → q ≡ Err stop → r ≡ Err named → q ≡ Err named
+other-stop {A} {B} r q stop named is also same = also ∙ ap (λ (s : CopyStop). Err s) (ap (λ (x : Result A CopyStop). or_stop x stop) (sym is ∙ same))
 
 -- a file that begins with so many bytes has as many
 pub long-taken : (means : Meaning) (here : Point) (now_agrees : Files → Type 0) (from to : Files → Option (List ℕ)) (begun : Option (List ℕ)) (bytes : List ℕ) (count : ℕ)

@@ -7,8 +7,8 @@ use Rattle.edge_io.specs.Told.{grown}
 use Rattle.edge_io.proofs.Told.{grown-nil, grown-grown}
 use Rattle.snort_eve.specs.declared.form.Ending.{Ending}
 use Rattle.snort_eve.specs.declared.form.Ending.TheVariants.{Done, Bad, NoLine}
-use Rattle.snort_eve.specs.declared.copy.Stop.{Stop}
-use Rattle.snort_eve.specs.declared.copy.Stop.TheVariants.{Unread, Unwritten, TooLong, NoMemory}
+use Rattle.snort_eve.specs.declared.copy.CopyStop.{CopyStop}
+use Rattle.snort_eve.specs.declared.copy.CopyStop.TheVariants.{Unread, Unwritten, TooLong, NoMemory}
 use Rattle.snort_eve.specs.declared.outcome.Outcome.{Outcome}
 use Rattle.snort_eve.specs.declared.outcome.Outcome.TheVariants as outcome
 use Rattle.snort_eve.specs.Copies.{Copies, Stops, IsLong}
@@ -63,7 +63,7 @@ file-ending means name agrees from old new ending opened copies =
         let here = present (from files) was.1 in
         (refl, record { bytes = here.bytes; has = sym was.0 ∙ here.is; holds = are here.bytes here.is })
 
-file-stop : (means : Meaning) (name : Bor (List ℕ)) (agrees : Files → Type 0) (from : Files → Option (List ℕ)) (old new : Option (List ℕ)) (stop : Stop)
+file-stop : (means : Meaning) (name : Bor (List ℕ)) (agrees : Files → Type 0) (from : Files → Option (List ℕ)) (old new : Option (List ℕ)) (stop : CopyStop)
     → OpenedBy name.now agrees from → Stops means agrees from old new → (stop ≡ TooLong → IsLong agrees from)
     → FileRuns means agrees name old new (outcome_of name (Err stop))
 file-stop means name agrees from old new stop opened stops long =
@@ -72,22 +72,22 @@ file-stop means name agrees from old new stop opened stops long =
     cut : (files : Files) → agrees files → IsCut means files name.now stops.wrote
     cut files a bytes has = stops.are files a bytes ((opened files a).0 ∙ has)
 
-    by : (files : Files) → agrees files → (s : Stop) → (s ≡ TooLong → IsLong agrees from) → IsFileRun means files name.now stops.wrote (outcome_of name (Err s))
+    by : (files : Files) → agrees files → (s : CopyStop) → (s ≡ TooLong → IsLong agrees from) → IsFileRun means files name.now stops.wrote (outcome_of name (Err s))
     by files a Unread large = (refl, cut files a)
     by files a Unwritten large = cut files a
     by files a TooLong large = (refl, (cut files a, λ bytes has. large refl files a bytes ((opened files a).0 ∙ has)))
     by files a NoMemory large = cut files a
 
 -- by what copying answered
-pub file-copied : (means : Meaning) (name : Bor (List ℕ)) (agrees : Files → Type 0) (from : Files → Option (List ℕ)) (old new : Option (List ℕ)) (copied : Result Ending Stop)
+pub file-copied : (means : Meaning) (name : Bor (List ℕ)) (agrees : Files → Type 0) (from : Files → Option (List ℕ)) (old new : Option (List ℕ)) (copied : Result Ending CopyStop)
     → OpenedBy name.now agrees from → IfOk copied (λ (e : Ending). Copies means agrees from old new e) → OnErr copied (Stops means agrees from old new)
     → (IsErrOf copied TooLong → IsLong agrees from) → FileRuns means agrees name old new (outcome_of name copied)
 file-copied means name agrees from old new (Ok ending) opened copies stops long = file-ending means name agrees from old new ending opened copies
 file-copied means name agrees from old new (Err stop) opened copies stops long =
-    file-stop means name agrees from old new stop opened stops (λ is. long (ap (λ (s : Stop). Err s) is))
+    file-stop means name agrees from old new stop opened stops (λ is. long (ap (λ (s : CopyStop). Err s) is))
 
 -- a cause of a file that wasn't read, and what holds of all others
-pub on-unread : (P : List ℕ → Type 0) (name : Bor (List ℕ)) (copied : Result Ending Stop) → (IsErrOf copied Unread → P name.now) → OnUnread (outcome_of name copied) P
+pub on-unread : (P : List ℕ → Type 0) (name : Bor (List ℕ)) (copied : Result Ending CopyStop) → (IsErrOf copied Unread → P name.now) → OnUnread (outcome_of name copied) P
 on-unread P name (Ok Done) cause = tt
 on-unread P name (Ok (Bad at)) cause = tt
 on-unread P name (Ok (NoLine at)) cause = tt
@@ -96,7 +96,7 @@ on-unread P name (Err Unwritten) cause = tt
 on-unread P name (Err TooLong) cause = tt
 on-unread P name (Err NoMemory) cause = tt
 
-pub unless-unread : (P : Type 0) (name : Bor (List ℕ)) (copied : Result Ending Stop) → ((IsErrOf copied Unread → ⊥) → P) → UnlessUnread (outcome_of name copied) P
+pub unless-unread : (P : Type 0) (name : Bor (List ℕ)) (copied : Result Ending CopyStop) → ((IsErrOf copied Unread → ⊥) → P) → UnlessUnread (outcome_of name copied) P
 unless-unread P name (Ok Done) holds = holds (λ same. absurd cc)
 unless-unread P name (Ok (Bad at)) holds = holds (λ same. absurd cc)
 unless-unread P name (Ok (NoLine at)) holds = holds (λ same. absurd cc)

@@ -18,11 +18,11 @@ use Rattle.snort_setup.specs.Words.{Definition, HasName, Words}
 use Rattle.snort_eve.specs.Command.{clap_rows}
 use Rattle.snort_eve.specs.declared.words.Conf.{Conf as KeptConf}
 use Rattle.snort_eve.specs.declared.words.Variable.{Variable as KeptVariable}
-use Rattle.snort_eve.specs.declared.words.Asked.{Asked as Kept}
-use Rattle.snort_eve.specs.declared.words.Asked.TheVariants as kept
+use Rattle.snort_eve.specs.declared.words.Request.{Request}
+use Rattle.snort_eve.specs.declared.words.Request.TheVariants as kept
 use Rattle.snort_eve.specs.declared.words.Since.{Since as KeptSince}
 use Rattle.snort_eve.specs.declared.words.Since.TheVariants as kept_since
-use Rattle.snort_eve.specs.declared.words.Wanted.{Wanted as KeptWanted}
+use Rattle.snort_eve.specs.declared.words.Conversion.{Conversion}
 
 -- what the year of a file's first line follows from: it is given, or a capture of this name has it
 pub data Since : Type 0 where
@@ -142,7 +142,7 @@ abbrev pub since_facts : KeptSince → Since
 since_facts (kept_since.Year year) = in_year year
 since_facts (kept_since.Capture name) = of_capture name.now
 
-abbrev pub wanted_facts : KeptWanted → Wanted
+abbrev pub wanted_facts : Conversion → Wanted
 wanted_facts wanted = record {
   run = run_facts wanted.run;
   conf = option_map conf_facts wanted.conf;
@@ -150,7 +150,7 @@ wanted_facts wanted = record {
   files = map (λ (name : Bor (List ℕ)). name.now) wanted.files.items;
 }
 
-abbrev pub asked_facts : Kept → Asked
+abbrev pub asked_facts : Request → Asked
 asked_facts kept.Help = help
 asked_facts (kept.Lines wanted) = lines (wanted_facts wanted)
 

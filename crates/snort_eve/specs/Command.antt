@@ -9,8 +9,8 @@ use Rattle.clap.specs.Simple.{App, Shape, matches_of, new_app, new_rule, on_top,
 use Rattle.clap.specs.Faults.{fault_of}
 use Rattle.clap.specs.Kinds.{Kinds}
 use Rattle.clap.specs.declared.builder.action.ArgAction.TheVariants.{Append, Set, SetTrue}
-use Rattle.snort_eve.specs.declared.syntax.Choice.{Choice}
-use Rattle.snort_eve.specs.declared.syntax.Choice.TheVariants as choice
+use Rattle.snort_eve.specs.declared.syntax.EveArg.{EveArg}
+use Rattle.snort_eve.specs.declared.syntax.EveArg.TheVariants as choice
 
 -- an option with a letter, one with a name, a flag with a name, and the names of files
 abbrev pub letter_rule : Text → ℕ → Rule
@@ -26,14 +26,14 @@ abbrev pub names_rule : Text → Rule
 names_rule id = record (new_rule id) { action = Some Append }
 
 -- one of these as the code has it
-abbrev pub rule_as : Choice → Rule
+abbrev pub rule_as : EveArg → Rule
 rule_as (choice.LetterOption id letter) = letter_rule id.now letter
 rule_as (choice.NameOption name) = option_rule name.now
 rule_as (choice.NameFlag name) = flag_rule name.now
 rule_as (choice.Names id) = names_rule id.now
 
 -- the command with more of them
-abbrev pub app_with : App → List Choice → App
+abbrev pub app_with : App → List EveArg → App
 app_with app choices = fold (λ so_far choice. with_rule so_far (rule_as choice)) app choices
 
 abbrev pub plain_shape : Shape → Shape

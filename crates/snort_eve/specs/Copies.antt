@@ -9,8 +9,8 @@ use Rattle.edge_io.specs.declared.host.Host.{Ghosts as HostOf}
 use Rattle.edge_io.specs.Files.{Files}
 use Rattle.snort_eve.specs.Forms.{HasBegun, IsLast, Meaning}
 use Rattle.snort_eve.specs.declared.form.Ending.{Ending}
-use Rattle.snort_eve.specs.declared.copy.Stop.{Stop}
-use Rattle.snort_eve.specs.declared.copy.Stop.TheVariants.{Unread, Unwritten}
+use Rattle.snort_eve.specs.declared.copy.CopyStop.{CopyStop}
+use Rattle.snort_eve.specs.declared.copy.CopyStop.TheVariants.{Unread, Unwritten}
 
 -- ---- what is written
 
@@ -111,7 +111,7 @@ IsLongAfter means here agrees =
 -- ---- faults
 
 -- a read that failed raised its count, a write that failed its own, and nothing else did
-pub record Counts {A : Type 0} (answer : Result A Stop) (reads reads_now writes writes_now : ℕ) : Type 0 where
+pub record Counts {A : Type 0} (answer : Result A CopyStop) (reads reads_now writes writes_now : ℕ) : Type 0 where
   pub unread : IsErrOf answer Unread → Rose reads reads_now
   pub unwritten : IsErrOf answer Unwritten → Rose writes writes_now
   pub quiet : (IsErrOf answer Unread → ⊥) → reads_now ≡ reads

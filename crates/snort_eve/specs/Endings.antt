@@ -8,7 +8,7 @@ use Rattle.unified2_out.specs.Reading.{joined_text}
 use Rattle.snort_eve.specs.Joins.{Joined, joined, lines_of}
 use Rattle.snort_eve.specs.Streams.{HasCome, IsSplit}
 use Rattle.snort_eve.specs.Events.{line_by}
-use Rattle.snort_eve.specs.declared.events.Lines.{Lines}
+use Rattle.snort_eve.specs.declared.events.JsonLines.{JsonLines}
 use Rattle.snort_eve.specs.declared.stream.Stream.{Stream}
 use Rattle.snort_eve.specs.Forms.{BeginsWith, Meaning}
 use Rattle.snort_eve.specs.declared.form.Ending.{Ending}
@@ -52,5 +52,5 @@ abbrev pub of_records : (Joined → List ℕ) → Meaning
 of_records line = record { ends = IsEnding line; begins = IsBeginning line }
 
 -- what has come, by what is kept between two pieces
-abbrev pub RecordsCame : Lines → Stream → List ℕ → List ℕ → Type 0
+abbrev pub RecordsCame : JsonLines → Stream → List ℕ → List ℕ → Type 0
 RecordsCame lines stream bytes wrote = HasCome (line_by lines) bytes stream.rest.items stream.held wrote

@@ -17,12 +17,12 @@ use Rattle.packet_decode.specs.Decoding.{Fields}
 use Rattle.ipv6_decode.specs.Versions.{record_decoded}
 use Rattle.unified2_out.specs.declared.record.U2Event.{U2Event}
 use Rattle.unified2_out.specs.declared.record.U2Packet.{U2Packet}
-use Rattle.alert_json.specs.declared.event.Flow.{Flow}
+use Rattle.alert_json.specs.declared.event.FiveTuple.{FiveTuple}
 use Rattle.alert_json.specs.declared.event.Pair.{Pair}
 use Rattle.alert_json.specs.declared.event.Pair.TheVariants.{Unknown, Ports, Message}
 use Rattle.alert_json.specs.Facts.{AlertFacts, PacketFacts, EventFacts, run_facts}
 use Rattle.alert_json.specs.Value.{event_line}
-use Rattle.snort_eve.specs.declared.events.Lines.{Lines}
+use Rattle.snort_eve.specs.declared.events.JsonLines.{JsonLines}
 use Rattle.snort_eve.specs.Joins.{Joined}
 use Rattle.snort_eve.specs.Texts.{Texts, class_text, message_of, texts_of}
 
@@ -81,7 +81,7 @@ abbrev pub nanos_of : U2Event → ℕ
 nanos_of event = (event.second * 1_000_000 + event.micro) * 1_000
 
 -- its flow
-abbrev pub flow_of : U2Event → Bool → Flow
+abbrev pub flow_of : U2Event → Bool → FiveTuple
 flow_of event whole = record {
   protocol = event.protocol;
   src = event.src;
@@ -124,5 +124,5 @@ event_of texts it = record {
 }
 
 -- the line of an event, by texts and names that are lent
-abbrev pub line_by : Lines → Joined → List ℕ
+abbrev pub line_by : JsonLines → Joined → List ℕ
 line_by lines it = event_line (event_of (texts_of lines.texts.now) it) (run_facts lines.run)

@@ -39,8 +39,8 @@ use Rattle.snort_eve.specs.declared.outcome.Outcome.{Outcome}
 use Rattle.snort_eve.specs.declared.outcome.Outcome.TheVariants as outcome
 use Rattle.snort_eve.specs.declared.form.Ending.{Ending}
 use Rattle.snort_eve.specs.declared.form.Ending.TheVariants.{Done, Bad, NoLine}
-use Rattle.snort_eve.specs.declared.copy.Stop.{Stop}
-use Rattle.snort_eve.specs.declared.copy.Stop.TheVariants.{Unread, Unwritten, TooLong, NoMemory}
+use Rattle.snort_eve.specs.declared.copy.CopyStop.{CopyStop}
+use Rattle.snort_eve.specs.declared.copy.CopyStop.TheVariants.{Unread, Unwritten, TooLong, NoMemory}
 
 -- the line of an event with its packet, by these texts and in a run that asks for this
 abbrev pub line_of : Texts → RunFacts → Joined → List ℕ
@@ -194,7 +194,7 @@ abbrev pub Runs : Option Asked → (Files → Type 0) → Option (List ℕ) → 
 Runs asked agrees old new ended = Writes agrees old new (λ files wrote. IsRun asked files wrote ended)
 
 -- how a file ends whose copying ended so
-abbrev pub outcome_of : Bor (List ℕ) → Result Ending Stop → Outcome
+abbrev pub outcome_of : Bor (List ℕ) → Result Ending CopyStop → Outcome
 outcome_of name (Ok Done) = outcome.Done
 outcome_of name (Ok (Bad at)) = outcome.Bad name at
 outcome_of name (Ok (NoLine number)) = outcome.NoLine name number

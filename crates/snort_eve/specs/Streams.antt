@@ -11,10 +11,10 @@ use Rattle.unified2_out.specs.declared.record.U2.{U2}
 use Rattle.unified2_out.specs.Records.{most_body_bytes}
 use Rattle.unified2_out.specs.Reading.{IsRecord, joined_text, RecordsEndAt}
 use Rattle.unified2_out.specs.Fronts.{HasNoRecord, AddsFront}
-use Rattle.snort_eve.specs.declared.records.Frame.{Frame}
-use Rattle.snort_eve.specs.declared.records.Frame.TheVariants as frame
-use Rattle.snort_eve.specs.declared.records.Front.{Front}
-use Rattle.snort_eve.specs.declared.records.Front.TheVariants as front
+use Rattle.snort_eve.specs.declared.records.FrontHeader.{FrontHeader}
+use Rattle.snort_eve.specs.declared.records.FrontHeader.TheVariants as frame
+use Rattle.snort_eve.specs.declared.records.FrontRecord.{FrontRecord}
+use Rattle.snort_eve.specs.declared.records.FrontRecord.TheVariants as front
 use Rattle.snort_eve.specs.Joins.{Joined, held_after, completed_by, lines_of}
 
 -- the length of a body, which stands behind the kind
@@ -22,7 +22,7 @@ abbrev pub body_length : List ℕ → ℕ
 body_length bytes = big_number 4 (drop 4 bytes)
 
 -- what the header at the front of bytes tells
-abbrev pub IsFrameAt : List ℕ → Frame → Type 0
+abbrev pub IsFrameAt : List ℕ → FrontHeader → Type 0
 IsFrameAt bytes (frame.Whole size) = (8 ≤ length bytes) × (size ≡ 8 + body_length bytes) × (size ≤ length bytes)
 IsFrameAt bytes frame.Waits = (8 ≤ length bytes → length bytes < 8 + body_length bytes)
 IsFrameAt bytes frame.Foreign = (8 ≤ length bytes) × (most_body_bytes < body_length bytes)
@@ -33,7 +33,7 @@ pub record IsForeign (bytes : List ℕ) : Type 0 where
   pub none : (more : List ℕ) → HasNoRecord (bytes ++ more)
 
 -- the record at the front of bytes was added to a list, or there is none yet, or none ever
-abbrev pub IsFront : List ℕ → List U2 → List U2 → Front → Type 0
+abbrev pub IsFront : List ℕ → List U2 → List U2 → FrontRecord → Type 0
 IsFront bytes old new (front.Record size) = AddsFront bytes old new size
 IsFront bytes old new front.Waits = HasNoRecord bytes × (new ≡ old)
 IsFront bytes old new front.Foreign = IsForeign bytes × (new ≡ old)

@@ -9,7 +9,7 @@ ghost use Rattle.snort_eve.specs.Events.{link_of, unchecked, packet_of, packet_i
 
 use crate::joins::Teller;
 use crate::texts::Texts;
-use alert_json::{Alert, Captured, Event, Flow, Pair, Run, push_event};
+use alert_json::{Alert, Captured, Event, FiveTuple, Pair, RunFields, push_event};
 use edge_io::{Link, Moment, NoMemory};
 use ipv6_decode::decode6;
 use packet_decode::{Body, Checks, Packet, Skip, decode};
@@ -18,12 +18,12 @@ use unified2_out::{U2Event, U2Packet};
 
 /// Tells events as JSON lines.
 #[derive(Clone, Copy)]
-pub(crate) struct Lines<'a> {
-    pub(crate) run: Run<'a>,
+pub(crate) struct JsonLines<'a> {
+    pub(crate) run: RunFields<'a>,
     pub(crate) texts: &'a Texts,
 }
 
-impl<'a> Teller for Lines<'a> {
+impl<'a> Teller for JsonLines<'a> {
     ghost line = { line_by };
 
     fn push_line(
@@ -148,10 +148,10 @@ fn moment_of(event: &U2Event) -> Moment
     }
 }
 
-fn flow_of(event: &U2Event, whole: bool) -> Flow
+fn flow_of(event: &U2Event, whole: bool) -> FiveTuple
     ensures { result ≡ flow_of event.now whole }
 {
-    Flow {
+    FiveTuple {
         protocol: event.protocol,
         src: event.src,
         dst: event.dst,

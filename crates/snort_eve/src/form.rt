@@ -20,7 +20,7 @@ pub(crate) enum Ending {
 ///
 /// The meanings: `came`, such bytes came and gave such lines; `foreign`, whatever follows makes no difference; `means`, which
 /// lines bytes have, and how they end.
-pub(crate) trait Form {
+pub(crate) trait InputForm {
     /// What is kept between two pieces.
     type State: Drop;
 

@@ -5,15 +5,15 @@ ghost use Rattle.alert_json.specs.Facts.{run_facts};
 ghost use Rattle.alert_json.specs.LineWalks.{NeverTold};
 ghost use Rattle.snort_eve.specs.LineForms.{AlertLinesCame, LinesEndBy, of_lines};
 
-use crate::form::{Ending, Form};
-use alert_json::{Run, YearFrom, push_lines};
+use crate::form::{Ending, InputForm};
+use alert_json::{RunFields, YearFrom, push_lines};
 use edge_io::NoMemory;
 use std::alloc::Global;
 
 /// Tells alert lines as JSON lines: what all records have alike, and what a file's first year follows from.
 #[derive(Clone, Copy)]
 pub(crate) struct AlertLines<'a> {
-    pub(crate) run: Run<'a>,
+    pub(crate) run: RunFields<'a>,
     pub(crate) from: YearFrom,
 }
 
@@ -77,7 +77,7 @@ fn finish_lines(form: &AlertLines<'_>, state: &LineState, _read: u64, out: &Vec<
     ending_of(&state.rest, state.count)
 }
 
-impl<'a> Form for AlertLines<'a> {
+impl<'a> InputForm for AlertLines<'a> {
     type State = LineState;
 
     ghost came = { AlertLinesCame };

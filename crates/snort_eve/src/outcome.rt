@@ -4,9 +4,9 @@ ghost use Rattle.edge_io.specs.Told.{grown};
 ghost use Rattle.snort_eve.specs.Runs.{bad_front, bad_text, message_text, no_line_text, outcome_of, place_text, undated};
 
 use crate::capture::CaptureStop;
-use crate::copy::Stop;
+use crate::copy::CopyStop;
 use crate::form::Ending;
-use alert_fast::Piece::{Bytes, Number};
+use alert_fast::TextPiece::{Bytes, Number};
 use alert_fast::push_pieces;
 use edge_io::{NoMemory, Sink, Text, write_all};
 use pcapng_input::{BadCapture, ReadFault};
@@ -83,17 +83,17 @@ pub(crate) fn is_done(outcome: &Outcome<'_>) -> bool
 }
 
 /// How the file of this name ends whose copying ended so.
-pub(crate) fn outcome_of<'a>(name: &'a str, copied: Result<Ending, Stop>) -> Outcome<'a>
+pub(crate) fn outcome_of<'a>(name: &'a str, copied: Result<Ending, CopyStop>) -> Outcome<'a>
     ensures { result ≡ outcome_of name.entry copied }
 {
     match copied {
         Ok(Ending::Done) => Outcome::Done,
         Ok(Ending::Bad { at }) => Outcome::Bad { name, at },
         Ok(Ending::NoLine { number }) => Outcome::NoLine { name, number },
-        Err(Stop::Unread) => Outcome::Unread { name },
-        Err(Stop::Unwritten) => Outcome::Unwritten,
-        Err(Stop::TooLong) => Outcome::TooLong { name },
-        Err(Stop::NoMemory) => Outcome::NoMemory,
+        Err(CopyStop::Unread) => Outcome::Unread { name },
+        Err(CopyStop::Unwritten) => Outcome::Unwritten,
+        Err(CopyStop::TooLong) => Outcome::TooLong { name },
+        Err(CopyStop::NoMemory) => Outcome::NoMemory,
     }
 }
 

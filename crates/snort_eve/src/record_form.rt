@@ -6,8 +6,8 @@ ghost use Rattle.snort_eve.specs.Endings.{EndsBy, RecordsCame, of_records};
 ghost use Rattle.snort_eve.specs.Forms.{Adds, Closes, Gives};
 ghost use Rattle.snort_eve.specs.Events.{line_by};
 
-use crate::events::Lines;
-use crate::form::{Ending, Form};
+use crate::events::JsonLines;
+use crate::form::{Ending, InputForm};
 use crate::stream::{Fed, Stream};
 use edge_io::NoMemory;
 use std::alloc::Global;
@@ -36,7 +36,7 @@ fn ending_of(rest: &[u8], read: u64) -> Ending
 }
 
 // Nothing has come.
-fn start_records(alloc: Global, lines: &Lines<'_>) -> Stream
+fn start_records(alloc: Global, lines: &JsonLines<'_>) -> Stream
     ensures { RecordsCame lines.now result [] [] }
 {
     Stream::new(alloc)
@@ -45,7 +45,7 @@ fn start_records(alloc: Global, lines: &Lines<'_>) -> Stream
 // Appends the lines of the events that a piece completes.
 fn feed_records(
     alloc: Global,
-    lines: &Lines<'_>,
+    lines: &JsonLines<'_>,
     state: &mut Stream,
     piece: &[u8],
     out: &mut Vec<u8>,
@@ -61,7 +61,7 @@ fn feed_records(
 // Appends the line of the event that waits at the end.
 fn finish_records(
     alloc: Global,
-    lines: &Lines<'_>,
+    lines: &JsonLines<'_>,
     state: &Stream,
     read: u64,
     out: &mut Vec<u8>,
@@ -73,7 +73,7 @@ fn finish_records(
     Ok(ending_of(&state.rest, read))
 }
 
-impl<'a> Form for Lines<'a> {
+impl<'a> InputForm for JsonLines<'a> {
     type State = Stream;
 
     ghost came = { RecordsCame };

@@ -13,7 +13,7 @@ const MAX_BODY: usize = 1_048_576;
 
 /// What the header at the front of bytes tells: how long a record is there, that bytes lack, or that no record is there.
 #[derive(Clone, Copy)]
-pub(crate) enum Frame {
+pub(crate) enum FrontHeader {
     Whole { size: usize },
     Waits,
     Foreign,
@@ -21,27 +21,27 @@ pub(crate) enum Frame {
 
 /// What stands at the front of bytes: a record of so many bytes, none yet, or none ever.
 #[derive(Clone, Copy)]
-pub(crate) enum Front {
+pub(crate) enum FrontRecord {
     Record { size: usize },
     Waits,
     Foreign,
 }
 
-fn frame_of(bytes: &[u8]) -> Frame
+fn frame_of(bytes: &[u8]) -> FrontHeader
     ensures { IsFrameAt bytes.now result }
 {
     if bytes.len() < HEADER {
-        return Frame::Waits;
+        return FrontHeader::Waits;
     }
     let len = BigEndian::read_u32(&bytes[4..]) as usize;
     if len > MAX_BODY {
-        return Frame::Foreign;
+        return FrontHeader::Foreign;
     }
     let after = &bytes[HEADER..];
     if after.len() < len {
-        return Frame::Waits;
+        return FrontHeader::Waits;
     }
-    Frame::Whole { size: HEADER + len }
+    FrontHeader::Whole { size: HEADER + len }
 }
 
 // The record that is all of these bytes.
@@ -50,30 +50,30 @@ fn push_whole(
     bytes: &[u8],
     size: usize,
     entries: &mut Vec<U2>,
-) -> Result<Front, NoMemory>
-    requires { IsFrameAt bytes.now (Frame.Whole size) }
+) -> Result<FrontRecord, NoMemory>
+    requires { IsFrameAt bytes.now (FrontHeader.Whole size) }
     ensures { IfOk result (λ front. IsFront bytes.now entries.old.items entries.new.items front) }
 {
     match read_records(alloc, &bytes[..size], entries) {
-        Ok(()) => Ok(Front::Record { size }),
-        Err(U2Fault::Bad { .. }) => Ok(Front::Foreign),
+        Ok(()) => Ok(FrontRecord::Record { size }),
+        Err(U2Fault::Bad { .. }) => Ok(FrontRecord::Foreign),
         Err(U2Fault::NoMemory) => Err(NoMemory),
     }
 }
 
-fn push_front(alloc: Global, bytes: &[u8], entries: &mut Vec<U2>) -> Result<Front, NoMemory>
+fn push_front(alloc: Global, bytes: &[u8], entries: &mut Vec<U2>) -> Result<FrontRecord, NoMemory>
     ensures { IfOk result (λ front. IsFront bytes.now entries.old.items entries.new.items front) }
 {
     match frame_of(bytes) {
-        Frame::Whole { size } => push_whole(alloc, bytes, size, entries),
-        Frame::Waits => Ok(Front::Waits),
-        Frame::Foreign => Ok(Front::Foreign),
+        FrontHeader::Whole { size } => push_whole(alloc, bytes, size, entries),
+        FrontHeader::Waits => Ok(FrontRecord::Waits),
+        FrontHeader::Foreign => Ok(FrontRecord::Foreign),
     }
 }
 
 /// How far bytes are records, and whether no record can begin there.
 #[derive(Clone, Copy)]
-pub(crate) struct Taken {
+pub(crate) struct RecordsTaken {
     pub(crate) size: usize,
     pub(crate) is_foreign: bool,
 }
@@ -83,7 +83,7 @@ pub(crate) fn take_records(
     alloc: Global,
     bytes: &[u8],
     entries: &mut Vec<U2>,
-) -> Result<Taken, NoMemory>
+) -> Result<RecordsTaken, NoMemory>
     ensures taken { IfOk result (λ taken. Takes bytes.now entries.old.items entries.new.items taken.size) }
     ensures foreign { IfOk result (λ taken. IsTrue taken.is_foreign → IsForeign (drop taken.size bytes.now)) }
     ensures within { IfOk result (λ taken. taken.size ≤ length bytes.now) }
@@ -91,15 +91,15 @@ pub(crate) fn take_records(
     let mut place = 0;
     'places: loop {
         match push_front(alloc, &bytes[place..], entries)? {
-            Front::Record { size } => place += size,
-            Front::Waits => {
-                return Ok(Taken {
+            FrontRecord::Record { size } => place += size,
+            FrontRecord::Waits => {
+                return Ok(RecordsTaken {
                     size: place,
                     is_foreign: false,
                 });
             }
-            Front::Foreign => {
-                return Ok(Taken {
+            FrontRecord::Foreign => {
+                return Ok(RecordsTaken {
                     size: place,
                     is_foreign: true,
                 });

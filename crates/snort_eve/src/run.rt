@@ -11,18 +11,18 @@ ghost use Rattle.snort_eve.specs.Endings.{of_records};
 use crate::capture::{after_moment, first_moment};
 use crate::conf::{halted, read_texts};
 use crate::copy::copy_records;
-use crate::events::Lines;
-use crate::form::Form;
+use crate::events::JsonLines;
+use crate::form::InputForm;
 use crate::line_form::AlertLines;
 use crate::outcome::{Outcome, is_done, outcome_of, undated};
 use crate::texts::Texts;
-use crate::words::{Asked, Conf, Since, Wanted, asked_of};
+use crate::words::{Conf, Conversion, Request, Since, asked_of};
 use alert_json::YearFrom;
 use edge_io::{Failed, Host, NoMemory, Sink};
 use std::alloc::Global;
 
 /// Writes the lines of the events of the file that is open, of this name.
-fn copy_open<'a, H: Host, F: Form, A: Sink>(
+fn copy_open<'a, H: Host, F: InputForm, A: Sink>(
     alloc: Global,
     host: &mut H,
     form: &F,
@@ -43,7 +43,7 @@ fn copy_open<'a, H: Host, F: Form, A: Sink>(
 }
 
 /// Writes the lines of the events of the file of this name.
-fn copy_file<'a, H: Host, F: Form, A: Sink>(
+fn copy_file<'a, H: Host, F: InputForm, A: Sink>(
     alloc: Global,
     host: &mut H,
     form: &F,
@@ -66,7 +66,7 @@ fn copy_file<'a, H: Host, F: Form, A: Sink>(
 }
 
 /// Writes the lines of the events of files, one after another, up to the first that isn't done.
-fn copy_files<'a, H: Host, F: Form, A: Sink>(
+fn copy_files<'a, H: Host, F: InputForm, A: Sink>(
     alloc: Global,
     host: &mut H,
     form: &F,
@@ -93,7 +93,7 @@ fn copy_files<'a, H: Host, F: Form, A: Sink>(
 /// Writes the lines that are wanted, by these texts.
 fn copy_by<'a, H: Host, A: Sink>(
     alloc: Global,
-    wanted: &Wanted<'a>,
+    wanted: &Conversion<'a>,
     texts: &Texts,
     host: &mut H,
     alerts: &mut A,
@@ -107,7 +107,7 @@ fn copy_by<'a, H: Host, A: Sink>(
     ensures quiet { UnlessUnread result (H.faults host.new ≡ H.faults host.old) }
     ensures quiet_alerts { (result ≡ Outcome.Unwritten → ⊥) → A.faults alerts.new ≡ A.faults alerts.old }
 {
-    let form = Lines {
+    let form = JsonLines {
         run: wanted.run,
         texts,
     };
@@ -117,7 +117,7 @@ fn copy_by<'a, H: Host, A: Sink>(
 /// Writes the lines that are wanted, without texts.
 fn copy_bare<'a, H: Host, A: Sink>(
     alloc: Global,
-    wanted: &Wanted<'a>,
+    wanted: &Conversion<'a>,
     host: &mut H,
     alerts: &mut A,
 ) -> Outcome<'a>
@@ -134,7 +134,7 @@ fn copy_bare<'a, H: Host, A: Sink>(
 /// Writes the lines that are wanted, by the texts of a configuration.
 fn copy_with<'a, H: Host, A: Sink>(
     alloc: Global,
-    wanted: &Wanted<'a>,
+    wanted: &Conversion<'a>,
     conf: &Conf<'_>,
     host: &mut H,
     alerts: &mut A,
@@ -156,7 +156,7 @@ fn copy_with<'a, H: Host, A: Sink>(
 /// Writes the lines of the events of records.
 fn copy_events<'a, H: Host, A: Sink>(
     alloc: Global,
-    wanted: &Wanted<'a>,
+    wanted: &Conversion<'a>,
     host: &mut H,
     alerts: &mut A,
 ) -> Outcome<'a>
@@ -177,7 +177,7 @@ fn copy_events<'a, H: Host, A: Sink>(
 /// Writes the records of alert lines; the year of the first one of each file follows from this.
 fn copy_lines<'a, H: Host, A: Sink>(
     alloc: Global,
-    wanted: &Wanted<'a>,
+    wanted: &Conversion<'a>,
     from: YearFrom,
     host: &mut H,
     alerts: &mut A,
@@ -200,7 +200,7 @@ fn copy_lines<'a, H: Host, A: Sink>(
 /// Writes the records of alert lines, the first of each file after the date of the first record of this capture.
 fn copy_after<'a, H: Host, A: Sink>(
     alloc: Global,
-    wanted: &Wanted<'a>,
+    wanted: &Conversion<'a>,
     capture: &'a str,
     host: &mut H,
     alerts: &mut A,
@@ -221,7 +221,7 @@ fn copy_after<'a, H: Host, A: Sink>(
 /// Writes the lines that are wanted.
 fn copy_wanted<'a, H: Host, A: Sink>(
     alloc: Global,
-    wanted: &Wanted<'a>,
+    wanted: &Conversion<'a>,
     host: &mut H,
     alerts: &mut A,
 ) -> Outcome<'a>
@@ -245,7 +245,7 @@ fn copy_wanted<'a, H: Host, A: Sink>(
 /// Writes the lines that are asked for, if any are.
 fn copy_asked<'a, H: Host, A: Sink>(
     alloc: Global,
-    asked: Option<Asked<'a>>,
+    asked: Option<Request<'a>>,
     host: &mut H,
     alerts: &mut A,
 ) -> Outcome<'a>
@@ -259,8 +259,8 @@ fn copy_asked<'a, H: Host, A: Sink>(
 {
     match asked {
         None => Outcome::CommandLine,
-        Some(Asked::Help) => Outcome::Help,
-        Some(Asked::Lines(wanted)) => copy_wanted(alloc, &wanted, host, alerts),
+        Some(Request::Help) => Outcome::Help,
+        Some(Request::Lines(wanted)) => copy_wanted(alloc, &wanted, host, alerts),
     }
 }
 

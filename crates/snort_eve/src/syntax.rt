@@ -11,38 +11,38 @@ use std::alloc::{AllocError, Global};
 /// What words may use: an option with a letter or with a name, which takes a value, a flag with a name, or the names of
 /// files. Its matches are found by its id, or by its name.
 #[derive(Clone, Copy, Debug)]
-pub(crate) enum Choice {
+pub(crate) enum EveArg {
     LetterOption(&'static str, char),
     NameOption(&'static str),
     NameFlag(&'static str),
     Names(&'static str),
 }
 
-const CHOICES: [Choice; 11] = [
-    Choice::LetterOption("c", 'c'),
-    Choice::LetterOption("S", 'S'),
-    Choice::NameOption("year"),
-    Choice::NameOption("capture"),
-    Choice::NameFlag("lines"),
-    Choice::NameFlag("unified2"),
-    Choice::NameOption("host"),
-    Choice::NameOption("pcap-filename"),
-    Choice::NameOption("community-id-seed"),
-    Choice::NameFlag("help"),
-    Choice::Names("FILE"),
+const CHOICES: [EveArg; 11] = [
+    EveArg::LetterOption("c", 'c'),
+    EveArg::LetterOption("S", 'S'),
+    EveArg::NameOption("year"),
+    EveArg::NameOption("capture"),
+    EveArg::NameFlag("lines"),
+    EveArg::NameFlag("unified2"),
+    EveArg::NameOption("host"),
+    EveArg::NameOption("pcap-filename"),
+    EveArg::NameOption("community-id-seed"),
+    EveArg::NameFlag("help"),
+    EveArg::Names("FILE"),
 ];
 
-fn argument<'a>(alloc: Global, choice: Choice) -> Arg<'a>
+fn argument<'a>(alloc: Global, choice: EveArg) -> Arg<'a>
     ensures rule { rule_of result ≡ rule_as choice }
     ensures local { result.global ≡ false }
 {
     match choice {
-        Choice::LetterOption(id, letter) => {
+        EveArg::LetterOption(id, letter) => {
             Arg::new(alloc, id).short(letter).action(ArgAction::Set)
         }
-        Choice::NameOption(name) => Arg::new(alloc, name).long(name).action(ArgAction::Set),
-        Choice::NameFlag(name) => Arg::new(alloc, name).long(name).action(ArgAction::SetTrue),
-        Choice::Names(id) => Arg::new(alloc, id).action(ArgAction::Append),
+        EveArg::NameOption(name) => Arg::new(alloc, name).long(name).action(ArgAction::Set),
+        EveArg::NameFlag(name) => Arg::new(alloc, name).long(name).action(ArgAction::SetTrue),
+        EveArg::Names(id) => Arg::new(alloc, id).action(ArgAction::Append),
     }
 }
 
@@ -50,7 +50,7 @@ fn argument<'a>(alloc: Global, choice: Choice) -> Arg<'a>
 fn with_choices<'a>(
     alloc: Global,
     bare: Command<'a>,
-    choices: &[Choice],
+    choices: &[EveArg],
 ) -> Result<Command<'a>, AllocError>
     ensures { IfOk result (λ command. app_of command ≡ app_with (app_of bare.entry) choices.now) }
 {

@@ -9,7 +9,7 @@ ghost use Rattle.command_words.specs.CommandLine.{definition, maybe, named};
 ghost use Rattle.net_lists.specs.Numbers.{number_in};
 
 use crate::syntax::matches;
-use alert_json::Run;
+use alert_json::RunFields;
 use clap::ArgMatches;
 use clap::parser::ValueSource;
 use edge_io::NoMemory;
@@ -42,8 +42,8 @@ pub(crate) enum Since<'a> {
 /// What all records have alike; the configuration, if there is one; what the year of a file's first line follows from, where
 /// files are alert lines and not records; and the names of the files, in their order.
 #[derive(Drop)]
-pub(crate) struct Wanted<'a> {
-    pub(crate) run: Run<'a>,
+pub(crate) struct Conversion<'a> {
+    pub(crate) run: RunFields<'a>,
     pub(crate) conf: Option<Conf<'a>>,
     pub(crate) since: Option<Since<'a>>,
     pub(crate) files: Vec<&'a str>,
@@ -51,11 +51,11 @@ pub(crate) struct Wanted<'a> {
 
 /// What the words ask for.
 #[derive(Drop)]
-pub(crate) enum Asked<'a> {
+pub(crate) enum Request<'a> {
     /// The usage.
     Help,
     /// The lines of files.
-    Lines(Wanted<'a>),
+    Lines(Conversion<'a>),
 }
 
 /// The name of standard input.
@@ -249,14 +249,14 @@ fn wanted_in<'a>(
     seed: u16,
     defined: Option<Variable<'a>>,
     since: Option<Since<'a>>,
-) -> Result<Wanted<'a>, NoMemory>
+) -> Result<Conversion<'a>, NoMemory>
     ensures { IfOk result (λ wanted. wanted_facts wanted
         ≡ wanted_in (rows_of (found_of matches.now)) seed (option_map defined_facts defined.entry)
         (option_map since_facts since.entry)) }
 {
     let files = files_of(alloc, matches)?;
-    Ok(Wanted {
-        run: Run {
+    Ok(Conversion {
+        run: RunFields {
             seed,
             host: bytes_of(given(matches, "host")),
             pcap_filename: bytes_of(given(matches, "pcap-filename")),
@@ -268,11 +268,11 @@ fn wanted_in<'a>(
 }
 
 /// What is wanted, if the capture is none of the files.
-fn if_apart<'a>(wanted: Wanted<'a>) -> Option<Asked<'a>>
+fn if_apart<'a>(wanted: Conversion<'a>) -> Option<Request<'a>>
     ensures { option_map asked_facts result ≡ if_apart (wanted_facts wanted.entry) }
 {
     if is_apart(wanted.since, &wanted.files) {
-        Some(Asked::Lines(wanted))
+        Some(Request::Lines(wanted))
     } else {
         None
     }
@@ -284,7 +284,7 @@ fn dated_in<'a>(
     matches: &ArgMatches<'a>,
     seed: u16,
     defined: Option<Variable<'a>>,
-) -> Result<Option<Asked<'a>>, NoMemory>
+) -> Result<Option<Request<'a>>, NoMemory>
     ensures { IfOk result (λ asked. option_map asked_facts asked
         ≡ option_and_then (λ since. if_apart (wanted_in (rows_of (found_of matches.now)) seed
         (option_map defined_facts defined.entry) since)) (since_in (rows_of (found_of matches.now)))) }
@@ -300,7 +300,7 @@ fn defined_in<'a>(
     alloc: Global,
     matches: &ArgMatches<'a>,
     seed: u16,
-) -> Result<Option<Asked<'a>>, NoMemory>
+) -> Result<Option<Request<'a>>, NoMemory>
     ensures { IfOk result (λ a. option_map asked_facts a ≡ option_and_then (λ defined.
         option_and_then (λ since. if_apart (wanted_in (rows_of (found_of matches.now)) seed defined since))
         (since_in (rows_of (found_of matches.now)))) (maybe definition (given_in (rows_of (found_of matches.now)) (codes "S")))) }
@@ -312,11 +312,11 @@ fn defined_in<'a>(
 }
 
 /// What the matches of the words ask for.
-fn asked_in<'a>(alloc: Global, matches: &ArgMatches<'a>) -> Result<Option<Asked<'a>>, NoMemory>
+fn asked_in<'a>(alloc: Global, matches: &ArgMatches<'a>) -> Result<Option<Request<'a>>, NoMemory>
     ensures { IfOk result (λ asked. option_map asked_facts asked ≡ asked_in (rows_of (found_of matches.now))) }
 {
     if given(matches, "help").is_some() {
-        return Ok(Some(Asked::Help));
+        return Ok(Some(Request::Help));
     }
     match seed_of(given(matches, "community-id-seed")) {
         None => Ok(None),
@@ -328,7 +328,7 @@ fn asked_in<'a>(alloc: Global, matches: &ArgMatches<'a>) -> Result<Option<Asked<
 pub(crate) fn asked_of<'a>(
     alloc: Global,
     words: &'a [String],
-) -> Result<Option<Asked<'a>>, NoMemory>
+) -> Result<Option<Request<'a>>, NoMemory>
     ensures { IfOk result (λ asked. option_map asked_facts asked ≡ asked_of (map string_bytes words.entry.now)) }
 {
     match matches(alloc, words)? {

@@ -6,7 +6,7 @@ use Rattle.edge_io.specs.declared.moment.Moment.{Moment}
 use Rattle.packet_decode.specs.declared.packet.IpHead.{IpHead}
 use Rattle.packet_decode.specs.declared.packet.Body.{Body}
 use Rattle.packet_decode.specs.declared.packet.Body.TheVariants as body
-use Rattle.stream5_sessions.specs.declared.segment.Segment.{Segment}
+use Rattle.stream5_sessions.specs.declared.segment.SessionSegment.{SessionSegment}
 use Rattle.stream5_sessions.specs.declared.state.Change.{Change}
 use Rattle.stream5_sessions.specs.declared.state.Phase.{Phase}
 use Rattle.stream5_sessions.specs.declared.state.Phase.TheVariants.{NoSession, Syn, SynAck, Est, Mid, Closing, Off}
@@ -33,7 +33,7 @@ isnt false h = refl
 abbrev staying : State → Change
 staying s = record (stays s) { counts = s.tcp }
 
-under_way : (phase : Phase) (s : State) (p : Segment) (rules : SessionRules) → is_under_way phase ≡ true
+under_way : (phase : Phase) (s : State) (p : SessionSegment) (rules : SessionRules) → is_under_way phase ≡ true
     → tcp_row phase s p rules ≡ Then (in_est s p)
 under_way NoSession s p rules h = absurd (false≢true h)
 under_way Syn s p rules h = absurd (false≢true h)
@@ -44,7 +44,7 @@ under_way Closing s p rules h = absurd (false≢true h)
 under_way Off s p rules h = absurd (false≢true h)
 
 -- the row of Est and Mid
-counts : (s : State) (p : Segment) → has_no_control p ≡ true → has_both_fins s ≡ false
+counts : (s : State) (p : SessionSegment) → has_no_control p ≡ true → has_both_fins s ≡ false
     → in_est s p ≡ record (stays s) { counts = true }
 unfolding in_est
 counts s p plain few =
@@ -72,7 +72,7 @@ est Closing h = absurd (false≢true h)
 est Off h = absurd (false≢true h)
 
 -- the row of UDP
-answered : (s : State) (p : Segment) → is_open s.phase ≡ true → (is_est s.phase || is_from s.client p) ≡ true
+answered : (s : State) (p : SessionSegment) → is_open s.phase ≡ true → (is_est s.phase || is_from s.client p) ≡ true
     → in_udp s p ≡ stays s
 unfolding in_udp
 answered s p on either =
@@ -98,7 +98,7 @@ answered s p on either =
         ap (λ (b : Bool). cond {A = Change} b (record (stays s) { phase = Est }) (stays s)) (never (is_some s.client))
     by false is false h = absurd (false≢true h)
 
-row : (s : State) (p : Segment) (rules : SessionRules) → is_open s.phase ≡ true → stays_in s p ≡ true
+row : (s : State) (p : SessionSegment) (rules : SessionRules) → is_open s.phase ≡ true → stays_in s p ≡ true
     → row_of s p rules ≡ Then (staying s)
 unfolding row_of
 row s p rules on is = by s.tcp is
@@ -112,7 +112,7 @@ row s p rules on is = by s.tcp is
         under_way s.phase s p rules rest.0 ∙ ap (λ (c : Change). Then c) (counts s p rest.1 (isnt (has_both_fins s) split.1))
     by false h = ap (λ (c : Change). Then c) (answered s p on h)
 
-no_fin : (s : State) (p : Segment) → stays_in s p ≡ true → s.tcp ≡ true → p.fin ≡ false
+no_fin : (s : State) (p : SessionSegment) → stays_in s p ≡ true → s.tcp ≡ true → p.fin ≡ false
 no_fin s p is tcp =
     let in_tcp : Bool = is_under_way s.phase && has_no_control p && not (has_both_fins s) in
     let way = ap (λ (b : Bool). cond b in_tcp (is_est s.phase || is_from s.client p)) (sym tcp) ∙ is in
@@ -124,7 +124,7 @@ fins : (tcp fin f : Bool) (x y : Option ℕ) → (tcp ≡ true → fin ≡ false
 fins true fin f x y none = ap (λ (b : Bool). cond {A = Option ℕ} (b && f) x y) (none refl)
 fins false fin f x y none = refl
 
-left : (s : State) (p : Segment) → is_open s.phase ≡ true → stays_in s p ≡ true
+left : (s : State) (p : SessionSegment) → is_open s.phase ≡ true → stays_in s p ≡ true
     → taken false s (staying s) p ≡ record { step = staying_step s p; state = staying_state s p }
 unfolding taken
 left s p on is =
@@ -136,7 +136,7 @@ left s p on is =
     }
 
 -- what the table of phases says of a packet that leaves the session as it is
-pub stays-step : (s : State) (p : Segment) (rules : SessionRules) → stays_as_is s p rules ≡ true
+pub stays-step : (s : State) (p : SessionSegment) (rules : SessionRules) → stays_as_is s p rules ≡ true
     → session_step s p rules ≡ record { step = staying_step s p; state = staying_state s p }
 unfolding stays_as_is session_step at_hand
 stays-step s p rules is =
@@ -149,12 +149,12 @@ stays-step s p rules is =
     ∙ left s p rest.0 split.1
 
 -- what a packet tells that leaves the session as it is
-pub stays-tells : (s : State) (p : Segment) (rules : SessionRules) → stays_as_is s p rules ≡ true
+pub stays-tells : (s : State) (p : SessionSegment) (rules : SessionRules) → stays_as_is s p rules ≡ true
     → (session_step s p rules).step ≡ staying_step s p
 stays-tells s p rules is = ap (λ (t : Taken). t.step) (stays-step s p rules is)
 
 -- the parts of what the table says
-module _ (s : State) (p : Segment) (rules : SessionRules) (step : Step) (state : State)
+module _ (s : State) (p : SessionSegment) (rules : SessionRules) (step : Step) (state : State)
     (told : session_step s p rules ≡ record { step = step; state = state }) where
   pub told-step : step ≡ (session_step s p rules).step
   told-step = ap (λ (t : Taken). t.step) (sym told)
@@ -175,6 +175,6 @@ pub stays-told : (inside s : State) (ip : IpHead) (body : Body) (len : ℕ) (mom
     → inside ≡ s → stays_as_is inside (segment_of ip body len moment) rules ≡ true → step ≡ staying_step inside (segment_of ip body len moment)
     → session_step s (segment_of ip body len moment) rules ≡ record { step = step; state = record inside { last = moment } }
 stays-told inside s ip body len moment rules step same is told =
-    let p : Segment = segment_of ip body len moment in
+    let p : SessionSegment = segment_of ip body len moment in
     ap (λ (state : State). session_step state p rules) (sym same) ∙ stays-step inside p rules is
     ∙ (λ i. record { step = sym told i; state = record inside { last = last_of ip body len moment i } })

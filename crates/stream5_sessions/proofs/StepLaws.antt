@@ -1,7 +1,7 @@
 -- A session stays of its protocol, and of one that isn't of TCP nothing counts.
 use Rattle.std.proofs.Common.{◌≡◌, Bool, true, false, not, ◌&&◌, cond, None, refl, sym, ap, subst, ◌∙◌}
 use Rattle.std.proofs.lemmas.Bool.{false≢true}
-use Rattle.stream5_sessions.specs.declared.segment.Segment.{Segment}
+use Rattle.stream5_sessions.specs.declared.segment.SessionSegment.{SessionSegment}
 use Rattle.stream5_sessions.specs.declared.state.State.{State}
 use Rattle.stream5_sessions.specs.declared.state.Change.{Change}
 use Rattle.stream5_sessions.specs.Phases.{Reading}
@@ -17,26 +17,26 @@ either_tcp : (b : Bool) (one other : State) (tcp : Bool) → one.tcp ≡ tcp →
 either_tcp true one other tcp h g = h
 either_tcp false one other tcp h g = g
 
-taken_tcp : (ended : Bool) (s : State) (change : Change) (p : Segment) → (taken ended s change p).state.tcp ≡ s.tcp
+taken_tcp : (ended : Bool) (s : State) (change : Change) (p : SessionSegment) → (taken ended s change p).state.tcp ≡ s.tcp
 unfolding taken
 taken_tcp ended s change p = either_tcp change.ends (no_session s.tcp p.moment) (state_after s change p) s.tcp refl refl
 
-by_row_tcp : (timed_out : Bool) (s : State) (reading : Reading) (p : Segment) (needed : Bool)
+by_row_tcp : (timed_out : Bool) (s : State) (reading : Reading) (p : SessionSegment) (needed : Bool)
     → (by_row timed_out s reading p needed).state.tcp ≡ s.tcp
 by_row_tcp timed_out s (Then change) p needed = taken_tcp timed_out s change p
 by_row_tcp timed_out s EndsBefore p needed = taken_tcp true (no_session s.tcp s.last) (in_none p needed) p
 
-at_hand_tcp : (s : State) (p : Segment) (rules : SessionRules) → (at_hand s p rules).tcp ≡ s.tcp
+at_hand_tcp : (s : State) (p : SessionSegment) (rules : SessionRules) → (at_hand s p rules).tcp ≡ s.tcp
 unfolding at_hand
 at_hand_tcp s p rules = either_tcp (is_timed_out s p.moment rules) (no_session s.tcp s.last) s s.tcp refl refl
 
-pub session_step_tcp : (s : State) (p : Segment) (rules : SessionRules) → (session_step s p rules).state.tcp ≡ s.tcp
+pub session_step_tcp : (s : State) (p : SessionSegment) (rules : SessionRules) → (session_step s p rules).state.tcp ≡ s.tcp
 unfolding session_step
 session_step_tcp s p rules =
     by_row_tcp (is_timed_out s p.moment rules) (at_hand s p rules) (row_of (at_hand s p rules) p rules) p rules.needed_new
     ∙ at_hand_tcp s p rules
 
-fresh_row : (timed_out : Bool) (s : State) (reading : Reading) (p : Segment) (needed : Bool)
+fresh_row : (timed_out : Bool) (s : State) (reading : Reading) (p : SessionSegment) (needed : Bool)
     → (timed_out ≡ true → is_open s.phase ≡ false)
     → (by_row timed_out s reading p needed).step.ended_before ≡ true
     → (by_row timed_out s reading p needed).step.begun ≡ (by_row timed_out s reading p needed).step.tracked
@@ -48,13 +48,13 @@ none_open : (b : Bool) (s : State) → b ≡ true → is_open (cond b (no_sessio
 none_open true s is = refl
 none_open false s is = absurd (false≢true is)
 
-at_hand_fresh : (s : State) (p : Segment) (rules : SessionRules) → is_timed_out s p.moment rules ≡ true
+at_hand_fresh : (s : State) (p : SessionSegment) (rules : SessionRules) → is_timed_out s p.moment rules ≡ true
     → is_open (at_hand s p rules).phase ≡ false
 unfolding at_hand
 at_hand_fresh s p rules is = none_open (is_timed_out s p.moment rules) s is
 
 -- a packet before which a session ended begins its own session, if it has one
-pub session_step_fresh : (s : State) (p : Segment) (rules : SessionRules) → (session_step s p rules).step.ended_before ≡ true
+pub session_step_fresh : (s : State) (p : SessionSegment) (rules : SessionRules) → (session_step s p rules).step.ended_before ≡ true
     → (session_step s p rules).step.begun ≡ (session_step s p rules).step.tracked
 unfolding session_step
 session_step_fresh s p rules =
@@ -75,7 +75,7 @@ record ChangesNothing (change : Change) : Type 0 where
   pub client : change.client_base ≡ None
   pub server : change.server_base ≡ None
 
-udp-changes : (s : State) (p : Segment) → ChangesNothing (in_udp s p)
+udp-changes : (s : State) (p : SessionSegment) → ChangesNothing (in_udp s p)
 unfolding in_udp
 udp-changes s p = by (not (is_open s.phase)) (is_from_server s p)
   where
@@ -84,7 +84,7 @@ udp-changes s p = by (not (is_open s.phase)) (is_from_server s p)
     by false true = record { counts = refl; client = refl; server = refl }
     by false false = record { counts = refl; client = refl; server = refl }
 
-quiet-taken : (ended : Bool) (s : State) (change : Change) (p : Segment) → ChangesNothing change → IsQuiet (taken ended s change p).step
+quiet-taken : (ended : Bool) (s : State) (change : Change) (p : SessionSegment) → ChangesNothing change → IsQuiet (taken ended s change p).step
 unfolding taken
 quiet-taken ended s change p none = record {
   carries = none.counts;
@@ -93,7 +93,7 @@ quiet-taken ended s change p none = record {
   server = none.server;
 }
 
-pub session_step_quiet : (s : State) (p : Segment) (rules : SessionRules) → s.tcp ≡ false → IsQuiet (session_step s p rules).step
+pub session_step_quiet : (s : State) (p : SessionSegment) (rules : SessionRules) → s.tcp ≡ false → IsQuiet (session_step s p rules).step
 unfolding session_step row_of
 session_step_quiet s p rules plain =
     let now : State = at_hand s p rules in

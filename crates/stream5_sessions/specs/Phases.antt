@@ -21,7 +21,7 @@ use Rattle.packet_decode.specs.declared.packet.IpHead.{IpHead}
 use Rattle.packet_decode.specs.declared.packet.Body.{Body}
 use Rattle.packet_decode.specs.declared.packet.Body.TheVariants.{Tcp, Udp}
 use Rattle.stream5_sessions.specs.declared.key.End.{End}
-use Rattle.stream5_sessions.specs.declared.segment.Segment.{Segment}
+use Rattle.stream5_sessions.specs.declared.segment.SessionSegment.{SessionSegment}
 use Rattle.stream5_sessions.specs.declared.state.Phase.{Phase}
 use Rattle.stream5_sessions.specs.declared.state.Phase.TheVariants.{NoSession, Syn, SynAck, Est, Mid, Closing, Off}
 use Rattle.stream5_sessions.specs.declared.state.State.{State}
@@ -45,7 +45,7 @@ abbrev pub is_set : ℕ → ℕ → Bool
 is_set bit flags = not (bit_and flags bit == 0)
 
 -- what the table reads of a packet with `len` bytes of data: FIN is bit 1, SYN 2, RST 4 and ACK 16
-abbrev pub segment_of : IpHead → Body → ℕ → Moment → Segment
+abbrev pub segment_of : IpHead → Body → ℕ → Moment → SessionSegment
 segment_of ip (Tcp head) len moment = record {
   sender = record { addr = ip.src; port = head.sport };
   receiver = record { addr = ip.dst; port = head.dport };
@@ -104,12 +104,12 @@ is_open NoSession = false
 is_open phase = true
 
 -- the packet is from the client, where one is known: also where both ends are the same
-abbrev pub is_from : Option End → Segment → Bool
+abbrev pub is_from : Option End → SessionSegment → Bool
 is_from None p = false
 is_from (Some client) p = same_end client p.sender
 
 -- the packet is from the server, where a client is known
-abbrev pub is_from_server : State → Segment → Bool
+abbrev pub is_from_server : State → SessionSegment → Bool
 is_from_server s p = is_some s.client && not (is_from s.client p)
 
 -- a base that is known
@@ -150,18 +150,18 @@ begins phase client client_base server_base = record {
 }
 
 -- the end with the larger port, the sender where the ports are equal
-abbrev pub larger_end : Segment → End
+abbrev pub larger_end : SessionSegment → End
 larger_end p = if nat_lt p.sender.port p.receiver.port then p.receiver else p.sender
 
 -- this packet begins a session under way: the base of its sender is seq, that of the other end ack, if there is one
-abbrev pub begins_mid : Segment → Change
+abbrev pub begins_mid : SessionSegment → Change
 begins_mid p =
     if same_end (larger_end p) p.sender
     then record (begins Mid (larger_end p) (Some p.seq) (if p.has_ack then Some p.ack else None)) { counts = true }
     else record (begins Mid (larger_end p) (if p.has_ack then Some p.ack else None) (Some p.seq)) { counts = true }
 
 -- a session is taken up under way: where they aren't set, the base of the sender is seq, the other's ack
-abbrev pub goes_mid : State → Segment → Change
+abbrev pub goes_mid : State → SessionSegment → Change
 goes_mid s p =
     if is_from s.client p
     then record (stays s) {
@@ -178,31 +178,31 @@ goes_mid s p =
     }
 
 -- the end of a FIN: the place after the data and the FIN itself
-abbrev pub fin_end : Segment → ℕ
+abbrev pub fin_end : SessionSegment → ℕ
 fin_end p = plus (plus p.seq p.len) 1
 
 -- the end of the client's last FIN that counted, and of the server's, with this packet counted
-abbrev pub client_fin_after : State → Segment → Option ℕ
+abbrev pub client_fin_after : State → SessionSegment → Option ℕ
 client_fin_after s p = if p.fin && is_from s.client p then Some (fin_end p) else s.client_fin
 
-abbrev pub server_fin_after : State → Segment → Option ℕ
+abbrev pub server_fin_after : State → SessionSegment → Option ℕ
 server_fin_after s p = if p.fin && not (is_from s.client p) then Some (fin_end p) else s.server_fin
 
 -- acknowledgement and data count; once each side has sent a FIN, the session is closing
-abbrev pub counts_on : State → Segment → Change
+abbrev pub counts_on : State → SessionSegment → Change
 counts_on s p = record (stays s) {
   phase = (if is_some (client_fin_after s p) && is_some (server_fin_after s p) then Closing else s.phase);
   counts = true;
 }
 
 -- the packet acknowledges the other side's last FIN
-abbrev pub acks_fin : State → Segment → Bool
+abbrev pub acks_fin : State → SessionSegment → Bool
 acks_fin s p = p.has_ack && is_base (if is_from s.client p then s.server_fin else s.client_fin) p.ack
 
 -- The table of TCP, a phase at a time: what the packet has, and what follows.
 
 -- no session: CLOSED in RFC 793; `needed` says that a session begins only with a handshake
-unfoldable pub in_none : Segment → Bool → Change
+unfoldable pub in_none : SessionSegment → Bool → Change
 in_none p needed =
     if p.rst then begins_none else
     if p.syn && not p.has_ack then begins Syn p.sender (Some (plus p.seq 1)) None else
@@ -211,7 +211,7 @@ in_none p needed =
     begins_off
 
 -- a SYN of the client was seen: SYN-SENT, of the client
-unfoldable pub in_syn : State → Segment → Bool → Change
+unfoldable pub in_syn : State → SessionSegment → Bool → Change
 in_syn s p needed =
     if p.rst then ends s else
     if is_from_server s p && p.syn && p.has_ack && is_base s.client_base p.ack
@@ -221,7 +221,7 @@ in_syn s p needed =
     stays s
 
 -- the server's SYN with ACK was seen: SYN-RECEIVED, of the server
-unfoldable pub in_syn_ack : State → Segment → Change
+unfoldable pub in_syn_ack : State → SessionSegment → Change
 in_syn_ack s p =
     if p.rst then ends s else
     if is_from_server s p && p.syn && p.has_ack then record (stays s) { server_base = Some (plus p.seq 1) } else
@@ -229,7 +229,7 @@ in_syn_ack s p =
     stays s
 
 -- ESTABLISHED, after a whole handshake (Est) or taken up under way (Mid)
-unfoldable pub in_est : State → Segment → Change
+unfoldable pub in_est : State → SessionSegment → Change
 in_est s p =
     if p.rst then ends s else
     if not p.syn then counts_on s p else
@@ -248,7 +248,7 @@ reading true change = EndsBefore
 reading false change = Then change
 
 -- each side has sent a FIN: CLOSING, LAST-ACK
-unfoldable pub in_closing : State → Segment → Reading
+unfoldable pub in_closing : State → SessionSegment → Reading
 in_closing s p =
     if p.rst then Then (ends s) else
     if p.syn && not p.has_ack then EndsBefore else
@@ -256,21 +256,21 @@ in_closing s p =
     Then (stays s)
 
 -- a session that is only watched
-unfoldable pub in_off : State → Segment → Reading
+unfoldable pub in_off : State → SessionSegment → Reading
 in_off s p =
     if p.syn && not p.has_ack then EndsBefore else
     if p.rst then Then (ends s) else
     Then (stays s)
 
 -- The table of UDP: the sender of the first packet is the client; Est once the server has sent.
-unfoldable pub in_udp : State → Segment → Change
+unfoldable pub in_udp : State → SessionSegment → Change
 in_udp s p =
     if not (is_open s.phase) then begins Syn p.sender None None else
     if is_from_server s p then record (stays s) { phase = Est } else
     stays s
 
 -- the row that a packet meets; in EndsBefore the session ends before the packet
-abbrev pub tcp_row : Phase → State → Segment → SessionRules → Reading
+abbrev pub tcp_row : Phase → State → SessionSegment → SessionRules → Reading
 tcp_row NoSession s p rules = Then (in_none p rules.needed_new)
 tcp_row Syn s p rules = Then (in_syn s p rules.needed)
 tcp_row SynAck s p rules = Then (in_syn_ack s p)
@@ -279,7 +279,7 @@ tcp_row Mid s p rules = Then (in_est s p)
 tcp_row Closing s p rules = in_closing s p
 tcp_row Off s p rules = in_off s p
 
-unfoldable pub row_of : State → Segment → SessionRules → Reading
+unfoldable pub row_of : State → SessionSegment → SessionRules → Reading
 row_of s p rules = if s.tcp then tcp_row s.phase s p rules else Then (in_udp s p)
 
 -- What a packet tells and leaves.
@@ -298,7 +298,7 @@ base_after (Some new) old = Some new
 
 -- What the packet tells: the facts are those of the phase after it, and before an end. Of a UDP
 -- session neither data nor acknowledgements count, no packet ends it, and it has no bases.
-abbrev pub step_of : Bool → State → Change → Segment → Step
+abbrev pub step_of : Bool → State → Change → SessionSegment → Step
 step_of ended_before s change p = record {
   ended_before = ended_before;
   begun = not (is_open s.phase) && is_open change.phase;
@@ -313,7 +313,7 @@ step_of ended_before s change p = record {
 }
 
 -- The session after a packet that doesn't end it. A FIN is noted exactly where data count.
-abbrev pub state_after : State → Change → Segment → State
+abbrev pub state_after : State → Change → SessionSegment → State
 state_after s change p =
     let now : State = record s { client = change.client } in
     record {
@@ -333,7 +333,7 @@ pub record Taken : Type 0 where
   pub state : State
 
 -- what a packet tells that changes this, and the session after it
-unfoldable pub taken : Bool → State → Change → Segment → Taken
+unfoldable pub taken : Bool → State → Change → SessionSegment → Taken
 taken ended_before s change p = record {
   step = step_of ended_before s change p;
   state = (if change.ends then no_session s.tcp p.moment else state_after s change p);
@@ -344,16 +344,16 @@ unfoldable pub is_timed_out : State → Moment → SessionRules → Bool
 is_timed_out s moment rules = is_open s.phase && nat_lt (s.last.nanos + rules.timeout * 1000000000) moment.nanos
 
 -- the session that a packet meets: none after the timeout
-unfoldable pub at_hand : State → Segment → SessionRules → State
+unfoldable pub at_hand : State → SessionSegment → SessionRules → State
 at_hand s p rules = if is_timed_out s p.moment rules then no_session s.tcp s.last else s
 
 -- what a packet tells and leaves, by the row that it meets
-abbrev pub by_row : Bool → State → Reading → Segment → Bool → Taken
+abbrev pub by_row : Bool → State → Reading → SessionSegment → Bool → Taken
 by_row timed_out s (Then change) p needed_new = taken timed_out s change p
 by_row timed_out s EndsBefore p needed_new = taken true (no_session s.tcp s.last) (in_none p needed_new) p
 
 -- one packet of a session: what it tells, and the session after it
-unfoldable pub session_step : State → Segment → SessionRules → Taken
+unfoldable pub session_step : State → SessionSegment → SessionRules → Taken
 session_step s p rules =
     let now : State = at_hand s p rules in
     by_row (is_timed_out s p.moment rules) now (row_of now p rules) p rules.needed_new

@@ -7,7 +7,7 @@
 -- client's second datagram stays, and the server's first doesn't.
 use Rattle.std.specs.Prelude.{Bool, true, false, not, ◌&&◌, ◌||◌, None, is_some, if◌then◌else◌}
 use Rattle.std.specs.Option.{option_map}
-use Rattle.stream5_sessions.specs.declared.segment.Segment.{Segment}
+use Rattle.stream5_sessions.specs.declared.segment.SessionSegment.{SessionSegment}
 use Rattle.stream5_sessions.specs.declared.state.Phase.{Phase}
 use Rattle.stream5_sessions.specs.declared.state.Phase.TheVariants.{Est, Mid}
 use Rattle.stream5_sessions.specs.declared.state.State.{State}
@@ -28,7 +28,7 @@ is_under_way Mid = true
 is_under_way phase = false
 
 -- the packet asks to open, close or reset nothing (RFC 793, section 3.1)
-abbrev pub has_no_control : Segment → Bool
+abbrev pub has_no_control : SessionSegment → Bool
 has_no_control p = not p.syn && not p.fin && not p.rst
 
 -- the ends of both sides' FINs are known
@@ -36,18 +36,18 @@ abbrev pub has_both_fins : State → Bool
 has_both_fins s = is_some s.client_fin && is_some s.server_fin
 
 -- the packet leaves the session as it is, by the session's protocol, where there is a session that is not timed out
-abbrev pub stays_in : State → Segment → Bool
+abbrev pub stays_in : State → SessionSegment → Bool
 stays_in s p =
     if s.tcp
     then is_under_way s.phase && has_no_control p && not (has_both_fins s)
     else is_est s.phase || is_from s.client p
 
 -- the packet leaves the session as it is, but for the moment of its last packet
-unfoldable pub stays_as_is : State → Segment → SessionRules → Bool
+unfoldable pub stays_as_is : State → SessionSegment → SessionRules → Bool
 stays_as_is s p rules = is_open s.phase && not (is_timed_out s p.moment rules) && stays_in s p
 
 -- what such a packet tells: of TCP its data and its acknowledgement count
-abbrev pub staying_step : State → Segment → Step
+abbrev pub staying_step : State → SessionSegment → Step
 staying_step s p = record {
   ended_before = false;
   begun = false;
@@ -62,5 +62,5 @@ staying_step s p = record {
 }
 
 -- the session after such a packet
-abbrev pub staying_state : State → Segment → State
+abbrev pub staying_state : State → SessionSegment → State
 staying_state s p = record s { last = p.moment }

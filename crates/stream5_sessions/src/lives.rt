@@ -26,12 +26,12 @@ use std::num::NonZeroUsize;
 
 /// A key, and the number of its flow.
 #[derive(Clone, Copy, Debug, PartialEq, Eq)]
-pub(crate) struct Numbered {
+pub(crate) struct NumberedKey {
     pub key: Key,
     pub number: u64,
 }
 
-impl Hash for Numbered {
+impl Hash for NumberedKey {
     ghost use Rattle.std.specs.Hash as fed;
     ghost use Rattle.std.proofs.Common.{rules};
     ghost use Rattle.std.specs.Cmp.Rules.{hashing};
@@ -51,7 +51,7 @@ impl Hash for Numbered {
 pub(crate) struct Lives {
     /// The number of each key's flow.
     numbers: FlowNumbers,
-    cache: LruCache<Numbered, u64>,
+    cache: LruCache<NumberedKey, u64>,
     /// What is tried before `numbers`.
     guesses: Guesses,
 }
@@ -88,7 +88,7 @@ impl Lives {
             (λ flow. self.new ≡ lives_with (promoted (same_key key.now) self.old.entries) self.old.cap) }
     {
         let guess = self.guesses.of(key)?;
-        let entry = Numbered {
+        let entry = NumberedKey {
             key: *key,
             number: guess,
         };
@@ -113,7 +113,7 @@ impl Lives {
         match self.numbers.get_or_insert(key, next)? {
             Some(number) => {
                 self.guesses.set(key, number);
-                let flow = self.cache.get(&Numbered { key: *key, number }).copied();
+                let flow = self.cache.get(&NumberedKey { key: *key, number }).copied();
                 Ok(Touch {
                     flow: flow.unwrap_or(number),
                     fresh: false,
@@ -122,7 +122,7 @@ impl Lives {
             }
             None => {
                 self.guesses.set(key, next);
-                let entry = Numbered {
+                let entry = NumberedKey {
                     key: *key,
                     number: next,
                 };
@@ -150,14 +150,14 @@ impl Lives {
 }
 
 /// The flows of these keys.
-fn flows_of(alloc: Global, cache: &LruCache<Numbered, u64>) -> Result<Vec<u64>, NoMemory>
+fn flows_of(alloc: Global, cache: &LruCache<NumberedKey, u64>) -> Result<Vec<u64>, NoMemory>
     ensures { IfOk result (λ flows. flows.items ≡ values_of cache.now.entries) }
 {
     Ok(cache.iter().map(|(_, flow)| *flow).collect(alloc)?)
 }
 
 /// Takes the number of the evicted key out of the tree, and gives its flow.
-fn forget(numbers: &mut FlowNumbers, evicted: Option<(Numbered, u64)>) -> Option<u64>
+fn forget(numbers: &mut FlowNumbers, evicted: Option<(NumberedKey, u64)>) -> Option<u64>
     ensures flow { result ≡ option_map (λ e. e.1) evicted }
     ensures gone { (q : Key) → number_in numbers.new q
         ≡ (if is_gone evicted q then None else number_in numbers.old q) }

@@ -7,12 +7,12 @@ ghost use Rattle.stream5_sessions.specs.Phases.{in_udp, row_of, tcp_row};
 ghost use Rattle.stream5_sessions.specs.declared.state.State.{State};
 
 use crate::End;
-use crate::segment::{Segment, fin_end, plus};
+use crate::segment::{SessionSegment, fin_end, plus};
 use crate::state::{Change, Phase, State};
 use crate::step::SessionRules;
 
 /// The packet is from the client, where one is known.
-pub(crate) fn is_from(client: &Option<End>, segment: &Segment) -> bool
+pub(crate) fn is_from(client: &Option<End>, segment: &SessionSegment) -> bool
     ensures { result ≡ is_from client.now segment.now }
 {
     match client {
@@ -22,7 +22,7 @@ pub(crate) fn is_from(client: &Option<End>, segment: &Segment) -> bool
 }
 
 /// The packet is from the server, where a client is known.
-fn is_from_server(state: &State, segment: &Segment) -> bool
+fn is_from_server(state: &State, segment: &SessionSegment) -> bool
     ensures { result ≡ is_from_server state.now segment.now }
 {
     state.client.is_some() && !is_from(&state.client, segment)
@@ -91,7 +91,7 @@ fn begins(
 }
 
 /// The end with the larger port, the sender where the ports are equal.
-fn larger_end(segment: &Segment) -> End
+fn larger_end(segment: &SessionSegment) -> End
     ensures { result ≡ larger_end segment.now }
 {
     if segment.sender.port < segment.receiver.port {
@@ -104,7 +104,7 @@ fn larger_end(segment: &Segment) -> End
 /// A session under way begins.
 // Few sessions begin so: kept out of the line of the others.
 #[inline(never)]
-fn begins_mid(segment: &Segment, change: &mut Change)
+fn begins_mid(segment: &SessionSegment, change: &mut Change)
     ensures { change.new ≡ begins_mid segment.now }
 {
     let client = larger_end(segment);
@@ -125,7 +125,7 @@ fn begins_mid(segment: &Segment, change: &mut Change)
 /// A session is taken up under way.
 // As few as begin under way.
 #[inline(never)]
-fn goes_mid(state: &State, segment: &Segment, change: &mut Change)
+fn goes_mid(state: &State, segment: &SessionSegment, change: &mut Change)
     requires { change.old ≡ stays state.now }
     ensures { change.new ≡ goes_mid state.now segment.now }
 {
@@ -141,7 +141,7 @@ fn goes_mid(state: &State, segment: &Segment, change: &mut Change)
 }
 
 /// The end of the client's last FIN, with this packet counted.
-fn client_fin_after(state: &State, segment: &Segment) -> Option<u32>
+fn client_fin_after(state: &State, segment: &SessionSegment) -> Option<u32>
     ensures { result ≡ client_fin_after state.now segment.now }
 {
     if segment.fin && is_from(&state.client, segment) {
@@ -152,7 +152,7 @@ fn client_fin_after(state: &State, segment: &Segment) -> Option<u32>
 }
 
 /// The end of the server's last FIN, with this packet counted.
-fn server_fin_after(state: &State, segment: &Segment) -> Option<u32>
+fn server_fin_after(state: &State, segment: &SessionSegment) -> Option<u32>
     ensures { result ≡ server_fin_after state.now segment.now }
 {
     if segment.fin && !is_from(&state.client, segment) {
@@ -163,7 +163,7 @@ fn server_fin_after(state: &State, segment: &Segment) -> Option<u32>
 }
 
 /// Acknowledgement and data count.
-fn counts_on(state: &State, segment: &Segment, change: &mut Change)
+fn counts_on(state: &State, segment: &SessionSegment, change: &mut Change)
     requires { change.old ≡ stays state.now }
     ensures { change.new ≡ counts_on state.now segment.now }
 {
@@ -176,7 +176,7 @@ fn counts_on(state: &State, segment: &Segment, change: &mut Change)
 }
 
 /// The packet acknowledges the other side's last FIN.
-fn acks_fin(state: &State, segment: &Segment) -> bool
+fn acks_fin(state: &State, segment: &SessionSegment) -> bool
     ensures { result ≡ acks_fin state.now segment.now }
 {
     let fin = if is_from(&state.client, segment) {
@@ -190,7 +190,7 @@ fn acks_fin(state: &State, segment: &Segment) -> bool
 /// The rows where there is no session.
 #[tactic(auto, unfolding(crate::specs::Phases::in_none))]
 #[inline(never)]
-pub(crate) fn in_none(segment: &Segment, needed: bool, change: &mut Change)
+pub(crate) fn in_none(segment: &SessionSegment, needed: bool, change: &mut Change)
     ensures { change.new ≡ in_none segment.now needed }
 {
     if segment.rst {
@@ -217,7 +217,7 @@ pub(crate) fn in_none(segment: &Segment, needed: bool, change: &mut Change)
 
 /// The rows of Syn.
 #[tactic(auto, unfolding(crate::specs::Phases::in_syn))]
-fn in_syn(state: &State, segment: &Segment, needed: bool, change: &mut Change)
+fn in_syn(state: &State, segment: &SessionSegment, needed: bool, change: &mut Change)
     requires { change.old ≡ stays state.now }
     ensures { change.new ≡ in_syn state.now segment.now needed }
 {
@@ -236,7 +236,7 @@ fn in_syn(state: &State, segment: &Segment, needed: bool, change: &mut Change)
 
 /// The rows of SynAck.
 #[tactic(auto, unfolding(crate::specs::Phases::in_syn_ack))]
-fn in_syn_ack(state: &State, segment: &Segment, change: &mut Change)
+fn in_syn_ack(state: &State, segment: &SessionSegment, change: &mut Change)
     requires { change.old ≡ stays state.now }
     ensures { change.new ≡ in_syn_ack state.now segment.now }
 {
@@ -252,7 +252,7 @@ fn in_syn_ack(state: &State, segment: &Segment, change: &mut Change)
 
 /// The rows of Est and Mid.
 #[tactic(auto, unfolding(crate::specs::Phases::in_est))]
-fn in_est(state: &State, segment: &Segment, change: &mut Change)
+fn in_est(state: &State, segment: &SessionSegment, change: &mut Change)
     requires { change.old ≡ stays state.now }
     ensures { change.new ≡ in_est state.now segment.now }
 {
@@ -265,7 +265,7 @@ fn in_est(state: &State, segment: &Segment, change: &mut Change)
 
 /// The rows of Closing: true where the session ends before the packet.
 #[tactic(auto, unfolding(crate::specs::Phases::in_closing))]
-fn in_closing(state: &State, segment: &Segment, change: &mut Change) -> bool
+fn in_closing(state: &State, segment: &SessionSegment, change: &mut Change) -> bool
     requires { change.old ≡ stays state.now }
     ensures { reading result change.new ≡ in_closing state.now segment.now }
 {
@@ -285,7 +285,7 @@ fn in_closing(state: &State, segment: &Segment, change: &mut Change) -> bool
 
 /// The rows of Off: true where the session ends before the packet.
 #[tactic(auto, unfolding(crate::specs::Phases::in_off))]
-fn in_off(segment: &Segment, change: &mut Change) -> bool
+fn in_off(segment: &SessionSegment, change: &mut Change) -> bool
     ensures { (state : State) → change.old ≡ stays state
         → reading result change.new ≡ in_off state segment.now }
 {
@@ -300,7 +300,7 @@ fn in_off(segment: &Segment, change: &mut Change) -> bool
 
 /// The rows of UDP.
 #[tactic(auto, unfolding(crate::specs::Phases::in_udp))]
-fn in_udp(state: &State, segment: &Segment, change: &mut Change)
+fn in_udp(state: &State, segment: &SessionSegment, change: &mut Change)
     requires { change.old ≡ stays state.now }
     ensures { change.new ≡ in_udp state.now segment.now }
 {
@@ -317,7 +317,7 @@ fn in_udp(state: &State, segment: &Segment, change: &mut Change)
 #[tactic(auto, unfolding(crate::specs::Phases::row_of))]
 pub(crate) fn row_of(
     state: &State,
-    segment: &Segment,
+    segment: &SessionSegment,
     rules: &SessionRules,
     change: &mut Change,
 ) -> bool

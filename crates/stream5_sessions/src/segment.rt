@@ -19,7 +19,7 @@ const ACK: u8 = 16;
 
 /// What the table of phases reads of a packet.
 #[derive(Clone, Copy, Debug, PartialEq, Eq)]
-pub(crate) struct Segment {
+pub(crate) struct SessionSegment {
     pub sender: End,
     pub receiver: End,
     pub fin: bool,
@@ -41,7 +41,7 @@ pub(crate) fn plus(seq: u32, count: usize) -> u32
 }
 
 /// The end of a FIN: the place after the data and the FIN itself.
-pub(crate) fn fin_end(segment: &Segment) -> u32
+pub(crate) fn fin_end(segment: &SessionSegment) -> u32
     ensures { result ≡ fin_end segment.now }
 {
     plus(plus(segment.seq, segment.len), 1)
@@ -89,12 +89,18 @@ pub(crate) fn has_no_control(body: &Body) -> bool
 }
 
 /// A packet of a session, for the table.
-pub(crate) fn segment_of(ip: &IpHead, body: &Body, len: usize, moment: Moment, tcp: bool) -> Segment
+pub(crate) fn segment_of(
+    ip: &IpHead,
+    body: &Body,
+    len: usize,
+    moment: Moment,
+    tcp: bool,
+) -> SessionSegment
     requires { IsBodyOf tcp body.now }
     ensures { result ≡ segment_of ip.now body.now len moment }
 {
     match *body {
-        Body::Tcp(head) => Segment {
+        Body::Tcp(head) => SessionSegment {
             sender: End {
                 addr: ip.src,
                 port: head.sport,
@@ -112,7 +118,7 @@ pub(crate) fn segment_of(ip: &IpHead, body: &Body, len: usize, moment: Moment, t
             len,
             moment,
         },
-        Body::Udp { sport, dport } => Segment {
+        Body::Udp { sport, dport } => SessionSegment {
             sender: End {
                 addr: ip.src,
                 port: sport,

@@ -6,7 +6,7 @@ ghost use Rattle.stream5_sessions.specs.Staying.{stays_as_is};
 
 use crate::End;
 use crate::rows::{in_none, is_from, row_of};
-use crate::segment::{Segment, fin_end, segment_of};
+use crate::segment::{SessionSegment, fin_end, segment_of};
 use crate::state::{Change, Phase, State, is_timed_out};
 use crate::staying::{staying_step, stays_as_is};
 use crate::step::{SessionRules, Step};
@@ -127,7 +127,7 @@ fn none(tcp: bool, last: Moment) -> State
 
 /// The session that the packet meets takes its place: none after the timeout.
 #[tactic(auto, unfolding(crate::specs::Phases::at_hand))]
-fn meet(state: &mut State, segment: &Segment, rules: &SessionRules)
+fn meet(state: &mut State, segment: &SessionSegment, rules: &SessionRules)
     ensures { state.new ≡ at_hand state.old segment.now rules.now }
 {
     if is_timed_out(state, segment.moment, rules) {
@@ -143,7 +143,13 @@ fn base_after(new: Option<u32>, old: Option<u32>) -> Option<u32>
 }
 
 /// What the packet tells.
-fn tell(ended_before: bool, state: &State, change: &Change, segment: &Segment, step: &mut Step)
+fn tell(
+    ended_before: bool,
+    state: &State,
+    change: &Change,
+    segment: &SessionSegment,
+    step: &mut Step,
+)
     ensures { step.new ≡ step_of ended_before state.now change.now segment.now }
 {
     step.ended_before = ended_before;
@@ -162,7 +168,7 @@ fn tell(ended_before: bool, state: &State, change: &Change, segment: &Segment, s
 }
 
 /// Notes the end of a FIN that counts, with this client.
-fn note_fin(state: &mut State, client: &Option<End>, segment: &Segment)
+fn note_fin(state: &mut State, client: &Option<End>, segment: &SessionSegment)
     ensures { state.new ≡ record state.old {
       client_fin = client_fin_after (record state.old { client = client.now }) segment.now;
       server_fin = server_fin_after (record state.old { client = client.now }) segment.now;
@@ -180,7 +186,7 @@ fn note_fin(state: &mut State, client: &Option<End>, segment: &Segment)
 }
 
 /// The session goes on after a packet that doesn't end it.
-fn go_on(state: &mut State, change: &Change, segment: &Segment)
+fn go_on(state: &mut State, change: &Change, segment: &SessionSegment)
     ensures { state.new ≡ state_after state.old change.now segment.now }
 {
     if change.counts {
@@ -196,7 +202,13 @@ fn go_on(state: &mut State, change: &Change, segment: &Segment)
 /// What the packet tells; the session is then as it is after it.
 // It goes on in its place: moved from call to call, it would cost more than the table.
 #[tactic(auto, unfolding(crate::specs::Phases::taken))]
-fn taken(ended_before: bool, state: &mut State, change: &Change, segment: &Segment, step: &mut Step)
+fn taken(
+    ended_before: bool,
+    state: &mut State,
+    change: &Change,
+    segment: &SessionSegment,
+    step: &mut Step,
+)
     ensures step { step.new ≡ (taken ended_before state.old change.now segment.now).step }
     ensures state { state.new ≡ (taken ended_before state.old change.now segment.now).state }
 {
@@ -213,7 +225,7 @@ fn end_before(
     ends_before: bool,
     state: &mut State,
     change: &mut Change,
-    segment: &Segment,
+    segment: &SessionSegment,
     needed_new: bool,
 )
     ensures { (timed_out : Bool) → taken (timed_out || ends_before) state.new change.new segment.now
@@ -227,7 +239,7 @@ fn end_before(
 
 /// One packet of a session.
 #[tactic(auto, unfolding(crate::specs::Phases::session_step))]
-fn session_step(state: &mut State, segment: &Segment, rules: &SessionRules, step: &mut Step)
+fn session_step(state: &mut State, segment: &SessionSegment, rules: &SessionRules, step: &mut Step)
     ensures step { step.new ≡ (session_step state.old segment.now rules.now).step }
     ensures state { state.new ≡ (session_step state.old segment.now rules.now).state }
 {

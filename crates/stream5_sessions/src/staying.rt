@@ -1,6 +1,6 @@
 //! Packets that leave a session as it is, but for the moment of its last packet (specs/Staying).
 //!
-//! Most packets are of this kind, so what is asked of them is read where it lies: no `Segment` is made, and no
+//! Most packets are of this kind, so what is asked of them is read where it lies: no `SessionSegment` is made, and no
 //! second `State`.
 ghost use Rattle.std.specs.Prelude.{◌≡◌, ℕ, option_map};
 ghost use Rattle.edge_io.specs.declared.moment.Moment.{Moment};

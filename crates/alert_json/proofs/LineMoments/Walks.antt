@@ -9,8 +9,8 @@ use Rattle.alert_fast.specs.Fronts.{IsWord, Lacks}
 use Rattle.alert_fast.proofs.ReadBack.Fronts.{first_same, rest_same, word_only, lacks-none}
 use Rattle.edge_io.specs.declared.fault.NoMemory.{NoMemory}
 use Rattle.alert_json.specs.declared.line_walk.LinesTaken.{LinesTaken}
-use Rattle.alert_json.specs.declared.line_walk.Step.{Step}
-use Rattle.alert_json.specs.declared.line_walk.Step.TheVariants as step
+use Rattle.alert_json.specs.declared.line_walk.LineStep.{LineStep}
+use Rattle.alert_json.specs.declared.line_walk.LineStep.TheVariants as step
 use Rattle.alert_json.specs.declared.line_year.YearFrom.{YearFrom}
 use Rattle.alert_json.specs.Facts.{EventFacts, RunFacts}
 use Rattle.alert_json.specs.Value.{event_line}
@@ -123,11 +123,11 @@ walk-step run from next bytes rest old now new before after size walks cut is fi
 }
 
 -- by what was taken at the front of the rest
-pub walk-on : (run : RunFacts) (from next : YearFrom) (bytes rest old now new : List ℕ) (before after : LinesTaken) (size : ℕ) (s : Step) → WalksLines run from bytes old now before
+pub walk-on : (run : RunFacts) (from next : YearFrom) (bytes rest old now new : List ℕ) (before after : LinesTaken) (size : ℕ) (s : LineStep) → WalksLines run from bytes old now before
     → rest ≡ take (length bytes - before.size) (drop before.size bytes) → s ≡ step.Took size next → IsStep run before.next rest now new s
     → after.size ≡ before.size + size → after.count ≡ before.count + 1 → after.next ≡ next → WalksLines run from bytes old new after
 walk-on run from next bytes rest old now new before after size s walks cut same given placed counted year =
-    let took = subst (λ (x : Step). IsStep run before.next rest now new x) same given in
+    let took = subst (λ (x : LineStep). IsStep run before.next rest now new x) same given in
     walk-step run from next bytes rest old now new before after size walks (cut ∙ take_rest bytes before.size) took.0 took.1 took.2 placed counted year
 
 -- there is room for one line more among those of bytes
@@ -155,7 +155,7 @@ pub none-ever-told : (from : YearFrom) (bytes : List ℕ) → (0 < length bytes)
 none-ever-told from bytes none = record { some = none.0; none = λ more. inl (none.1 more) }
 
 -- what a whole line gave is what the front of bytes gave
-whole-step : (run : RunFacts) (from : YearFrom) (bytes old new : List ℕ) (size : ℕ) (s : Step) → IsLine (take size bytes) × (size ≤ length bytes)
+whole-step : (run : RunFacts) (from : YearFrom) (bytes old new : List ℕ) (size : ℕ) (s : LineStep) → IsLine (take size bytes) × (size ≤ length bytes)
     → IsWholeStep run from (take size bytes) old new s → IsStep run from bytes old new s
 whole-step run from bytes old new size (step.Took count next) is whole =
     let same : count ≡ size = omega (arith, whole.0, is.1, length-take size bytes) in
@@ -163,7 +163,7 @@ whole-step run from bytes old new size (step.Took count next) is whole =
 whole-step run from bytes old new size step.Waits is whole = absurd whole
 whole-step run from bytes old new size step.Foreign is whole = (untold-ever from bytes size is.0 is.1 whole.0, whole.1)
 
-pub front-step : (run : RunFacts) (from : YearFrom) (bytes old new : List ℕ) (size : ℕ) (r : Result Step NoMemory) → IsLine (take size bytes) × (size ≤ length bytes)
-    → IfOk r (λ (s : Step). IsWholeStep run from (take size bytes) old new s) → IfOk r (λ (s : Step). IsStep run from bytes old new s)
+pub front-step : (run : RunFacts) (from : YearFrom) (bytes old new : List ℕ) (size : ℕ) (r : Result LineStep NoMemory) → IsLine (take size bytes) × (size ≤ length bytes)
+    → IfOk r (λ (s : LineStep). IsWholeStep run from (take size bytes) old new s) → IfOk r (λ (s : LineStep). IsStep run from bytes old new s)
 front-step run from bytes old new size (Ok s) is whole = whole-step run from bytes old new size s is whole
 front-step run from bytes old new size (Err fault) is whole = tt

@@ -11,7 +11,7 @@ use Rattle.conf_parser.specs.declared.line.LoadStop.{LoadStop}
 use Rattle.conf_parser.specs.declared.line.LoadStop.TheVariants as stop
 use Rattle.conf_parser.specs.declared.loaded.Loaded.{Loaded}
 use Rattle.conf_parser.specs.declared.reading.Output.{Output}
-use Rattle.conf_parser.specs.declared.reading.Read.{Read}
+use Rattle.conf_parser.specs.declared.reading.ReadSoFar.{ReadSoFar}
 use Rattle.conf_parser.specs.declared.reading.Stopped.{Stopped}
 use Rattle.conf_parser.specs.declared.reading.Stopped.TheVariants as stopped
 use Rattle.conf_parser.specs.Reading.{Contents, told, Ended, Whole, Refused, Asks, file_count, file_read, nothing_read, read_files}
@@ -47,7 +47,7 @@ none-after count high seen name e = ap (λ b. cond b (seen high name) None) (le-
 
 -- ---- whole
 
-pub loading-whole : {A : Type 0} (x : A) (host : Option Files) (high : ℕ) (name : List ℕ) (before : Variables) (read : Read) (vars : Variables) (out : Loaded)
+pub loading-whole : {A : Type 0} (x : A) (host : Option Files) (high : ℕ) (name : List ℕ) (before : Variables) (read : ReadSoFar) (vars : Variables) (out : Loaded)
     → Goes host 0 high (reading_of name before) (whole_next read) → vars ≡ read.settings.vars → out ≡ loaded_of read → IsLoading host name before (Ok x) vars out
 loading-whole x host high name before read vars out goes v o = record {
   seen = goes.seen;
@@ -55,7 +55,7 @@ loading-whole x host high name before read vars out goes v o = record {
   ends = record { read = read; whole = read_files-is goes.seen name before ∙ goes.goes goes.seen (same-seen 0 high goes.seen); vars_are = v; out_is = o };
 }
 
-pub told-whole : {A : Type 0} (x : A) (rose : Type 0) (host : Option Files) (files : Files) (high : ℕ) (name : List ℕ) (before : Variables) (read : Read) (vars : Variables) (out : Loaded)
+pub told-whole : {A : Type 0} (x : A) (rose : Type 0) (host : Option Files) (files : Files) (high : ℕ) (name : List ℕ) (before : Variables) (read : ReadSoFar) (vars : Variables) (out : Loaded)
     → host ≡ Some files → Goes host 0 high (reading_of name before) (whole_next read) → vars ≡ read.settings.vars → out ≡ loaded_of read
     → EndsUnlessFailed rose (read_files (told files) name before) (Ok x) vars out
 told-whole x rose host files high name before read vars out is goes v o = record {
@@ -120,26 +120,26 @@ failed-stopped rose host stopped.NoMemory answer out cause hands = subst (HasFai
 -- ---- the first file
 
 -- the first file may be read
-pub first-may : (name first : List ℕ) (vars : Variables) (before : Read) → first ≡ name → before ≡ nothing_read vars → IsUtf8 name → MayBeRead (file_count before) first
+pub first-may : (name first : List ℕ) (vars : Variables) (before : ReadSoFar) → first ≡ name → before ≡ nothing_read vars → IsUtf8 name → MayBeRead (file_count before) first
 first-may name first vars before n b text =
     subst (λ (f : List ℕ). MayBeRead (file_count before) f) (sym n)
-    (subst (λ (r : Read). MayBeRead (file_count r) name) (sym b) (record { text = is_utf8-from_IsUtf8 name text; few = lit< tt }))
+    (subst (λ (r : ReadSoFar). MayBeRead (file_count r) name) (sym b) (record { text = is_utf8-from_IsUtf8 name text; few = lit< tt }))
 
 -- the place of the first file
 abbrev pub start : At
 start = record { file = 0; line = 0 }
 
 -- the reading of the first file is that of all files
-pub first-goes : (host : Option Files) (name first : List ℕ) (vars : Variables) (before : Read) (result : Result Read Stopped) → first ≡ name → before ≡ nothing_read vars
+pub first-goes : (host : Option Files) (name first : List ℕ) (vars : Variables) (before : ReadSoFar) (result : Result ReadSoFar Stopped) → first ≡ name → before ≡ nothing_read vars
     → GoesOn host (file_count before) file_count whole_next (λ contents. file_read contents 16 first start before) result
     → GoesOn host 0 file_count whole_next (reading_of name vars) result
 first-goes host name first vars before result n b x =
-    subst (λ (r : Read). GoesOn host (file_count r) file_count whole_next (λ contents. file_read contents 16 name start r) result) b
+    subst (λ (r : ReadSoFar). GoesOn host (file_count r) file_count whole_next (λ contents. file_read contents 16 name start r) result) b
     (subst (λ (f : List ℕ). GoesOn host (file_count before) file_count whole_next (λ contents. file_read contents 16 f start before) result) n x)
 
 -- an answer that is whole, and one that is not
-abbrev pub whole : Read → Result Read Stopped
+abbrev pub whole : ReadSoFar → Result ReadSoFar Stopped
 whole read = Ok read
 
-abbrev pub stopped_at : Stopped → Result Read Stopped
+abbrev pub stopped_at : Stopped → Result ReadSoFar Stopped
 stopped_at stop = Err stop

@@ -4,9 +4,9 @@ use Rattle.std.specs.Prelude.{IfErr}
 use Rattle.std.proofs.lemmas.Bool.{lt-ltb, le-ltb}
 use Rattle.std.specs.FinMap.{get}
 use Rattle.edge_io.specs.Files.{Files, Lacks}
-use Rattle.net_lists.specs.declared.lines.Numbered.{Numbered}
+use Rattle.net_lists.specs.declared.lines.NumberedLine.{NumberedLine}
 use Rattle.conf_parser.specs.declared.reading.At.{At}
-use Rattle.conf_parser.specs.declared.reading.Read.{Read}
+use Rattle.conf_parser.specs.declared.reading.ReadSoFar.{ReadSoFar}
 use Rattle.conf_parser.specs.declared.reading.Source.{Source}
 use Rattle.conf_parser.specs.declared.reading.Stopped.{Stopped}
 use Rattle.conf_parser.specs.declared.reading.Stopped.TheVariants as stopped
@@ -72,7 +72,7 @@ goes-stops host low mid a b (stopped.Asks name output) x y = record {
 }
 
 -- a first part that is whole, and what follows it
-goes-onward : (host : Option Files) (low high : ℕ) (a : Contents → Ended) (next : Contents → Read → Ended) (read : Read) → Goes host low high a (λ contents. Whole read)
+goes-onward : (host : Option Files) (low high : ℕ) (a : Contents → Ended) (next : Contents → ReadSoFar → Ended) (read : ReadSoFar) → Goes host low high a (λ contents. Whole read)
     → Goes host low high (λ contents. onward (a contents) (next contents)) (λ contents. next contents read)
 goes-onward host low high a next read x = record {
   seen = x.seen;
@@ -82,7 +82,7 @@ goes-onward host low high a next read x = record {
 }
 
 -- a first part that stops
-stops-onward : (host : Option Files) (low : ℕ) (a : Contents → Ended) (next : Contents → Read → Ended) (stop : Stopped) → Stops host low a stop
+stops-onward : (host : Option Files) (low : ℕ) (a : Contents → Ended) (next : Contents → ReadSoFar → Ended) (stop : Stopped) → Stops host low a stop
     → Stops host low (λ contents. onward (a contents) (next contents)) stop
 stops-onward host low a next stopped.NoMemory x = tt
 stops-onward host low a next (stopped.Refused fault output) x = (
@@ -104,16 +104,19 @@ stops-onward host low a next (stopped.Asks name output) x = record {
 -- ---- lines
 
 -- the reading of these lines
-abbrev pub lines_of : ℕ → Source → List Numbered → Read → Contents → Ended
+abbrev pub lines_of : ℕ → Source → List NumberedLine → ReadSoFar → Contents → Ended
 lines_of left source lines read contents = lines_read (inner contents left) source lines read
 
 -- the reading of this line
-abbrev pub line_of : ℕ → Source → Numbered → Read → Contents → Ended
+abbrev pub line_of : ℕ → Source → NumberedLine → ReadSoFar → Contents → Ended
 line_of left source line read contents = line_read (inner contents left) source line read
 
 -- one line more
-pub lines-next : (host : Option Files) (low mid high left : ℕ) (source : Source) (a : Contents → Ended) (lines rest : List Numbered) (line : Numbered) (read next : Read) → lines ≡ line ∷ rest
-    → Goes host low mid a (lines_of left source lines read) → Goes host mid high (line_of left source line read) (λ contents. Whole next)
+pub lines-next : (host : Option Files) (low mid high left : ℕ) (source : Source) (a : Contents → Ended)
+    (lines rest : List NumberedLine) (line : NumberedLine) (read next : ReadSoFar)
+    → lines ≡ line ∷ rest
+    → Goes host low mid a (lines_of left source lines read)
+    → Goes host mid high (line_of left source line read) (λ contents. Whole next)
     → Goes host low high a (lines_of left source rest next)
 unfolding lines_read
 lines-next host low mid high left source a lines rest line read next begins x y =
@@ -122,8 +125,12 @@ lines-next host low mid high left source a lines rest line read next begins x y 
     (goes-onward host mid high (line_of left source line read) (λ contents. lines_read (inner contents left) source rest) next y)
 
 -- a line that stops
-pub lines-stop : (host : Option Files) (low mid left : ℕ) (source : Source) (a : Contents → Ended) (lines rest : List Numbered) (line : Numbered) (read : Read) (stop : Stopped) → lines ≡ line ∷ rest
-    → Goes host low mid a (lines_of left source lines read) → Stops host mid (line_of left source line read) stop → Stops host low a stop
+pub lines-stop : (host : Option Files) (low mid left : ℕ) (source : Source) (a : Contents → Ended)
+    (lines rest : List NumberedLine) (line : NumberedLine) (read : ReadSoFar) (stop : Stopped)
+    → lines ≡ line ∷ rest
+    → Goes host low mid a (lines_of left source lines read)
+    → Stops host mid (line_of left source line read) stop
+    → Stops host low a stop
 unfolding lines_read
 lines-stop host low mid left source a lines rest line read stop begins x y =
     goes-stops host low mid a (lines_of left source (line ∷ rest) read) stop
@@ -143,13 +150,13 @@ stops-from host low a b (stopped.Asks name output) same x = record { seen = x.se
 -- ---- answers
 
 -- a part after which another one answers
-pub goes-then : (host : Option Files) (low mid : ℕ) (a b : Contents → Ended) (result : Result Read Stopped) → Goes host low mid a b
+pub goes-then : (host : Option Files) (low mid : ℕ) (a b : Contents → Ended) (result : Result ReadSoFar Stopped) → Goes host low mid a b
     → GoesOn host mid file_count whole_next b result → GoesOn host low file_count whole_next a result
 goes-then host low mid a b (Ok read) x y = goes-goes host low mid (file_count read) a b (whole_next read) x y
 goes-then host low mid a b (Err stop) x y = goes-stops host low mid a b stop x y
 
 -- an equal reading goes on with the same answer
-pub goes_on-from : (host : Option Files) (low mid : ℕ) (a b : Contents → Ended) (result : Result Read Stopped) → mid ≡ low → ((contents : Contents) → a contents ≡ b contents)
+pub goes_on-from : (host : Option Files) (low mid : ℕ) (a b : Contents → Ended) (result : Result ReadSoFar Stopped) → mid ≡ low → ((contents : Contents) → a contents ≡ b contents)
     → GoesOn host mid file_count whole_next b result → GoesOn host low file_count whole_next a result
 goes_on-from host low mid a b (Ok read) count same x =
     subst (λ n. Goes host n (file_count read) a (whole_next read)) count (goes-from host mid (file_count read) a b (whole_next read) same x)
@@ -157,7 +164,7 @@ goes_on-from host low mid a b (Err stop) count same x =
     subst (λ n. Stops host n a stop) count (stops-from host mid a b stop same x)
 
 -- a line after which the reading goes on at once
-pub line-onward : (host : Option Files) (left : ℕ) (source : Source) (line : Numbered) (before read : Read) → file_count read ≡ file_count before
+pub line-onward : (host : Option Files) (left : ℕ) (source : Source) (line : NumberedLine) (before read : ReadSoFar) → file_count read ≡ file_count before
     → ((including : Including) → line_read including source line before ≡ Whole read) → Goes host (file_count before) (file_count read) (line_of left source line before) (whole_next read)
 line-onward host left source line before read count same = record {
   seen = seen_by host;
@@ -167,7 +174,7 @@ line-onward host left source line before read count same = record {
 }
 
 -- a line at which the reading stops
-pub line-stops : (host : Option Files) (left : ℕ) (source : Source) (line : Numbered) (before : Read) (stop : Stopped) → StepsTo source line before (Err stop)
+pub line-stops : (host : Option Files) (left : ℕ) (source : Source) (line : NumberedLine) (before : ReadSoFar) (stop : Stopped) → StepsTo source line before (Err stop)
     → Stops host (file_count before) (line_of left source line before) stop
 line-stops host left source line before stopped.NoMemory steps = tt
 line-stops host left source line before (stopped.Refused fault output) steps = (
@@ -189,7 +196,7 @@ cause-since first second host now (stopped.Refused fault output) since same caus
 cause-since first second host now stopped.NoMemory since same cause = tt
 
 -- no line more
-pub lines-end : (host : Option Files) (low high left : ℕ) (source : Source) (a : Contents → Ended) (lines : List Numbered) (read : Read) → length lines ≡ 0
+pub lines-end : (host : Option Files) (low high left : ℕ) (source : Source) (a : Contents → Ended) (lines : List NumberedLine) (read : ReadSoFar) → length lines ≡ 0
     → Goes host low high a (lines_of left source lines read) → Goes host low high a (whole_next read)
 unfolding lines_read
 lines-end host low high left source a [] read ends x = x
@@ -199,7 +206,7 @@ lines-end host low high left source a (line ∷ lines) read ends x = absurd (nev
     never e = omega arith
 
 -- where no include may nest, what was read is all
-pub inner-none : (host : Option Files) (left : ℕ) (name : List ℕ) (at : At) (read : Read)
+pub inner-none : (host : Option Files) (left : ℕ) (name : List ℕ) (at : At) (read : ReadSoFar)
     → left ≡ 0
     → Goes host (file_count read) (file_count read) (λ contents. inner contents left name at read) (whole_next read)
 inner-none host left name at read none =
@@ -207,7 +214,7 @@ inner-none host left name at read none =
     (λ contents. ap (λ n. inner contents n name at read) none) (goes-refl host (file_count read) (whole_next read))
 
 -- where one may, its file is read
-pub inner-some : (host : Option Files) (left : ℕ) (name : List ℕ) (at : At) (read : Read) (result : Result Read Stopped) → 0 < left
+pub inner-some : (host : Option Files) (left : ℕ) (name : List ℕ) (at : At) (read : ReadSoFar) (result : Result ReadSoFar Stopped) → 0 < left
     → GoesOn host (file_count read) file_count whole_next (λ contents. file_read contents (left - 1) name at read) result
     → GoesOn host (file_count read) file_count whole_next (λ contents. inner contents left name at read) result
 inner-some host left name at read result some x =
@@ -216,7 +223,7 @@ inner-some host left name at read result some x =
     (λ contents. ap (λ n. inner contents n name at read) more) x
 
 -- a cause that came later, of an answer
-pub if_err-since : (first second : Type 0) (host now : Option Files) (result : Result Read Stopped)
+pub if_err-since : (first second : Type 0) (host now : Option Files) (result : Result ReadSoFar Stopped)
     → (second → first)
     → now ≡ host
     → IfErr result (HasCause second now)

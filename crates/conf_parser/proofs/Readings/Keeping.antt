@@ -4,14 +4,14 @@ use Rattle.std.proofs.Common.{◌≡◌, ℕ, zero, suc, ◌+◌, ◌-◌, ◌<�
 use Rattle.std.specs.Prelude.{⊤, nat_le}
 use Rattle.net_lists.specs.Variables.{Variables}
 use Rattle.conf_parser.specs.declared.draft.Settings.{Settings}
-use Rattle.conf_parser.specs.declared.given.Given.{Given}
-use Rattle.conf_parser.specs.declared.given.Given.TheVariants.{Nothing, Rule, Skipped, Include}
+use Rattle.conf_parser.specs.declared.given.LineResult.{LineResult}
+use Rattle.conf_parser.specs.declared.given.LineResult.TheVariants.{Nothing, Rule, Skipped, Include}
 use Rattle.conf_parser.specs.declared.given.Onward.{Onward}
 use Rattle.conf_parser.specs.declared.line.ConfKind.{ConfKind}
-use Rattle.net_lists.specs.declared.lines.Numbered.{Numbered}
+use Rattle.net_lists.specs.declared.lines.NumberedLine.{NumberedLine}
 use Rattle.conf_parser.specs.declared.reading.At.{At}
 use Rattle.conf_parser.specs.declared.reading.Output.{Output}
-use Rattle.conf_parser.specs.declared.reading.Read.{Read}
+use Rattle.conf_parser.specs.declared.reading.ReadSoFar.{ReadSoFar}
 use Rattle.conf_parser.specs.declared.reading.Source.{Source}
 use Rattle.conf_parser.specs.Spots.{Spot}
 use Rattle.conf_parser.specs.ConfLine.{conf_line}
@@ -32,15 +32,15 @@ module _ (P : Settings → Type 0) where
 
   -- an included file keeps it
   abbrev IncludesKeep : Including → Type 0
-  IncludesKeep including = (name : List ℕ) (at : At) (read : Read) → P read.settings → Onward-all (including name at read)
+  IncludesKeep including = (name : List ℕ) (at : At) (read : ReadSoFar) → P read.settings → Onward-all (including name at read)
 
-  onward-keeps : (ended : Ended) (next : Read → Ended) → Onward-all ended → ((read : Read) → P read.settings → Onward-all (next read)) → Onward-all (onward ended next)
+  onward-keeps : (ended : Ended) (next : ReadSoFar → Ended) → Onward-all ended → ((read : ReadSoFar) → P read.settings → Onward-all (next read)) → Onward-all (onward ended next)
   onward-keeps (Whole read) next p all = all read p
   onward-keeps (Refused fault output) next p all = tt
   onward-keeps (Asks name output) next p all = tt
 
-  given-keeps : (including : Including) (source : Source) (line : Numbered) (settings : Settings) (output : Output)
-      (given : Given)
+  given-keeps : (including : Including) (source : Source) (line : NumberedLine) (settings : Settings) (output : Output)
+      (given : LineResult)
       → IncludesKeep including
       → P settings
       → Onward-all (given_read including source line settings output given)
@@ -49,21 +49,25 @@ module _ (P : Settings → Type 0) where
   given-keeps including source line settings output (Skipped directive name) inner p = p
   given-keeps including source line settings output (Include name) inner p = inner name (line_at source line) (read_with settings output) p
 
-  meaning-keeps : (including : Including) (source : Source) (line : Numbered) (output : Output) (meant : Result Onward ConfKind)
+  meaning-keeps : (including : Including) (source : Source) (line : NumberedLine) (output : Output) (meant : Result Onward ConfKind)
       → IncludesKeep including
       → ((after : Onward) → meant ≡ Ok after → P after.settings)
       → Onward-all (meaning_read including source line output meant)
   meaning-keeps including source line output (Ok after) inner all = given-keeps including source line after.settings output after.given inner (all after refl)
   meaning-keeps including source line output (Err kind) inner all = tt
 
-  line-keeps : LinesKeep → (including : Including) (source : Source) (line : Numbered) (read : Read) → IncludesKeep including → P read.settings → Onward-all (line_read including source line read)
+  line-keeps : LinesKeep
+      → (including : Including) (source : Source) (line : NumberedLine) (read : ReadSoFar)
+      → IncludesKeep including
+      → P read.settings
+      → Onward-all (line_read including source line read)
   unfolding line_read
   line-keeps keeps including source line read inner p =
       meaning-keeps including source line read.output _ inner
       (λ after meant. keeps (record { file = source.name; depth = source.depth; files = file_count read }) read.settings line.text after meant p)
 
   lines-keep : LinesKeep
-      → (including : Including) (source : Source) (lines : List Numbered) (read : Read)
+      → (including : Including) (source : Source) (lines : List NumberedLine) (read : ReadSoFar)
       → IncludesKeep including
       → P read.settings
       → Onward-all (lines_read including source lines read)
@@ -73,7 +77,7 @@ module _ (P : Settings → Type 0) where
       onward-keeps (line_read including source line read) (lines_read including source rest) (line-keeps keeps including source line read inner p)
       (λ next q. lines-keep keeps including source rest next inner q)
 
-  contents-keep : LinesKeep → (including : Including) (depth : ℕ) (name : List ℕ) (at : At) (read : Read) (contents : Option (List ℕ)) → IncludesKeep including → P read.settings
+  contents-keep : LinesKeep → (including : Including) (depth : ℕ) (name : List ℕ) (at : At) (read : ReadSoFar) (contents : Option (List ℕ)) → IncludesKeep including → P read.settings
       → Onward-all (contents_read including depth name at read contents)
   unfolding contents_read
   contents-keep keeps including depth name at read None inner p = tt
@@ -95,7 +99,7 @@ module _ (P : Settings → Type 0) where
 
   -- what each line keeps holds after a reading that was whole
   pub whole-keeps : LinesKeep
-      → (contents : Contents) (name : List ℕ) (variables : Variables) (read : Read)
+      → (contents : Contents) (name : List ℕ) (variables : Variables) (read : ReadSoFar)
       → P (nothing_read variables).settings
       → read_files contents name variables ≡ Whole read
       → P read.settings

@@ -9,7 +9,7 @@ use Rattle.conf_parser.specs.declared.line.ConfFault.{ConfFault}
 use Rattle.conf_parser.specs.declared.line.ConfKind.TheVariants.{TooLarge}
 use Rattle.conf_parser.specs.declared.reading.At.{At}
 use Rattle.conf_parser.specs.declared.reading.Output.{Output}
-use Rattle.conf_parser.specs.declared.reading.Read.{Read}
+use Rattle.conf_parser.specs.declared.reading.ReadSoFar.{ReadSoFar}
 use Rattle.conf_parser.specs.declared.reading.Stopped.{Stopped}
 use Rattle.conf_parser.specs.declared.reading.Stopped.TheVariants as stopped
 use Rattle.conf_parser.specs.Reading.{Contents, Refused, Asks, fault_at, file_count, most_bytes, too_large, contents_read, file_read}
@@ -19,7 +19,7 @@ use Rattle.conf_parser.proofs.Readings.Goings.{seen_by, tells-seen_by}
 -- ---- a file by its contents
 
 -- the reading of a file, by what the contents say of it
-file_read-is : (contents : Contents) (left : ℕ) (name : List ℕ) (at : At) (read : Read) → left ≤ 16
+file_read-is : (contents : Contents) (left : ℕ) (name : List ℕ) (at : At) (read : ReadSoFar) → left ≤ 16
     → file_read contents left name at read ≡ contents_read (inner contents left) (16 - left) name at read (contents (file_count read) name)
 unfolding file_read
 file_read-is contents zero name at read within = refl
@@ -28,21 +28,21 @@ file_read-is contents (suc left) name at read within =
     ap (λ d. contents_read (file_read contents left) d name at read (contents (file_count read) name)) depth
 
 -- a file within the limit is read
-contents-fit : (contents : Contents) (left : ℕ) (name : List ℕ) (at : At) (read : Read) (bytes : List ℕ) → length bytes ≤ most_bytes
+contents-fit : (contents : Contents) (left : ℕ) (name : List ℕ) (at : At) (read : ReadSoFar) (bytes : List ℕ) → length bytes ≤ most_bytes
     → contents_read (inner contents left) (16 - left) name at read (Some bytes) ≡ opened_next left (opened_of left name read bytes) contents
 unfolding contents_read
 contents-fit contents left name at read bytes within =
     ap (λ b. cond b (opened_next left (opened_of left name read bytes) contents) (too_large at name read.output)) (le-leb (length bytes) most_bytes within)
 
 -- a longer one is refused
-contents-long : (contents : Contents) (left : ℕ) (name : List ℕ) (at : At) (read : Read) (bytes : List ℕ) → most_bytes < length bytes
+contents-long : (contents : Contents) (left : ℕ) (name : List ℕ) (at : At) (read : ReadSoFar) (bytes : List ℕ) → most_bytes < length bytes
     → contents_read (inner contents left) (16 - left) name at read (Some bytes) ≡ Refused (fault_at at TooLarge) (output_before at name read.output)
 unfolding contents_read
 contents-long contents left name at read bytes long =
     ap (λ b. cond b (opened_next left (opened_of left name read bytes) contents) (too_large at name read.output)) (lt-leb (length bytes) most_bytes long)
 
 -- a file that lacks is asked for
-contents-none : (contents : Contents) (left : ℕ) (name : List ℕ) (at : At) (read : Read) → contents_read (inner contents left) (16 - left) name at read None ≡ Asks name read.output
+contents-none : (contents : Contents) (left : ℕ) (name : List ℕ) (at : At) (read : ReadSoFar) → contents_read (inner contents left) (16 - left) name at read None ≡ Asks name read.output
 unfolding contents_read
 contents-none contents left name at read = refl
 
@@ -67,7 +67,7 @@ one_more files name =
     let one : length (name ∷ []) ≡ 1 = refl in
     omega (arith, length-append files (name ∷ []))
 
-pub goes-opened : (host : Option Files) (left : ℕ) (name : List ℕ) (at : At) (read : Read) (bytes : List ℕ) → left ≤ 16 → Holds host name bytes → length bytes ≤ most_bytes
+pub goes-opened : (host : Option Files) (left : ℕ) (name : List ℕ) (at : At) (read : ReadSoFar) (bytes : List ℕ) → left ≤ 16 → Holds host name bytes → length bytes ≤ most_bytes
     → Goes host (file_count read) (opened_count (opened_of left name read bytes)) (λ contents. file_read contents left name at read) (opened_next left (opened_of left name read bytes))
 goes-opened host left name at read bytes within holds fits =
     let more : file_count read < opened_count (opened_of left name read bytes) = one_more read.output.files name in
@@ -91,7 +91,7 @@ long_bytes : (host : Option Files) (name : List ℕ) → IsLonger host name most
 long_bytes None name long = let bytes = longer most_bytes in (bytes.0, (tt, bytes.1))
 long_bytes (Some files) name long = (long.0, (long.1, long.2))
 
-stops-long : (host : Option Files) (left : ℕ) (name : List ℕ) (at : At) (read : Read) → left ≤ 16 → IsLonger host name most_bytes
+stops-long : (host : Option Files) (left : ℕ) (name : List ℕ) (at : At) (read : ReadSoFar) → left ≤ 16 → IsLonger host name most_bytes
     → Stops host (file_count read) (λ contents. file_read contents left name at read) (stopped.Refused (fault_at at TooLarge) (output_before at name read.output))
 stops-long host left name at read within long =
     let told = long_bytes host name long in (
@@ -107,7 +107,7 @@ stops-long host left name at read within long =
       },
     )
 
-asks-missing : (host : Option Files) (left : ℕ) (name : List ℕ) (at : At) (read : Read) → left ≤ 16
+asks-missing : (host : Option Files) (left : ℕ) (name : List ℕ) (at : At) (read : ReadSoFar) → left ≤ 16
     → Stops host (file_count read) (λ contents. file_read contents left name at read) (stopped.Asks name read.output)
 asks-missing host left name at read within = record {
   seen = seen_by host;
@@ -123,7 +123,7 @@ asks-missing host left name at read within = record {
 abbrev pub unloaded : LoadFault → Result (List ℕ) LoadFault
 unloaded fault = Err fault
 
-pub stops-unloaded : (host : Option Files) (left : ℕ) (name : List ℕ) (at : At) (read : Read) (fault : LoadFault) (stop : Stopped) → left ≤ 16
+pub stops-unloaded : (host : Option Files) (left : ℕ) (name : List ℕ) (at : At) (read : ReadSoFar) (fault : LoadFault) (stop : Stopped) → left ≤ 16
     → LoadsFile host name (unloaded fault) → StopsAtFile name at read.output fault stop → Stops host (file_count read) (λ contents. file_read contents left name at read) stop
 stops-unloaded host left name at read load.Failed stop within loads is =
     subst (λ (s : Stopped). Stops host (file_count read) (λ contents. file_read contents left name at read) s) (sym is) (asks-missing host left name at read within)

@@ -7,8 +7,8 @@ use Rattle.std.proofs.lemmas.Bool.Decides.{nat_tests}
 use Rattle.edge_io.specs.Files.{Files}
 use Rattle.net_lists.specs.Variables.{Variables}
 use Rattle.conf_parser.specs.declared.draft.Settings.{Settings}
-use Rattle.conf_parser.specs.declared.given.Given.{Given}
-use Rattle.conf_parser.specs.declared.given.Given.TheVariants.{Nothing, Rule, Skipped, Include}
+use Rattle.conf_parser.specs.declared.given.LineResult.{LineResult}
+use Rattle.conf_parser.specs.declared.given.LineResult.TheVariants.{Nothing, Rule, Skipped, Include}
 use Rattle.conf_parser.specs.declared.given.Onward.{Onward}
 use Rattle.conf_parser.specs.declared.line.ConfFault.{ConfFault}
 use Rattle.conf_parser.specs.declared.line.ConfKind.{ConfKind}
@@ -16,11 +16,11 @@ use Rattle.conf_parser.specs.declared.line.Line.{Line}
 use Rattle.conf_parser.specs.declared.line.Warning.{Warning}
 use Rattle.conf_parser.specs.declared.line.LoadStop.{LoadStop}
 use Rattle.conf_parser.specs.declared.line.LoadStop.TheVariants as stop
-use Rattle.net_lists.specs.declared.lines.Numbered.{Numbered}
+use Rattle.net_lists.specs.declared.lines.NumberedLine.{NumberedLine}
 use Rattle.conf_parser.specs.declared.loaded.Loaded.{Loaded}
 use Rattle.conf_parser.specs.declared.reading.At.{At}
 use Rattle.conf_parser.specs.declared.reading.Output.{Output}
-use Rattle.conf_parser.specs.declared.reading.Read.{Read}
+use Rattle.conf_parser.specs.declared.reading.ReadSoFar.{ReadSoFar}
 use Rattle.conf_parser.specs.declared.reading.Source.{Source}
 use Rattle.conf_parser.specs.ConfLine.{conf_line}
 use Rattle.conf_parser.specs.Lines.{content_lines}
@@ -57,13 +57,13 @@ with_file-in output name h =
       warnings = λ k d within. let low = h.warnings k d within in omega (arith, low, more);
     }
 
-with_rule-in : (output : Output) (source : Source) (line : Numbered) → source.place < length output.files → AreIn output → AreIn (with_rule output source line)
+with_rule-in : (output : Output) (source : Source) (line : NumberedLine) → source.place < length output.files → AreIn output → AreIn (with_rule output source line)
 with_rule-in output source line place h = record {
   rules = All-append (λ (rule : Line). rule.file < length output.files) output.rules _ h.rules (all_one (λ (rule : Line). rule.file < length output.files) _ place);
   warnings = h.warnings;
 }
 
-with_warning-in : (output : Output) (source : Source) (line : Numbered) (directive name : List ℕ)
+with_warning-in : (output : Output) (source : Source) (line : NumberedLine) (directive name : List ℕ)
     → source.place < length output.files
     → AreIn output
     → AreIn (with_warning output source line directive name)
@@ -83,9 +83,12 @@ IsPlaced : ℕ → At → Type 0
 IsPlaced count at = (at.file < count) ⊎ ((at.file ≡ 0) × (at.line ≡ 0))
 
 IncludesIn : Including → Type 0
-IncludesIn including = (name : List ℕ) (at : At) (read : Read) → IsPlaced (file_count read) at → AreIn read.output → EndsIn (file_count read) (including name at read)
+IncludesIn including = (name : List ℕ) (at : At) (read : ReadSoFar) → IsPlaced (file_count read) at → AreIn read.output → EndsIn (file_count read) (including name at read)
 
-onward-in : (low : ℕ) (ended : Ended) (next : Read → Ended) → EndsIn low ended → ((read : Read) → low ≤ file_count read → AreIn read.output → EndsIn low (next read)) → EndsIn low (onward ended next)
+onward-in : (low : ℕ) (ended : Ended) (next : ReadSoFar → Ended)
+    → EndsIn low ended
+    → ((read : ReadSoFar) → low ≤ file_count read → AreIn read.output → EndsIn low (next read))
+    → EndsIn low (onward ended next)
 unfolding EndsIn
 onward-in low (Whole read) next h all = all read h.0 h.1
 onward-in low (Refused fault output) next h all = h
@@ -98,7 +101,7 @@ ends-earlier low high (Whole read) l h = (omega (arith, h.0), h.1)
 ends-earlier low high (Refused fault output) l h = h
 ends-earlier low high (Asks name output) l h = h
 
-given-in : (including : Including) (source : Source) (line : Numbered) (settings : Settings) (output : Output) (given : Given)
+given-in : (including : Including) (source : Source) (line : NumberedLine) (settings : Settings) (output : Output) (given : LineResult)
     → IncludesIn including
     → source.place < length output.files
     → AreIn output
@@ -109,13 +112,16 @@ given-in including source line settings output Rule inner place h = (omega arith
 given-in including source line settings output (Skipped directive name) inner place h = (omega arith, with_warning-in output source line directive name place h)
 given-in including source line settings output (Include name) inner place h = inner name (line_at source line) (read_with settings output) (inl place) h
 
-meaning-in : (including : Including) (source : Source) (line : Numbered) (output : Output) (meant : Result Onward ConfKind) → IncludesIn including → source.place < length output.files → AreIn output
+meaning-in : (including : Including) (source : Source) (line : NumberedLine) (output : Output) (meant : Result Onward ConfKind)
+    → IncludesIn including
+    → source.place < length output.files
+    → AreIn output
     → EndsIn (length output.files) (meaning_read including source line output meant)
 unfolding EndsIn
 meaning-in including source line output (Ok after) inner place h = given-in including source line after.settings output after.given inner place h
 meaning-in including source line output (Err kind) inner place h = (place, h)
 
-line-in : (including : Including) (source : Source) (line : Numbered) (read : Read)
+line-in : (including : Including) (source : Source) (line : NumberedLine) (read : ReadSoFar)
     → IncludesIn including
     → source.place < file_count read
     → AreIn read.output
@@ -123,7 +129,7 @@ line-in : (including : Including) (source : Source) (line : Numbered) (read : Re
 unfolding line_read
 line-in including source line read inner place h = meaning-in including source line read.output _ inner place h
 
-lines-in : (including : Including) (source : Source) (lines : List Numbered) (read : Read)
+lines-in : (including : Including) (source : Source) (lines : List NumberedLine) (read : ReadSoFar)
     → IncludesIn including
     → source.place < file_count read
     → AreIn read.output
@@ -146,7 +152,7 @@ too_large-in name at output (inr first) h =
     subst (λ b. (at.file < length ((cond b output (with_file output name)).files)) × AreIn (cond b output (with_file output name))) (sym own)
     (omega (arith, first.0, more_files output.files name), with_file-in output name h)
 
-contents-in : (including : Including) (depth : ℕ) (name : List ℕ) (at : At) (read : Read) (contents : Option (List ℕ)) → IncludesIn including → IsPlaced (file_count read) at → AreIn read.output
+contents-in : (including : Including) (depth : ℕ) (name : List ℕ) (at : At) (read : ReadSoFar) (contents : Option (List ℕ)) → IncludesIn including → IsPlaced (file_count read) at → AreIn read.output
     → EndsIn (file_count read) (contents_read including depth name at read contents)
 unfolding contents_read EndsIn
 contents-in including depth name at read None inner placed h = h

@@ -9,7 +9,7 @@ use Rattle.conf_parser.specs.declared.draft.FragDraft.{FragDraft}
 use Rattle.conf_parser.specs.declared.draft.StreamDraft.{StreamDraft}
 use Rattle.conf_parser.specs.declared.draft.Settings.{Settings}
 use Rattle.conf_parser.specs.declared.given.Onward.{Onward}
-use Rattle.conf_parser.specs.declared.given.Given.TheVariants.{Rule}
+use Rattle.conf_parser.specs.declared.given.LineResult.TheVariants.{Rule}
 use Rattle.conf_parser.specs.declared.line.ConfKind.{ConfKind}
 use Rattle.conf_parser.specs.declared.line.ConfKind.TheVariants.{UnknownDirective, BadValue}
 use Rattle.conf_parser.specs.declared.name.Directive.{Directive}

@@ -9,7 +9,7 @@ use Rattle.conf_parser.specs.declared.given.Onward.{Onward}
 use Rattle.conf_parser.specs.declared.line.ConfKind.{ConfKind}
 use Rattle.conf_parser.specs.declared.line.LoadStop.{LoadStop}
 use Rattle.conf_parser.specs.declared.loaded.Loaded.{Loaded}
-use Rattle.conf_parser.specs.declared.reading.Read.{Read}
+use Rattle.conf_parser.specs.declared.reading.ReadSoFar.{ReadSoFar}
 use Rattle.conf_parser.specs.Loading.{IsWhole, IsLoading}
 use Rattle.conf_parser.specs.Reading.{Contents, Whole, read_files}
 use Rattle.conf_parser.specs.Settings.{config_of}
@@ -26,7 +26,7 @@ pub lines-keep-sound : LinesKeep HaveSoundDraft
 lines-keep-sound spot settings line after is sound = (subst (λ (r : Result Onward ConfKind). Holds Kept r) is (conf_line-sound settings sound spot line)).holds
 
 -- the configuration of a whole reading
-pub read_files-sound : (contents : Contents) (name : List ℕ) (variables : Variables) (read : Read) → read_files contents name variables ≡ Whole read → IsSound (config_of read.settings.draft)
+pub read_files-sound : (contents : Contents) (name : List ℕ) (variables : Variables) (read : ReadSoFar) → read_files contents name variables ≡ Whole read → IsSound (config_of read.settings.draft)
 read_files-sound contents name variables read whole = config_of-sound read.settings.draft (whole-keeps HaveSoundDraft lines-keep-sound contents name variables read first_draft-sound whole)
 
 -- what a whole reading hands out

@@ -9,7 +9,7 @@ use Rattle.net_lists.specs.Folds.{draft_after}
 use Rattle.net_lists.specs.Numbers.{number_in}
 use Rattle.net_lists.specs.Variables.{Variables}
 use Rattle.net_lists.specs.declared.part.Part.{Part as PortPart}
-use Rattle.net_lists.specs.declared.part.Bounds.{Bounds}
+use Rattle.net_lists.specs.declared.part.ValueBounds.{ValueBounds}
 use Rattle.net_lists.proofs.Steps.{Holds, given, refused, tested, unless, kinded, chained, after_any, folded, ranged, number_in-within, steps}
 use Rattle.conf_types.specs.declared.config.StreamEngine.{StreamEngine}
 use Rattle.conf_parser.specs.declared.draft.StreamDraft.{StreamDraft}
@@ -19,8 +19,8 @@ use Rattle.conf_parser.specs.declared.line.ConfKind.TheVariants.{BadValue}
 use Rattle.conf_parser.specs.declared.stream5.GlobalName.{GlobalName}
 use Rattle.conf_parser.specs.declared.stream5.GlobalName.TheVariants as global
 use Rattle.conf_parser.specs.declared.stream5.Partial.{Partial}
-use Rattle.conf_parser.specs.declared.stream5.Side.{Side}
-use Rattle.conf_parser.specs.declared.stream5.Side.TheVariants.{Client, Server, Both}
+use Rattle.conf_parser.specs.declared.stream5.PortsSide.{PortsSide}
+use Rattle.conf_parser.specs.declared.stream5.PortsSide.TheVariants.{Client, Server, Both}
 use Rattle.conf_parser.specs.declared.stream5.TcpDraft.{TcpDraft}
 use Rattle.conf_parser.specs.declared.stream5.TcpName.{TcpName}
 use Rattle.conf_parser.specs.declared.stream5.TcpName.TheVariants as tcp
@@ -161,7 +161,7 @@ module _ (variables : Variables) where
   unfolding ports_value
   ports_value-sound draft value sound = after_any (or_kind BadValue (side (first_word value))) (λ side. after_any _ (λ ports. given (kept side ports)))
     where
-      kept : (side : Side) (ports : Option (List (PortPart (Bounds ℕ)))) → Tcp (with_ports draft side ports)
+      kept : (side : PortsSide) (ports : Option (List (PortPart (ValueBounds ℕ)))) → Tcp (with_ports draft side ports)
       kept Client ports = sound
       kept Server ports = sound
       kept Both ports = sound

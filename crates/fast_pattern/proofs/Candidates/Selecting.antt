@@ -16,7 +16,7 @@ use Rattle.packet_decode.specs.declared.packet.Body.TheVariants as body
 use Rattle.rule_types.specs.declared.rule.Proto.{Proto}
 use Rattle.rule_types.specs.declared.rule.Proto.TheVariants as proto
 use Rattle.rule_types.specs.declared.rule.Rule.{Rule}
-use Rattle.fast_pattern.specs.declared.header.Asked.{Asked}
+use Rattle.fast_pattern.specs.declared.header.RuleHead.{RuleHead}
 use Rattle.fast_pattern.specs.declared.groups.Groups.{Groups}
 use Rattle.fast_pattern.specs.FastPattern.{pattern_of}
 use Rattle.fast_pattern.specs.Candidates.{header_fits, fits, occurs_if_any, is_candidate, places_from, candidates}
@@ -25,7 +25,7 @@ use Rattle.pattern_search.specs.Occurring.{is_found, numbers, occurring}
 use Rattle.pattern_search.specs.Finding.{AreHits}
 use Rattle.fast_pattern.specs.Kinds.{kind_of, is_for, is_for_some, is_plain}
 use Rattle.fast_pattern.specs.Blocks.{has}
-use Rattle.fast_pattern.specs.declared.sides.Side.TheVariants as side
+use Rattle.fast_pattern.specs.declared.sides.PacketSide.TheVariants as side
 use Rattle.fast_pattern.specs.declared.sides.Sides.{Sides}
 use Rattle.fast_pattern.specs.Sides.{is_due, is_asked, AreSides, AddSought}
 use Rattle.fast_pattern.specs.Grouping.{asked_of, fits_some, fits_at, is_due_at, text_of, texts_of, AreFor}
@@ -125,7 +125,7 @@ module _ (groups : Groups) (rules : List Rule) (carried : Body) (payload : List 
 
     asked-is : slice_get groups.rules.items place ≡ Some (asked_of rule)
     asked-is =
-        ap (λ (xs : List Asked). slice_get xs place) hold.asked
+        ap (λ (xs : List RuleHead). slice_get xs place) hold.asked
         ∙ slice_get-get_or (map asked_of rules) place (asked_of d) (omega (arith, length-map rules asked_of))
         ∙ ap Some (get_or-map asked_of rules place d (asked_of d) h)
 
@@ -245,7 +245,7 @@ module _ (groups : Groups) (rules : List Rule) (carried : Body) (payload : List 
 pub list-due : (groups : Groups) (rules : List Rule) (carried : Body) (listed old new : List ℕ)
     → AreFor groups rules
     → listed ≡ numbers (is_plain groups.rules.items (texts_of rules) (kind_of carried)) 0 (length rules)
-    → ((asked : Option Asked) → is_due carried asked ≡ true)
+    → ((asked : Option RuleHead) → is_due carried asked ≡ true)
     → new ≡ old ++ listed
     → (place : ℕ)
     → has new place ≡ (has old place || is_due_at groups.rules.items (texts_of rules) carried place)
@@ -269,10 +269,10 @@ list-due groups rules carried listed old new hold is due pushed place =
     and-one false = refl
 
 -- the rules of a kind with ports
-pub sides-due : (asked : List Asked) (texts : List (List ℕ)) (carried : Body) (sport dport : ℕ) (old new : List ℕ) (sides : Sides)
+pub sides-due : (asked : List RuleHead) (texts : List (List ℕ)) (carried : Body) (sport dport : ℕ) (old new : List ℕ) (sides : Sides)
     → AreSides asked texts (kind_of carried) sides
     → AddSought sides sport dport old new
-    → ((one : Option Asked) → is_due carried one ≡ (is_asked side.Source sport one || is_asked side.Destination dport one))
+    → ((one : Option RuleHead) → is_due carried one ≡ (is_asked side.Source sport one || is_asked side.Destination dport one))
     → (place : ℕ)
     → has new place ≡ (has old place || is_due_at asked texts carried place)
 unfolding is_due_at

@@ -10,7 +10,7 @@ use Rattle.std.proofs.lemmas.List.Elements.{All-nil, All-append}
 use Rattle.std.proofs.lemmas.List.Folds.{list_any-append, list_any_none}
 use Rattle.std.proofs.lemmas.Nat.{pow_pos}
 use Rattle.std.proofs.Math.Nat.{pow-suc}
-use Rattle.net_lists.specs.declared.part.Bounds.{Bounds}
+use Rattle.net_lists.specs.declared.part.ValueBounds.{ValueBounds}
 use Rattle.net_lists.specs.declared.part.Part.{Part}
 use Rattle.net_lists.specs.Membership.{is_in, has_port}
 use Rattle.fast_pattern.specs.Blocks.{number, half_with, lies_in, has_whole, meets, verdict, AddBlocks}
@@ -31,16 +31,16 @@ any-same p q [] same = refl
 any-same p q (x ∷ xs) same =
     ap (λ b. b || list_any p xs) (same 0 x (omega arith)) ∙ ap (λ b. q x || b) (any-same p q xs (λ k d h. same (suc k) d (omega arith)))
 
-module _ (wanted barred wider fewer : Part (Bounds ℕ) → Bool)
-    (more : (part : Part (Bounds ℕ)) → wanted part ≡ true → wider part ≡ true)
-    (less : (part : Part (Bounds ℕ)) → fewer part ≡ true → barred part ≡ true) where
-  wanted-more : (part : Part (Bounds ℕ)) → (not part.negated && wanted part) ≡ true → (not part.negated && wider part) ≡ true
+module _ (wanted barred wider fewer : Part (ValueBounds ℕ) → Bool)
+    (more : (part : Part (ValueBounds ℕ)) → wanted part ≡ true → wider part ≡ true)
+    (less : (part : Part (ValueBounds ℕ)) → fewer part ≡ true → barred part ≡ true) where
+  wanted-more : (part : Part (ValueBounds ℕ)) → (not part.negated && wanted part) ≡ true → (not part.negated && wider part) ≡ true
   wanted-more part e = let parts = and_parts (not part.negated) (wanted part) e in and_from (not part.negated) (wider part) parts.0 (more part parts.1)
 
-  barred-less : (part : Part (Bounds ℕ)) → (part.negated && fewer part) ≡ true → (part.negated && barred part) ≡ true
+  barred-less : (part : Part (ValueBounds ℕ)) → (part.negated && fewer part) ≡ true → (part.negated && barred part) ≡ true
   barred-less part e = let parts = and_parts part.negated (fewer part) e in and_from part.negated (barred part) parts.0 (less part parts.1)
 
-  verdict-wider : (parts : List (Part (Bounds ℕ))) → verdict wanted barred parts ≡ true → verdict wider fewer parts ≡ true
+  verdict-wider : (parts : List (Part (ValueBounds ℕ))) → verdict wanted barred parts ≡ true → verdict wider fewer parts ≡ true
   unfolding verdict
   verdict-wider parts e =
       let some = list_any (λ part. not part.negated && wanted part) parts in
@@ -61,29 +61,29 @@ module _ (wanted barred wider fewer : Part (Bounds ℕ) → Bool)
       (sym (not-true none both.1) ∙
       any-wider (λ part. part.negated && fewer part) (λ part. part.negated && barred part) barred-less parts f))))
 
-port-verdict : (port : ℕ) (parts : List (Part (Bounds ℕ))) → has_port parts port ≡ verdict (is_in port) (is_in port) parts
+port-verdict : (port : ℕ) (parts : List (Part (ValueBounds ℕ))) → has_port parts port ≡ verdict (is_in port) (is_in port) parts
 unfolding has_port verdict
 port-verdict port parts = refl
 
 module _ (low high port : ℕ) (from : low ≤ port) (to : port ≤ high) where
-  whole-in : (part : Part (Bounds ℕ)) → has_whole low high part ≡ true → is_in port part ≡ true
+  whole-in : (part : Part (ValueBounds ℕ)) → has_whole low high part ≡ true → is_in port part ≡ true
   whole-in part e =
       let parts = and_parts (leb part.bounds.low low) (leb high part.bounds.high) e in
       and_from (leb part.bounds.low port) (leb port part.bounds.high)
       (le-leb part.bounds.low port (omega (arith, leb-true part.bounds.low low parts.0)))
       (le-leb port part.bounds.high (omega (arith, leb-true high part.bounds.high parts.1)))
 
-  in-meets : (part : Part (Bounds ℕ)) → is_in port part ≡ true → meets low high part ≡ true
+  in-meets : (part : Part (ValueBounds ℕ)) → is_in port part ≡ true → meets low high part ≡ true
   in-meets part e =
       let parts = and_parts (leb part.bounds.low port) (leb port part.bounds.high) e in
       and_from (leb part.bounds.low high) (leb low part.bounds.high)
       (le-leb part.bounds.low high (omega (arith, leb-true part.bounds.low port parts.0)))
       (le-leb low part.bounds.high (omega (arith, leb-true port part.bounds.high parts.1)))
 
-  pub all-listed : (parts : List (Part (Bounds ℕ))) → verdict (has_whole low high) (meets low high) parts ≡ true → has_port parts port ≡ true
+  pub all-listed : (parts : List (Part (ValueBounds ℕ))) → verdict (has_whole low high) (meets low high) parts ≡ true → has_port parts port ≡ true
   all-listed parts e = port-verdict port parts ∙ verdict-wider (has_whole low high) (meets low high) (is_in port) (is_in port) whole-in in-meets parts e
 
-  pub none-listed : (parts : List (Part (Bounds ℕ))) → verdict (meets low high) (has_whole low high) parts ≡ false → has_port parts port ≡ false
+  pub none-listed : (parts : List (Part (ValueBounds ℕ))) → verdict (meets low high) (has_whole low high) parts ≡ false → has_port parts port ≡ false
   none-listed parts e =
       false_from_ne_true (has_port parts port)
       (λ f. false≢true
@@ -92,7 +92,7 @@ module _ (low high port : ℕ) (from : low ≤ port) (to : port ≤ high) where
       (sym (port-verdict port parts) ∙ f)))
 
 -- a single port is had whole, or not at all
-pub one-listed : (low : ℕ) (parts : List (Part (Bounds ℕ))) → verdict (has_whole low low) (meets low low) parts ≡ has_port parts low
+pub one-listed : (low : ℕ) (parts : List (Part (ValueBounds ℕ))) → verdict (has_whole low low) (meets low low) parts ≡ has_port parts low
 unfolding has_port verdict
 one-listed low parts = refl
 
@@ -144,7 +144,7 @@ or-none : (b : Bool) → (b || false) ≡ b
 or-none true = refl
 or-none false = refl
 
-module _ (parts : List (Part (Bounds ℕ))) (bits low : ℕ) (old : List ℕ) where
+module _ (parts : List (Part (ValueBounds ℕ))) (bits low : ℕ) (old : List ℕ) where
   pub add-all : ((port : ℕ) → low ≤ port → port < low + 2 ^ bits → has_port parts port ≡ true) → AddBlocks parts bits low old (old ++ number bits low ∷ [])
   add-all all = record {
     added = number bits low ∷ [];
@@ -224,7 +224,7 @@ module _ (parts : List (Part (Bounds ℕ))) (bits low : ℕ) (old : List ℕ) wh
           ∙ false_from_ne_true (lies_in bits (low + 2 ^ bits) port block) (λ so. let w = lies-within bits (low + 2 ^ bits) port block so in omega (arith, w.0))
 
 -- the parts of a block with more than one port
-pub add-parts : (parts : List (Part (Bounds ℕ))) (bits low : ℕ) (old mid new : List ℕ)
+pub add-parts : (parts : List (Part (ValueBounds ℕ))) (bits low : ℕ) (old mid new : List ℕ)
     → 0 < bits
     → AddBlocks parts (bits - 1) low old mid
     → AddBlocks parts (bits - 1) (low + 2 ^ (bits - 1)) mid new
@@ -235,13 +235,13 @@ add-parts parts bits low old mid new some left right =
     subst P e (add-halves parts (bits - 1) low old mid new left right)
 
 -- a block of which the list has nothing: none of its ports, or not the only one
-pub add-nothing : (parts : List (Part (Bounds ℕ))) (bits low high : ℕ) (old : List ℕ)
+pub add-nothing : (parts : List (Part (ValueBounds ℕ))) (bits low high : ℕ) (old : List ℕ)
     → high + 1 ≡ low + 2 ^ bits
     → verdict (meets low high) (has_whole low high) parts ≡ false
     → AddBlocks parts bits low old old
 add-nothing parts bits low high old is none = add-none parts bits low old (λ port from to. none-listed low high port from (omega (arith, is)) parts none)
 
-pub add-not-one : (parts : List (Part (Bounds ℕ))) (bits low high : ℕ) (old : List ℕ)
+pub add-not-one : (parts : List (Part (ValueBounds ℕ))) (bits low high : ℕ) (old : List ℕ)
     → bits ≡ 0
     → high + 1 ≡ low + 2 ^ bits
     → verdict (has_whole low high) (meets low high) parts ≡ false
@@ -253,7 +253,7 @@ add-not-one parts bits low high old zero_bits is lacks =
     let off : has_port parts low ≡ false = sym (one-listed low parts) ∙ subst P same lacks in
     add-none parts bits low old (λ port from to. let e : port ≡ low = omega (arith, one) in ap (has_port parts) e ∙ off)
 
-pub add-whole : (parts : List (Part (Bounds ℕ))) (bits low high : ℕ) (old : List ℕ)
+pub add-whole : (parts : List (Part (ValueBounds ℕ))) (bits low high : ℕ) (old : List ℕ)
     → high + 1 ≡ low + 2 ^ bits
     → verdict (has_whole low high) (meets low high) parts ≡ true
     → AddBlocks parts bits low old (old ++ number bits low ∷ [])

@@ -4,7 +4,7 @@ use Rattle.std.specs.List.{list_any}
 use Rattle.std.proofs.lemmas.Bool.{eq-eqb, ne_eqb}
 use Rattle.std.proofs.lemmas.List.{take_all, get_or-map}
 use Rattle.std.proofs.lemmas.List.Folds.{list_any-append, list_any_more}
-use Rattle.fast_pattern.specs.declared.index.Entry.{Entry}
+use Rattle.fast_pattern.specs.declared.index.IndexEntry.{IndexEntry}
 use Rattle.fast_pattern.specs.declared.index.PortIndex.{PortIndex}
 use Rattle.pattern_search.specs.Owned.{IsLastOf}
 use Rattle.fast_pattern.specs.Blocks.{number, half_with, lies_in, has, is_of, is_filed, blocks_of, entry_at, entries_of, IsChained, AddFiled, IsFollowed}
@@ -47,7 +47,7 @@ between false false c d e same = refl
 -- a test that is one of two
 pub filed-either : (test one other : ℕ → Bool)
     → ((block : ℕ) → test block ≡ (one block || other block))
-    → (entries : List Entry) (place : ℕ)
+    → (entries : List IndexEntry) (place : ℕ)
     → is_filed test entries place ≡ (is_filed one entries place || is_filed other entries place)
 filed-either test one other is [] place = refl
 filed-either test one other is (entry ∷ entries) place =
@@ -68,8 +68,8 @@ pub has-push : (xs : List ℕ) (x place : ℕ) → has (xs ++ x ∷ []) place �
 has-push xs x place = list_any-append (λ y. y == place) xs (x ∷ []) ∙ ap (λ b. has xs place || b) (or-none (x == place))
 
 -- after the last entry of a block the others are of other blocks
-module _ (entries : List Entry) (block place : ℕ) where
-  abbrev test : Entry → Bool
+module _ (entries : List IndexEntry) (block place : ℕ) where
+  abbrev test : IndexEntry → Bool
   test = is_of (λ other. other == block) place
 
   none-between : (at more : ℕ)
@@ -93,13 +93,13 @@ module _ (entries : List Entry) (block place : ℕ) where
       ∙ none-between at (limit - at) (omega (arith, last.within)) (λ k from to same. omega (arith, last.greatest k (omega (arith, last.within)) (block-at k (omega (arith, last.within)) ∙ same)))
     where
       block-at : (k : ℕ) → k < length entries → slice_index (blocks_of entries) k ≡ (entry_at entries k).block
-      block-at k j = get_or-map (λ (entry : Entry). entry.block) entries k (record { block = 0; place = 0 }) 0 j
+      block-at k j = get_or-map (λ (entry : IndexEntry). entry.block) entries k (record { block = 0; place = 0 }) 0 j
 
-pub block-at : (entries : List Entry) (k : ℕ) → k < length entries → slice_index (blocks_of entries) k ≡ (entry_at entries k).block
-block-at entries k h = get_or-map (λ (entry : Entry). entry.block) entries k (record { block = 0; place = 0 }) 0 h
+pub block-at : (entries : List IndexEntry) (k : ℕ) → k < length entries → slice_index (blocks_of entries) k ≡ (entry_at entries k).block
+block-at entries k h = get_or-map (λ (entry : IndexEntry). entry.block) entries k (record { block = 0; place = 0 }) 0 h
 
 module _ (index : PortIndex) (block : ℕ) (some : 0 < block) (short : block < 131072) (old : List ℕ) where
-  abbrev entries : List Entry
+  abbrev entries : List IndexEntry
   entries = index.entries.items
 
   abbrev same : ℕ → Bool
@@ -117,7 +117,7 @@ module _ (index : PortIndex) (block : ℕ) (some : 0 < block) (short : block < 1
         let last = chained.first block some short in
         ap (λ (n : ℕ). has old place || is_filed same (take n entries) place) is
         ∙ ap (λ b. has old place || b) (sym (gap entries block place (length entries) (slice_index index.heads.items block) (omega arith) last))
-        ∙ ap (λ (es : List Entry). has old place || is_filed same es place) (take_all (length entries) entries (omega arith));
+        ∙ ap (λ (es : List IndexEntry). has old place || is_filed same es place) (take_all (length entries) entries (omega arith));
   }
 
   pub followed-more : (at next : ℕ) (new more : List ℕ)
@@ -204,7 +204,7 @@ within-one index low port old new one = record {
       index.entries.items place);
 }
   where
-    same-tests : (test other : ℕ → Bool) → ((block : ℕ) → test block ≡ other block) → (entries : List Entry) (place : ℕ) → is_filed test entries place ≡ is_filed other entries place
+    same-tests : (test other : ℕ → Bool) → ((block : ℕ) → test block ≡ other block) → (entries : List IndexEntry) (place : ℕ) → is_filed test entries place ≡ is_filed other entries place
     same-tests test other is [] place = refl
     same-tests test other is (entry ∷ entries) place =
         ap (λ b. (b && (entry.place == place)) || is_filed test entries place) (is entry.block)

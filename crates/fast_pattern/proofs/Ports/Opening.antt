@@ -2,13 +2,13 @@
 use Rattle.std.proofs.Common.{◌≡◌, ℕ, zero, suc, ◌+◌, ◌<◌, ◌≤◌, Bool, true, false, cond, not, ◌&&◌, ◌||◌, List, [], ◌∷◌, length, map, get_or, refl, sym, ap, subst, ◌∙◌, ⊎_elim, arith}
 use Rattle.std.specs.List.{list_any, list_all}
 use Rattle.std.proofs.lemmas.Bool.{cases_lt, false≢true, false_from_ne_true, ltb-true, lt-ltb, and_parts, and_from, or_cases, or_left, or_right}
-use Rattle.net_lists.specs.declared.part.Bounds.{Bounds}
+use Rattle.net_lists.specs.declared.part.ValueBounds.{ValueBounds}
 use Rattle.net_lists.specs.declared.part.Part.{Part}
 use Rattle.packet_decode.specs.declared.packet.Body.{Body}
 use Rattle.packet_decode.specs.declared.packet.Body.TheVariants as body
 use Rattle.net_lists.specs.Membership.{is_in, has_port}
 use Rattle.fast_pattern.specs.Candidates.{header_fits, ports_fit, fits, occurs_if_any, is_candidate, places_from, candidates}
-use Rattle.fast_pattern.specs.declared.header.Asked.{Asked}
+use Rattle.fast_pattern.specs.declared.header.RuleHead.{RuleHead}
 use Rattle.fast_pattern.specs.Grouping.{fits_at, asked_of, AreFor}
 use Rattle.fast_pattern.specs.FastPattern.{pattern_of}
 use Rattle.fast_pattern.specs.declared.groups.Groups.{Groups}
@@ -47,7 +47,7 @@ lets-kept old new body.Other keeps e = all-kept old new 5 keeps e
 lets-kept old new body.Fragment keeps e = all-kept old new 5 keeps e
 
 module _ (table : List ℕ) (part port : ℕ) where
-  any-open : (parts : List (Part (Bounds ℕ))) → ((k : ℕ) (d : Part (Bounds ℕ)) → k < length parts → OpensPart part table (get_or parts k d))
+  any-open : (parts : List (Part (ValueBounds ℕ))) → ((k : ℕ) (d : Part (ValueBounds ℕ)) → k < length parts → OpensPart part table (get_or parts k d))
       → list_any (λ p. not p.negated && is_in port p) parts ≡ true → is_open table part port ≡ true
   any-open [] each e = absurd (false≢true e)
   any-open (x ∷ xs) each e = ⊎_elim
@@ -55,13 +55,13 @@ module _ (table : List ℕ) (part port : ℕ) where
       (λ later. any-open xs (λ k d h. each (suc k) d (omega arith)) later)
       (or_cases (not x.negated && is_in port x) (list_any (λ p. not p.negated && is_in port p) xs) e)
 
-  all-open : (parts : List (Part (Bounds ℕ))) → (length parts ≡ 0 → is_all table part ≡ true) → ((k : ℕ) (d : Part (Bounds ℕ)) → k < length parts → OpensPart part table (get_or parts k d))
+  all-open : (parts : List (Part (ValueBounds ℕ))) → (length parts ≡ 0 → is_all table part ≡ true) → ((k : ℕ) (d : Part (ValueBounds ℕ)) → k < length parts → OpensPart part table (get_or parts k d))
       → list_all (λ p. p.negated) parts ≡ true → is_open table part port ≡ true
   all-open [] none each e = open-all table part port (none refl)
   all-open (x ∷ xs) none each e = each 0 x (omega arith) port (or_left x.negated (is_in port x) (and_parts x.negated (list_all (λ p. p.negated) xs) e).0)
 
-pub opens-list : (table : List ℕ) (part : ℕ) (parts : List (Part (Bounds ℕ))) → (length parts ≡ 0 → is_all table part ≡ true)
-    → ((k : ℕ) (d : Part (Bounds ℕ)) → k < length parts → OpensPart part table (get_or parts k d)) → Opens parts part table
+pub opens-list : (table : List ℕ) (part : ℕ) (parts : List (Part (ValueBounds ℕ))) → (length parts ≡ 0 → is_all table part ≡ true)
+    → ((k : ℕ) (d : Part (ValueBounds ℕ)) → k < length parts → OpensPart part table (get_or parts k d)) → Opens parts part table
 unfolding has_port
 opens-list table part parts none each port e =
     let some = list_any (λ p. not p.negated && is_in port p) parts in
@@ -70,7 +70,7 @@ opens-list table part parts none each port e =
     (or_cases some negated (and_parts (some || negated) (not (list_any (λ p. p.negated && is_in port p) parts)) e).0)
 
 -- what a header fits, where the lists of its ports are let in
-module _ (table : List ℕ) (a b : ℕ) (sports dports : List (Part (Bounds ℕ))) (both : Bool) (sources : Opens sports a table) (targets : Opens dports b table)
+module _ (table : List ℕ) (a b : ℕ) (sports dports : List (Part (ValueBounds ℕ))) (both : Bool) (sources : Opens sports a table) (targets : Opens dports b table)
     (back : both ≡ true → Opens dports a table × Opens sports b table) where
   pub sides-open : (sport dport : ℕ) → ports_fit sports dports both sport dport ≡ true → (is_open table a sport && is_open table b dport) ≡ true
   sides-open sport dport e = ⊎_elim
@@ -83,7 +83,7 @@ module _ (table : List ℕ) (a b : ℕ) (sports dports : List (Part (Bounds ℕ)
       and_from (is_open table a sport) (is_open table b dport) (bs.0 sport qs.1) (bs.1 dport qs.0))
       (or_cases (has_port sports sport && has_port dports dport) (both && (has_port sports dport && has_port dports sport)) e)
 
-pub tcp-lets : (table : List ℕ) (sports dports : List (Part (Bounds ℕ))) (both : Bool) → Opens sports 0 table → Opens dports 1 table → (both ≡ true → Opens dports 0 table × Opens sports 1 table)
+pub tcp-lets : (table : List ℕ) (sports dports : List (Part (ValueBounds ℕ))) (both : Bool) → Opens sports 0 table → Opens dports 1 table → (both ≡ true → Opens dports 0 table × Opens sports 1 table)
     → (carried : Body) → header_fits proto.Tcp sports dports both carried ≡ true → lets_in table carried ≡ true
 unfolding lets_in
 tcp-lets table sports dports both s t b (body.Tcp head) e = sides-open table 0 1 sports dports both s t b head.sport head.dport e
@@ -93,7 +93,7 @@ tcp-lets table sports dports both s t b (body.Icmp kind code id seq) e = absurd 
 tcp-lets table sports dports both s t b body.Other e = absurd (false≢true e)
 tcp-lets table sports dports both s t b body.Fragment e = absurd (false≢true e)
 
-pub udp-lets : (table : List ℕ) (sports dports : List (Part (Bounds ℕ))) (both : Bool) → Opens sports 2 table → Opens dports 3 table → (both ≡ true → Opens dports 2 table × Opens sports 3 table)
+pub udp-lets : (table : List ℕ) (sports dports : List (Part (ValueBounds ℕ))) (both : Bool) → Opens sports 2 table → Opens dports 3 table → (both ≡ true → Opens dports 2 table × Opens sports 3 table)
     → (carried : Body) → header_fits proto.Udp sports dports both carried ≡ true → lets_in table carried ≡ true
 unfolding lets_in
 udp-lets table sports dports both s t b (body.Udp sport dport) e = sides-open table 2 3 sports dports both s t b sport dport e
@@ -103,7 +103,7 @@ udp-lets table sports dports both s t b (body.Icmp kind code id seq) e = absurd 
 udp-lets table sports dports both s t b body.Other e = absurd (false≢true e)
 udp-lets table sports dports both s t b body.Fragment e = absurd (false≢true e)
 
-pub icmp-lets : (table : List ℕ) (sports dports : List (Part (Bounds ℕ))) (both : Bool) → is_all table 4 ≡ true
+pub icmp-lets : (table : List ℕ) (sports dports : List (Part (ValueBounds ℕ))) (both : Bool) → is_all table 4 ≡ true
     → (carried : Body) → header_fits proto.Icmp sports dports both carried ≡ true → lets_in table carried ≡ true
 unfolding lets_in
 icmp-lets table sports dports both all (body.Icmp kind code id seq) e = all
@@ -125,15 +125,15 @@ ip-lets table all body.Other = all 5 (omega arith)
 ip-lets table all body.Fragment = all 5 (omega arith)
 
 -- a rule more
-pub rules-more : (rules : List Asked) (old new : List ℕ) (n : ℕ) → KeepsSlots old new → ((k : ℕ) (d : Asked) → k < n → LetsIn (get_or rules k d) old)
-    → ((d : Asked) → LetsIn (get_or rules n d) new) → (k : ℕ) (d : Asked) → k < n + 1 → LetsIn (get_or rules k d) new
+pub rules-more : (rules : List RuleHead) (old new : List ℕ) (n : ℕ) → KeepsSlots old new → ((k : ℕ) (d : RuleHead) → k < n → LetsIn (get_or rules k d) old)
+    → ((d : RuleHead) → LetsIn (get_or rules n d) new) → (k : ℕ) (d : RuleHead) → k < n + 1 → LetsIn (get_or rules k d) new
 rules-more rules old new n keeps before here k d h = ⊎_elim
     (λ less carried fits. lets-kept old new carried keeps (before k d less carried fits))
     (λ same. let e : k ≡ n = omega arith in subst (λ (m : ℕ). LetsIn (get_or rules m d) new) (sym e) (here d))
     (cases_lt k n)
 
 -- all rules
-pub guards-all : (rules : List Asked) (table : List ℕ) → ((k : ℕ) (d : Asked) → k < length rules → LetsIn (get_or rules k d) table)
+pub guards-all : (rules : List RuleHead) (table : List ℕ) → ((k : ℕ) (d : RuleHead) → k < length rules → LetsIn (get_or rules k d) table)
     → (carried : Body) (place : ℕ) → fits_at rules carried place ≡ true → lets_in table carried ≡ true
 unfolding fits_at
 guards-all [] table each carried place e = absurd (false≢true e)

@@ -6,18 +6,18 @@ use Rattle.std.proofs.lemmas.Bool.{false≢true, eqb-true, eq-eqb, ne_eqb, lt-lt
 use Rattle.std.proofs.lemmas.Option.{slice_get_past}
 use Rattle.std.proofs.lemmas.List.Elements.{All-nil, All-append, All-map}
 use Rattle.std.proofs.lemmas.List.Folds.{list_any-append}
-use Rattle.net_lists.specs.declared.part.Bounds.{Bounds}
+use Rattle.net_lists.specs.declared.part.ValueBounds.{ValueBounds}
 use Rattle.net_lists.specs.declared.part.Part.{Part}
 use Rattle.packet_decode.specs.declared.packet.Body.{Body}
 use Rattle.packet_decode.specs.declared.packet.Body.TheVariants as body
 use Rattle.rule_types.specs.declared.rule.Proto.{Proto}
 use Rattle.rule_types.specs.declared.rule.Proto.TheVariants as proto
-use Rattle.fast_pattern.specs.declared.header.Asked.{Asked}
-use Rattle.fast_pattern.specs.declared.header.Kind.{Kind}
-use Rattle.fast_pattern.specs.declared.index.Entry.{Entry}
+use Rattle.fast_pattern.specs.declared.header.RuleHead.{RuleHead}
+use Rattle.fast_pattern.specs.declared.header.Transport.{Transport}
+use Rattle.fast_pattern.specs.declared.index.IndexEntry.{IndexEntry}
 use Rattle.fast_pattern.specs.declared.index.PortIndex.{PortIndex}
-use Rattle.fast_pattern.specs.declared.sides.Side.{Side}
-use Rattle.fast_pattern.specs.declared.sides.Side.TheVariants as side
+use Rattle.fast_pattern.specs.declared.sides.PacketSide.{PacketSide}
+use Rattle.fast_pattern.specs.declared.sides.PacketSide.TheVariants as side
 use Rattle.fast_pattern.specs.declared.sides.Sides.{Sides}
 use Rattle.net_lists.specs.Membership.{has_port}
 use Rattle.fast_pattern.specs.Candidates.{ports_fit, header_fits}
@@ -27,7 +27,7 @@ use Rattle.fast_pattern.specs.Kinds.{is_for_some, is_plain}
 use Rattle.fast_pattern.specs.Sides.{is_any, key_of, belongs_in, belongs_some, belongs_at, is_asked, is_sought, is_due, AreSoughtAt, AreFiled, IsSide, AddSought}
 use Rattle.fast_pattern.proofs.Ports.Filing.{filed-new}
 
-any-none : (ports : List (Part (Bounds ℕ))) → is_any ports ≡ true → ports ≡ []
+any-none : (ports : List (Part (ValueBounds ℕ))) → is_any ports ≡ true → ports ≡ []
 any-none [] e = refl
 any-none (part ∷ parts) e = absurd (omega (arith, eqb-true (length (part ∷ parts)) 0 e))
 
@@ -35,8 +35,8 @@ any-has : (port : ℕ) → has_port [] port ≡ true
 unfolding has_port
 any-has port = refl
 
-none-has : (ports : List (Part (Bounds ℕ))) (port : ℕ) → is_any ports ≡ true → has_port ports port ≡ true
-none-has ports port e = ap (λ (ps : List (Part (Bounds ℕ))). has_port ps port) (any-none ports e) ∙ any-has port
+none-has : (ports : List (Part (ValueBounds ℕ))) (port : ℕ) → is_any ports ≡ true → has_port ports port ≡ true
+none-has ports port e = ap (λ (ps : List (Part (ValueBounds ℕ))). has_port ps port) (any-none ports e) ∙ any-has port
 
 told : (to_any from_any both : Bool) (s t d e : Bool) → (from_any ≡ true → t ≡ true) → ((s && d) || (both && (t && e))) ≡ true
     → ((cond to_any (not from_any) both && cond to_any s e) || ((both || (not to_any || from_any)) && cond to_any t d)) ≡ true
@@ -50,7 +50,7 @@ told false from_any false true t true e all fits = refl
 told false from_any false true t false e all fits = fits
 told false from_any false false t d e all fits = absurd (false≢true fits)
 
-module _ (sports dports : List (Part (Bounds ℕ))) (both : Bool) (sport dport : ℕ) where
+module _ (sports dports : List (Part (ValueBounds ℕ))) (both : Bool) (sport dport : ℕ) where
   lifted : (b : Bool) (port : ℕ) → has_port (cond b sports dports) port ≡ cond b (has_port sports port) (has_port dports port)
   lifted true port = refl
   lifted false port = refl
@@ -93,7 +93,7 @@ module _ (sports dports : List (Part (Bounds ℕ))) (both : Bool) (sport dport :
   unfolding key_of belongs_in
   asked-ip = none-has [] dport refl
 
-pub fits-due : (sports dports : List (Part (Bounds ℕ))) (both : Bool) (protocol : Proto) (carried : Body)
+pub fits-due : (sports dports : List (Part (ValueBounds ℕ))) (both : Bool) (protocol : Proto) (carried : Body)
     → header_fits protocol sports dports both carried ≡ true
     → is_due carried (Some (record { proto = protocol; sports = sports; dports = dports; both = both })) ≡ true
 fits-due sports dports both protocol body.Other e = refl
@@ -113,16 +113,16 @@ fits-due sports dports both proto.Icmp (body.Stream sport dport) e = absurd (fal
 fits-due sports dports both proto.Icmp (body.Udp sport dport) e = absurd (false≢true e)
 
 -- whether the list that tells has a port
-abbrev has_key : Option Asked → ℕ → Bool
+abbrev has_key : Option RuleHead → ℕ → Bool
 has_key None port = false
 has_key (Some asked) port = has_port (key_of asked) port
 
 -- the blocks of one rule
-module _ (rules : List Asked) (patterns : List (List ℕ)) (kind : Kind) (of : Side) (place : ℕ) where
+module _ (rules : List RuleHead) (patterns : List (List ℕ)) (kind : Transport) (of : PacketSide) (place : ℕ) where
   pub sought-none : ((port : ℕ) → is_sought rules patterns kind of port place ≡ false) → AreSoughtAt rules patterns kind of place []
   sought-none none = record { within = All-nil (λ block. (0 < block) × (block < 131072)); exact = λ port h. sym (none port) }
 
-  pub sought-some : (parts : List (Part (Bounds ℕ))) (blocks : List ℕ)
+  pub sought-some : (parts : List (Part (ValueBounds ℕ))) (blocks : List ℕ)
       → ((port : ℕ) → is_sought rules patterns kind of port place ≡ has_port parts port)
       → AddBlocks parts 16 0 [] blocks
       → AreSoughtAt rules patterns kind of place blocks
@@ -135,7 +135,7 @@ module _ (rules : List Asked) (patterns : List (List ℕ)) (kind : Kind) (of : S
       P = λ bs. All (λ block. (0 < block) × (block < 131072)) bs
 
   -- what a rule that is in the index is sought at
-  asks-some : (some : Option Asked) (port : ℕ) → is_asked of port some ≡ (belongs_some of some && has_key some port)
+  asks-some : (some : Option RuleHead) (port : ℕ) → is_asked of port some ≡ (belongs_some of some && has_key some port)
   asks-some None port = refl
   asks-some (Some asked) port = refl
 
@@ -150,7 +150,7 @@ module _ (rules : List Asked) (patterns : List (List ℕ)) (kind : Kind) (of : S
       no true false c e = refl
       no false b c e = refl
 
-  pub holds-so : (asked : Asked) (blocks : List ℕ)
+  pub holds-so : (asked : RuleHead) (blocks : List ℕ)
       → slice_get rules place ≡ Some asked
       → belongs_at rules patterns kind of place ≡ true
       → AddBlocks (key_of asked) 16 0 [] blocks
@@ -180,7 +180,7 @@ module _ (rules : List Asked) (patterns : List (List ℕ)) (kind : Kind) (of : S
   or-none true = refl
   or-none false = refl
 
-  pub filed-more : (entries more : List Entry) (blocks : List ℕ)
+  pub filed-more : (entries more : List IndexEntry) (blocks : List ℕ)
       → AreFiled rules patterns kind of entries place
       → AreSoughtAt rules patterns kind of place blocks
       → more ≡ entries ++ entries_of place blocks
@@ -194,7 +194,7 @@ module _ (rules : List Asked) (patterns : List (List ℕ)) (kind : Kind) (of : S
         (λ block. record { block = block; place = place }) blocks
         sought.within));
     filed = λ port h other.
-        ap (λ (es : List Entry). is_filed (lies_in 16 0 port) es other) is
+        ap (λ (es : List IndexEntry). is_filed (lies_in 16 0 port) es other) is
         ∙ list_any-append _ entries (entries_of place blocks)
         ∙ ap (λ b. b || is_filed (lies_in 16 0 port) (entries_of place blocks) other) (was.filed port h other)
         ∙ ap (λ b. (ltb other place && is_sought rules patterns kind of port other) || b)
@@ -224,30 +224,30 @@ module _ (rules : List Asked) (patterns : List (List ℕ)) (kind : Kind) (of : S
         (cases_eq place other);
   }
     where
-      P : List Entry → Type 0
+      P : List IndexEntry → Type 0
       P = λ es. AreBlocks es
 
       high_more : {other : ℕ} → place ≤ other → (place ≡ other → ⊥) → place + 1 ≤ other
       high_more {other = other} h ne = ⊎_elim (λ lt. omega (arith, lt)) (λ ge. absurd (ne (omega (arith, ge, h)))) (cases_lt place other)
 
-pub filed-none : (rules : List Asked) (patterns : List (List ℕ)) (kind : Kind) (of : Side) (entries : List Entry) → entries ≡ [] → AreFiled rules patterns kind of entries 0
+pub filed-none : (rules : List RuleHead) (patterns : List (List ℕ)) (kind : Transport) (of : PacketSide) (entries : List IndexEntry) → entries ≡ [] → AreFiled rules patterns kind of entries 0
 filed-none rules patterns kind of entries is =
     subst P (sym is) (record {
       blocks = All-nil (λ entry. (0 < entry.block) × (entry.block < 131072));
       filed = λ port h place. sym (ap (λ b. b && is_sought rules patterns kind of port place) (le-ltb place 0 (omega arith)));
     })
   where
-    P : List Entry → Type 0
+    P : List IndexEntry → Type 0
     P = λ es. AreFiled rules patterns kind of es 0
 
 -- no rule is sought past the end
-pub plain-past : (rules : List Asked) (patterns : List (List ℕ)) (kind : Kind) (place : ℕ) → length rules ≤ place → is_plain rules patterns kind place ≡ false
+pub plain-past : (rules : List RuleHead) (patterns : List (List ℕ)) (kind : Transport) (place : ℕ) → length rules ≤ place → is_plain rules patterns kind place ≡ false
 unfolding is_plain
 plain-past rules patterns kind place h =
     and_right (ltb (length (word_at patterns place)) 1) (is_for_some kind (slice_get rules place)) (ap (is_for_some kind) (slice_get_past rules place h))
 
-pub side-made : (rules : List Asked) (patterns : List (List ℕ)) (kind : Kind) (of : Side) (index : PortIndex)
-    (entries : List Entry)
+pub side-made : (rules : List RuleHead) (patterns : List (List ℕ)) (kind : Transport) (of : PacketSide) (index : PortIndex)
+    (entries : List IndexEntry)
     → IsChained index
     → index.entries.items ≡ entries
     → AreFiled rules patterns kind of entries (length rules)
@@ -255,7 +255,7 @@ pub side-made : (rules : List Asked) (patterns : List (List ℕ)) (kind : Kind) 
 side-made rules patterns kind of index entries chained is are = record {
   chained = chained;
   filed = λ port h place.
-      ap (λ (es : List Entry). is_filed (lies_in 16 0 port) es place) is
+      ap (λ (es : List IndexEntry). is_filed (lies_in 16 0 port) es place) is
       ∙ are.filed port h place
       ∙ ⊎_elim
       (λ low. ap (λ b. b && is_sought rules patterns kind of port place) (lt-ltb place (length rules) low))

@@ -25,7 +25,7 @@ use Rattle.flow_lanes.specs.Flows.{Detection, FlowState, bits_found, session_at_
 use Rattle.flow_lanes.specs.Holding.{IsLimited, IsLimitedJob, IsLimitedWork, seen_after}
 use Rattle.flow_lanes.specs.ItemHits.{bits_after_items, hits_of}
 use Rattle.flow_lanes.specs.Items.{JobItems, finish_items, packet_items, session_after}
-use Rattle.flow_lanes.specs.Sessions.{Packet, Session, ack_of, after_ack, after_data, begun_session, client_at_begin, client_end}
+use Rattle.flow_lanes.specs.Sessions.{Packet, FlowSession, ack_of, after_ack, after_data, begun_session, client_at_begin, client_end}
 use Rattle.flow_lanes.specs.Sessions.{is_from_client, is_tcp, receiver, seq_of, server_at_begin, server_end, session_of}
 use Rattle.flow_lanes.specs.Sessions.{session_rules, settled, state_found, state_of, step_of, toward, with_bases}
 use Rattle.flow_lanes.specs.Sides.{side_after_ack, side_after_data, without_left}
@@ -35,7 +35,7 @@ use Rattle.flow_lanes.proofs.Sessions.ItemsOn.{state_of-tcp}
 use Rattle.flow_lanes.proofs.Held.Sides.{IsFew, IsIdle, few-idle, idle-base, idle-left, side-ack, side-base, side-data, side-left}
 
 -- of a session that isn't of TCP neither data nor acknowledgements count, and no base is set
-quiet-step : (making : Making) (p : Packet) (found : Option Session) → (state_found p found).tcp ≡ false → IsQuiet (step_of making p found)
+quiet-step : (making : Making) (p : Packet) (found : Option FlowSession) → (state_found p found).tcp ≡ false → IsQuiet (step_of making p found)
 unfolding step_of
 quiet-step making p found plain =
     session_step_quiet (state_found p found) (segment_of p.head.ip p.head.body (length p.payload) p.moment) (session_rules making p found) plain
@@ -43,7 +43,7 @@ quiet-step making p found plain =
 -- ---- a session
 
 -- both sides of a session are within the limits; where it isn't of TCP they hold nothing, and where it is, TCP was seen
-pub record HoldsFew (bytes segs : ℕ) (session : Session) (seen : Bool) : Type 0 where
+pub record HoldsFew (bytes segs : ℕ) (session : FlowSession) (seen : Bool) : Type 0 where
   pub client : IsFew bytes segs session.client.direction
   pub server : IsFew bytes segs session.server.direction
   pub plain : session.state.tcp ≡ false → IsIdle session.client.direction × IsIdle session.server.direction
@@ -66,8 +66,8 @@ or-right true b is = refl
 or-right false b is = is
 
 module _ (making : Making) (bytes segs : ℕ) where
-  abbrev HoldsSession : Option Session → Bool → Type 0
-  HoldsSession found seen = IfSome found (λ (s : Session). HoldsFew bytes segs s seen)
+  abbrev HoldsSession : Option FlowSession → Bool → Type 0
+  HoldsSession found seen = IfSome found (λ (s : FlowSession). HoldsFew bytes segs s seen)
 
   abbrev pub HoldsState : Option FlowState → Bool → Type 0
   HoldsState found seen = IfSome found (λ (s : FlowState). HoldsFew bytes segs s.session seen)
@@ -98,7 +98,7 @@ module _ (making : Making) (bytes segs : ℕ) where
         }
 
     -- one that goes on
-    gone-few : (step : Step) (state : State) (session : Session) (was seen : Bool) → HoldsFew bytes segs session was → state.tcp ≡ session.state.tcp
+    gone-few : (step : Step) (state : State) (session : FlowSession) (was seen : Bool) → HoldsFew bytes segs session was → state.tcp ≡ session.state.tcp
         → (state.tcp ≡ false → IsQuiet step) → (state.tcp ≡ true → seen ≡ true)
         → HoldsFew bytes segs (with_bases step (record (settled session) { state = state })) seen
     gone-few step state session was seen few same quiet known = record {
@@ -112,7 +112,7 @@ module _ (making : Making) (bytes segs : ℕ) where
       known = known;
     }
 
-    ack-few : (step : Step) (s : Session) (seen : Bool) → HoldsFew bytes segs s seen → (s.state.tcp ≡ false → IsQuiet step) → HoldsFew bytes segs (after_ack p step s) seen
+    ack-few : (step : Step) (s : FlowSession) (seen : Bool) → HoldsFew bytes segs s seen → (s.state.tcp ≡ false → IsQuiet step) → HoldsFew bytes segs (after_ack p step s) seen
     unfolding after_ack
     ack-few step s seen few quiet = by step.counts_ack refl (is_from_client step)
       where
@@ -132,7 +132,7 @@ module _ (making : Making) (bytes segs : ℕ) where
           known = few.known;
         }
 
-    ack-state : (step : Step) (s : Session) → (after_ack p step s).state ≡ s.state
+    ack-state : (step : Step) (s : FlowSession) → (after_ack p step s).state ≡ s.state
     unfolding after_ack
     ack-state step s = by step.counts_ack (is_from_client step)
       where
@@ -141,7 +141,7 @@ module _ (making : Making) (bytes segs : ℕ) where
         by true true = refl
         by true false = refl
 
-    data-few : (step : Step) (s : Session) (seen : Bool) → HoldsFew bytes segs s seen → (s.state.tcp ≡ false → IsQuiet step) → HoldsFew bytes segs (after_data p step s) seen
+    data-few : (step : Step) (s : FlowSession) (seen : Bool) → HoldsFew bytes segs s seen → (s.state.tcp ≡ false → IsQuiet step) → HoldsFew bytes segs (after_data p step s) seen
     unfolding after_data
     data-few step s seen few quiet = by step.takes_data refl (is_from_client step)
       where
@@ -168,15 +168,15 @@ module _ (making : Making) (bytes segs : ℕ) where
         }
 
     -- the session of the packet, after its acknowledgement and its data
-    abbrev Goes : Step → Bool → Session → Type 0
+    abbrev Goes : Step → Bool → FlowSession → Type 0
     Goes step seen s = HoldsFew bytes segs s seen × (s.state.tcp ≡ false → IsQuiet step)
 
-    after-few : (step : Step) (seen : Bool) (s : Session) → Goes step seen s → HoldsFew bytes segs (after_data p step (after_ack p step s)) seen
+    after-few : (step : Step) (seen : Bool) (s : FlowSession) → Goes step seen s → HoldsFew bytes segs (after_data p step (after_ack p step s)) seen
     after-few step seen s h =
         data-few step (after_ack p step s) seen (ack-few step s seen h.0 h.1)
         (λ off. h.1 (ap (λ (state : State). state.tcp) (sym (ack-state step s)) ∙ off))
 
-    session-few : (found : Option Session) (was : Bool) → HoldsSession found was
+    session-few : (found : Option FlowSession) (was : Bool) → HoldsSession found was
         → IfSome (session_of making p found (step_of making p found) (state_of making p found)) (Goes (step_of making p found) (was || is_tcp p.head.body))
     unfolding session_of begun_session
     session-few found was holds = by (not step.tracked) step.begun
@@ -196,25 +196,25 @@ module _ (making : Making) (bytes segs : ℕ) where
         seen : Bool
         seen = was || is_tcp p.head.body
 
-        known_of : (o : Option Session) → HoldsSession o was → (state_found p o).tcp ≡ true → seen ≡ true
+        known_of : (o : Option FlowSession) → HoldsSession o was → (state_found p o).tcp ≡ true → seen ≡ true
         known_of None h is = or-right was (is_tcp p.head.body) is
         known_of (Some session) h is = or-left was (is_tcp p.head.body) (h.known is)
 
         known : state.tcp ≡ true → seen ≡ true
         known is = known_of found holds (sym same ∙ is)
 
-        go_on : (o : Option Session) → HoldsSession o was → state.tcp ≡ (state_found p o).tcp
-            → IfSome (option_map (λ (session : Session). with_bases step (record (settled session) { state = state })) o) (Goes step seen)
+        go_on : (o : Option FlowSession) → HoldsSession o was → state.tcp ≡ (state_found p o).tcp
+            → IfSome (option_map (λ (session : FlowSession). with_bases step (record (settled session) { state = state })) o) (Goes step seen)
         go_on None h is = tt
         go_on (Some session) h is = (gone-few step state session was seen h is quiet known, quiet)
 
         by : (a b : Bool) → IfSome (cond a None (cond b (Some (with_bases step (begun_session making p step state)))
-            (option_map (λ (session : Session). with_bases step (record (settled session) { state = state })) found))) (Goes step seen)
+            (option_map (λ (session : FlowSession). with_bases step (record (settled session) { state = state })) found))) (Goes step seen)
         by true b = tt
         by false true = (begun-few step state seen quiet known, quiet)
         by false false = go_on found holds same
 
-    packet-few : (found : Option Session) (was : Bool) → HoldsSession found was → HoldsSession (packet_items making p found).session (was || is_tcp p.head.body)
+    packet-few : (found : Option FlowSession) (was : Bool) → HoldsSession found was → HoldsSession (packet_items making p found).session (was || is_tcp p.head.body)
     unfolding packet_items
     packet-few found was holds = by step.ends
       where
@@ -224,14 +224,14 @@ module _ (making : Making) (bytes segs : ℕ) where
         seen : Bool
         seen = was || is_tcp p.head.body
 
-        own : Option Session
+        own : Option FlowSession
         own = session_of making p found step (state_of making p found)
 
         by : (b : Bool) → HoldsSession (cond b None (session_after p step own)) seen
         by true = tt
         by false =
-            some-map (λ (s : Session). after_data p step (after_ack p step s)) (λ (s : Session). HoldsFew bytes segs s seen) own
-            (some-then (Goes step seen) (λ (s : Session). HoldsFew bytes segs (after_data p step (after_ack p step s)) seen) own (after-few step seen) (session-few found was holds))
+            some-map (λ (s : FlowSession). after_data p step (after_ack p step s)) (λ (s : FlowSession). HoldsFew bytes segs s seen) own
+            (some-then (Goes step seen) (λ (s : FlowSession). HoldsFew bytes segs (after_data p step (after_ack p step s)) seen) own (after-few step seen) (session-few found was holds))
 
   -- ---- jobs
 
@@ -239,7 +239,7 @@ module _ (making : Making) (bytes segs : ℕ) where
   at_hand-few None seen holds = tt
   at_hand-few (Some s) seen holds = holds
 
-  items-few : (moment : Moment) (w : Work) (found : Option Session) (was : Bool) → IsLimitedWork making bytes segs w → HoldsSession found was
+  items-few : (moment : Moment) (w : Work) (found : Option FlowSession) (was : Bool) → IsLimitedWork making bytes segs w → HoldsSession found was
       → HoldsSession (work_items making moment w found).session (seen_after was w)
   unfolding finish_items
   items-few moment (work.Alone head payload) found was limited holds = tt
@@ -248,7 +248,7 @@ module _ (making : Making) (bytes segs : ℕ) where
   items-few moment (work.Finish flow) found was limited holds = tt
 
 module _ (d : Detection) (bytes segs : ℕ) where
-  steered-few : (hits : List Hits) (s : Session) (seen : Bool) → HoldsFew bytes segs s seen → HoldsFew bytes segs (steered d.trying.rules hits s) seen
+  steered-few : (hits : List Hits) (s : FlowSession) (seen : Bool) → HoldsFew bytes segs s seen → HoldsFew bytes segs (steered d.trying.rules hits s) seen
   unfolding steered
   steered-few hits s seen few = record { client = few.client; server = few.server; plain = few.plain; known = few.known }
 
@@ -261,9 +261,9 @@ module _ (d : Detection) (bytes segs : ℕ) where
       let bits = bits_found items found in
       let hits : List Hits = hits_of d.trying bits items.current in
       let left = unwrap_or (bits_after_items d.trying bits items.current) empty in
-      let made : Session → FlowState = λ s. record { session = steered d.trying.rules hits s; bits = left } in
+      let made : FlowSession → FlowState = λ s. record { session = steered d.trying.rules hits s; bits = left } in
       some-map made (λ (s : FlowState). HoldsFew bytes segs s.session seen) items.session
-      (some-then (λ (s : Session). HoldsFew bytes segs s seen) (λ (s : Session). HoldsFew bytes segs (steered d.trying.rules hits s) seen) items.session
+      (some-then (λ (s : FlowSession). HoldsFew bytes segs s seen) (λ (s : FlowSession). HoldsFew bytes segs (steered d.trying.rules hits s) seen) items.session
       (λ s h. steered-few hits s seen h)
       (items-few d.making bytes segs job.moment job.work (session_at_hand found) was limited (at_hand-few d.making bytes segs found was holds)))
 

@@ -17,7 +17,7 @@ use Rattle.stream5_reassembly.specs.Segments.{DirectionState, IsWithinLimits, ac
 use Rattle.stream5_reassembly.specs.Segments.{first_place, flushed_bytes, flushed_to, idle, place_in, segment_at, segment_fate}
 use Rattle.stream5_reassembly.specs.Segments.{started_at, top, with_segment}
 use Rattle.stream5_reassembly.proofs.Steps.{idle-top, queued-room}
-use Rattle.flow_lanes.specs.Sides.{Side, side_after_ack, side_after_data, started_by, with_base, with_data, without_left}
+use Rattle.flow_lanes.specs.Sides.{SessionSide, side_after_ack, side_after_data, started_by, with_base, with_data, without_left}
 use Rattle.flow_lanes.specs.Streams.{places_below}
 use Rattle.flow_lanes.specs.Holding.{counted_segments, waiting_bytes}
 
@@ -117,14 +117,14 @@ module _ (bytes segs : ℕ) where
   few-met : (direction : DirectionState) (seq : ℕ) → Few direction → Few (started_by direction seq)
   few-met direction seq few = few-if direction.started direction (started_at direction seq) few (few-started direction seq few)
 
-  pub side-data : (side : Side) (seq : ℕ) (payload : List ℕ) → Few side.direction → Few (side_after_data side seq payload).direction
+  pub side-data : (side : SessionSide) (seq : ℕ) (payload : List ℕ) → Few side.direction → Few (side_after_data side seq payload).direction
   unfolding side_after_data
   side-data side seq [] few = few
   side-data side seq (byte ∷ payload) few =
       few-if side.on (with_data (started_by side.direction seq) seq (byte ∷ payload)) side.direction
       (few-data (started_by side.direction seq) seq (byte ∷ payload) (few-met side.direction seq few)) few
 
-  pub side-ack : (side : Side) (ack : ℕ) → Few side.direction → Few (side_after_ack side ack).direction
+  pub side-ack : (side : SessionSide) (ack : ℕ) → Few side.direction → Few (side_after_ack side ack).direction
   unfolding side_after_ack
   side-ack side ack few = by_flush (ack_flushes side.direction ack) refl
     where
@@ -132,11 +132,11 @@ module _ (bytes segs : ℕ) where
       by_flush true is = few-acked side.direction ack few is
       by_flush false is = few
 
-  pub side-base : (side : Side) (base : Option ℕ) → Few side.direction → Few (with_base side base).direction
+  pub side-base : (side : SessionSide) (base : Option ℕ) → Few side.direction → Few (with_base side base).direction
   side-base side None few = few
   side-base side (Some seq) few = few-if side.since_begin (started_at side.direction seq) side.direction (few-started side.direction seq few) few
 
-  pub side-left : (side : Side) → Few side.direction → Few (without_left side).direction
+  pub side-left : (side : SessionSide) → Few side.direction → Few (without_left side).direction
   side-left side few = by_on side.on
     where
       by_on : (b : Bool) → Few (cond b side (record side { direction = idle side.direction.limits side.direction.preference })).direction
@@ -145,12 +145,12 @@ module _ (bytes segs : ℕ) where
 
 -- ---- a side that holds nothing
 
-pub idle-left : (side : Side) → IsIdle side.direction → IsIdle (without_left side).direction
+pub idle-left : (side : SessionSide) → IsIdle side.direction → IsIdle (without_left side).direction
 idle-left side is = by_on side.on
   where
     by_on : (b : Bool) → IsIdle (cond b side (record side { direction = idle side.direction.limits side.direction.preference })).direction
     by_on true = is
     by_on false = refl
 
-pub idle-base : (side : Side) (base : Option ℕ) → base ≡ None → IsIdle side.direction → IsIdle (with_base side base).direction
+pub idle-base : (side : SessionSide) (base : Option ℕ) → base ≡ None → IsIdle side.direction → IsIdle (with_base side base).direction
 idle-base side base none is = subst (λ (b : Option ℕ). IsIdle (with_base side b).direction) (sym none) is

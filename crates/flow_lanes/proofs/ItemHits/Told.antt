@@ -7,7 +7,7 @@ use Rattle.rule_types.specs.declared.rule.Rule.{Rule}
 use Rattle.flow_lanes.specs.declared.answer.Hits.{Hits}
 use Rattle.flow_lanes.specs.Flows.{SidesOn, sides_after_hit, steered}
 use Rattle.flow_lanes.specs.ItemHits.{is_matched, matched, told}
-use Rattle.flow_lanes.specs.Sessions.{Session}
+use Rattle.flow_lanes.specs.Sessions.{FlowSession}
 use Rattle.flow_lanes.specs.Sides.{turned}
 
 -- of no items none is told
@@ -39,7 +39,7 @@ sides-matched rules sides (item ∷ items) = by_rules item.rules (λ (after : Si
         ∙ rest (sides_after_hit rules sides hit)
 
 -- the session after a job is the same by all of its items and by those that are told
-pub steered-told : (all : Bool) (rules : List Rule) (items : List Hits) (session : Session) → steered rules (told all items) session ≡ steered rules items session
+pub steered-told : (all : Bool) (rules : List Rule) (items : List Hits) (session : FlowSession) → steered rules (told all items) session ≡ steered rules items session
 unfolding steered
 steered-told true rules items session = refl
 steered-told false rules items session =

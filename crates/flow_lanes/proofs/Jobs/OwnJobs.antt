@@ -10,7 +10,7 @@ use Rattle.edge_io.proofs.Along.{along_from-append}
 use Rattle.ordered_merge.specs.declared.numbered.Numbered.{Numbered}
 use Rattle.flow_lanes.specs.declared.answer.JobFound.{JobFound}
 use Rattle.flow_lanes.specs.declared.job.Job.{Job}
-use Rattle.flow_lanes.specs.declared.worker.Share.{Share}
+use Rattle.flow_lanes.specs.declared.worker.LanePlace.{LanePlace}
 use Rattle.flow_lanes.specs.Flows.{flow_of, same_flow}
 use Rattle.flow_lanes.specs.Given.{Inspection}
 use Rattle.flow_lanes.specs.Sound.{IsSoundFor, facts_after, facts_after_one}
@@ -94,14 +94,14 @@ module _ {P : Type 0} (by : Inspection P) where
   }
 
   -- a job of the lane goes on with it, and a job of another lane changes nothing
-  pub AddsOwn-own : (share : Share) (job : Job) (old new : LaneState) (outs more : List (Numbered JobFound)) → is_in_lane share.count share.place job ≡ true
+  pub AddsOwn-own : (share : LanePlace) (job : Job) (old new : LaneState) (outs more : List (Numbered JobFound)) → is_in_lane share.count share.place job ≡ true
       → AddsFound by job old outs new more → AddsOwn by share job old outs new more
   AddsOwn-own share job old new outs more is adds start front done =
       subst (λ jobs. GoesOn by start jobs more new) (sym (own_jobs-more share.count share.place front job true is))
       (subst (λ (all_outs : List (Numbered JobFound)). GoesOn by start (own_jobs share.count share.place front ++ job ∷ []) all_outs new) (sym adds.added)
       (GoesOn-more start old new (own_jobs share.count share.place front) outs job adds.found done adds.searches adds.learns))
 
-  pub AddsOwn-other : (share : Share) (job : Job) (lane : LaneState) (outs : List (Numbered JobFound)) → is_in_lane share.count share.place job ≡ false → AddsOwn by share job lane outs lane outs
+  pub AddsOwn-other : (share : LanePlace) (job : Job) (lane : LaneState) (outs : List (Numbered JobFound)) → is_in_lane share.count share.place job ≡ false → AddsOwn by share job lane outs lane outs
   AddsOwn-other share job lane outs is start front done =
       subst (λ jobs. GoesOn by start jobs outs lane) (sym (own_jobs-more share.count share.place front job false is ∙ append-nil (own_jobs share.count share.place front))) done
 

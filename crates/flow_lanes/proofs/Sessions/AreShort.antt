@@ -22,8 +22,8 @@ use Rattle.flow_lanes.specs.declared.job.Job.{Job}
 use Rattle.flow_lanes.specs.declared.job.Work.{Work}
 use Rattle.flow_lanes.specs.declared.job.Work.TheVariants as work
 use Rattle.flow_lanes.specs.Flows.{Detection, all_items, flow_of_work, flow_state, items, same_flow, session_at_hand, work_items}
-use Rattle.flow_lanes.specs.Sessions.{Packet, Session, ack_of, acked_side, session_of, settled, sizes_of, state_of, step_of}
-use Rattle.flow_lanes.specs.Sides.{Side, acked_payloads, held_payloads, left_payloads}
+use Rattle.flow_lanes.specs.Sessions.{Packet, FlowSession, ack_of, acked_side, session_of, settled, sizes_of, state_of, step_of}
+use Rattle.flow_lanes.specs.Sides.{SessionSide, acked_payloads, held_payloads, left_payloads}
 use Rattle.flow_lanes.specs.Sound.{FlowFacts, HasSessions, IsSoundFor, IsSoundWork}
 use Rattle.flow_lanes.specs.LanesAfter.{AreShort, is_stretch}
 use Rattle.flow_lanes.specs.Streams.{flushed_payloads, item_size, parts_of, runs_of, places_below}
@@ -49,17 +49,17 @@ flushed_short : (direction : DirectionState) (to : ℕ) → All IsShort (flushed
 unfolding flushed_payloads
 flushed_short direction to = cut_short (runs_of (places_below direction to))
 
-acked_short : (side : Side) (ack : ℕ) → All IsShort (acked_payloads side ack)
+acked_short : (side : SessionSide) (ack : ℕ) → All IsShort (acked_payloads side ack)
 unfolding acked_payloads
 acked_short side ack =
     cond_both (ack_flushes side.direction ack) (flushed_payloads side.direction (ack_place side.direction ack)) [] (All IsShort)
     (λ is. flushed_short side.direction (ack_place side.direction ack)) (λ is. All-nil IsShort)
 
-held_short : (side : Side) → All IsShort (held_payloads side)
+held_short : (side : SessionSide) → All IsShort (held_payloads side)
 unfolding held_payloads
 held_short side = flushed_short side.direction (top side.direction)
 
-left_short : (side : Side) → All IsShort (left_payloads side)
+left_short : (side : SessionSide) → All IsShort (left_payloads side)
 left_short side = cond_both side.on [] (held_payloads side) (All IsShort) (λ is. All-nil IsShort) (λ is. held_short side)
 
 -- an item is short, if it is a stretch of a stream
@@ -83,29 +83,31 @@ of_some_short : {A : Type 0} (items : A → List Item) → ((x : A) → AllShort
 of_some_short items each None = none_short
 of_some_short items each (Some x) = each x
 
-streams_short : (side : Side) (of_client : Bool) (moment : Moment) (sizes : ℕ × ℕ) (payloads : List (List ℕ)) → All IsShort payloads → AllShort (stream_items side of_client moment sizes payloads)
+streams_short : (side : SessionSide) (of_client : Bool) (moment : Moment) (sizes : ℕ × ℕ) (payloads : List (List ℕ))
+    → All IsShort payloads
+    → AllShort (stream_items side of_client moment sizes payloads)
 streams_short side of_client moment sizes [] h = none_short
 streams_short side of_client moment sizes (payload ∷ payloads) h =
     All-cons IsShortItem _ (stream_items side of_client moment sizes payloads)
     (λ is. All-head IsShort payload payloads h)
     (streams_short side of_client moment sizes payloads (All-tail IsShort payload payloads h))
 
-sides_short : (payloads : Side → List (List ℕ))
-    → ((side : Side) → All IsShort (payloads side))
-    → (session : Session) (moment : Moment) (sizes : ℕ × ℕ)
+sides_short : (payloads : SessionSide → List (List ℕ))
+    → ((side : SessionSide) → All IsShort (payloads side))
+    → (session : FlowSession) (moment : Moment) (sizes : ℕ × ℕ)
     → AllShort (both_sides payloads session moment sizes)
 sides_short payloads each session moment sizes =
     both_short (stream_items session.client true moment sizes (payloads session.client)) (stream_items session.server false moment sizes (payloads session.server))
     (streams_short session.client true moment sizes (payloads session.client) (each session.client))
     (streams_short session.server false moment sizes (payloads session.server) (each session.server))
 
-closing_short : (session : Session) (moment : Moment) → AllShort (closing_items session moment)
+closing_short : (session : FlowSession) (moment : Moment) → AllShort (closing_items session moment)
 unfolding closing_items
 closing_short session moment =
     both_short (left_items session moment (sizes_of session)) (held_items (settled session) moment (sizes_of session))
     (sides_short left_payloads left_short session moment (sizes_of session)) (sides_short held_payloads held_short (settled session) moment (sizes_of session))
 
-acked_items_short : (p : Packet) (step : Step) (session : Session) (sizes : ℕ × ℕ) → AllShort (acked_items p step session sizes)
+acked_items_short : (p : Packet) (step : Step) (session : FlowSession) (sizes : ℕ × ℕ) → AllShort (acked_items p step session sizes)
 acked_items_short p step session sizes =
     if_short step.counts_ack
     (stream_items (acked_side step session) (not (unwrap_or step.from_client true)) p.moment sizes
@@ -122,12 +124,12 @@ no_stretch (body.Tcp head) has = refl
 no_stretch (body.Udp sport dport) has = refl
 no_stretch _ has = absurd has
 
-own_short : (making : Making) (p : Packet) (step : Step) (session after : Option Session) → HasSessions p.head.body → AllShort (own_items making p step session after)
+own_short : (making : Making) (p : Packet) (step : Step) (session after : Option FlowSession) → HasSessions p.head.body → AllShort (own_items making p step session after)
 own_short making p step session after has =
     if_short (is_queued p step session && not making.inserts) [] (packet_item p step after ∷ []) none_short
     (All-cons IsShortItem (packet_item p step after) [] (λ is. absurd (false≢true (sym (no_stretch p.head.body has) ∙ is))) none_short)
 
-session_short : (making : Making) (p : Packet) (step : Step) (found session after : Option Session) → HasSessions p.head.body → AllShort (session_items making p step found session after)
+session_short : (making : Making) (p : Packet) (step : Step) (found session after : Option FlowSession) → HasSessions p.head.body → AllShort (session_items making p step found session after)
 session_short making p step found session after has =
     let sizes : ℕ × ℕ = option_map_or sizes_of after (0, 0) in
     let left =
@@ -140,22 +142,22 @@ session_short making p step found session after has =
     none_short in
     both_short _ _ (both_short _ _ (both_short _ _ left acked) held) (own_short making p step session after has)
 
-told_short : (making : Making) (p : Packet) (found : Option Session) (step : Step) (state : State) → HasSessions p.head.body → AllShort (all_items (items_told making p found step state))
+told_short : (making : Making) (p : Packet) (found : Option FlowSession) (step : Step) (state : State) → HasSessions p.head.body → AllShort (all_items (items_told making p found step state))
 told_short making p found step state has =
     both_short _ _
     (if_short step.ended_before (option_map_or (λ s. closing_items s p.moment) found []) [] (of_some_short (λ s. closing_items s p.moment) (λ s. closing_short s p.moment) found) none_short)
     (session_short making p step found (session_of making p found step state) (session_after p step (session_of making p found step state)) has)
 
 -- the items of a packet's job, and of a flow's end, are short
-pub packet_short : (making : Making) (p : Packet) (found : Option Session) → HasSessions p.head.body → AllShort (all_items (packet_items making p found))
+pub packet_short : (making : Making) (p : Packet) (found : Option FlowSession) → HasSessions p.head.body → AllShort (all_items (packet_items making p found))
 unfolding packet_items
 packet_short making p found has = told_short making p found (step_of making p found) (state_of making p found) has
 
-pub finish_short : (moment : Moment) (found : Option Session) → AllShort (all_items (finish_items moment found))
+pub finish_short : (moment : Moment) (found : Option FlowSession) → AllShort (all_items (finish_items moment found))
 unfolding finish_items
 finish_short moment found = both_short _ _ (of_some_short (λ s. closing_items s moment) (λ s. closing_short s moment) found) none_short
 
-work_short : (making : Making) (engines : ℕ) (facts : Option FlowFacts) (moment : Moment) (w : Work) (found : Option Session)
+work_short : (making : Making) (engines : ℕ) (facts : Option FlowFacts) (moment : Moment) (w : Work) (found : Option FlowSession)
     → IsSoundWork engines facts moment w
     → IsSome (flow_of_work w)
     → AllShort (all_items (work_items making moment w found))

@@ -18,7 +18,7 @@ use Rattle.flow_lanes.specs.Flows.{FlowState, all_items, bits_at_hand, hits_in, 
 use Rattle.flow_lanes.specs.Given.{Inspection}
 use Rattle.flow_lanes.specs.ItemHits.{bits_after_items, hits_of, told}
 use Rattle.flow_lanes.specs.Items.{JobItems, acked_items, alone_items, finish_items, held_items, items_told, left_items, own_items, packet_items, session_after}
-use Rattle.flow_lanes.specs.Sessions.{Packet, Session, begun_session, session_of, settled, state_of, step_of, with_bases}
+use Rattle.flow_lanes.specs.Sessions.{Packet, FlowSession, begun_session, session_of, settled, state_of, step_of, with_bases}
 use Rattle.flow_lanes.specs.Tried.{ByTest, SoFar, Tallied, Tallies, Tries, of_job, of_session}
 use Rattle.flow_lanes.specs.Working.{ended_items, items_on, sizes_after, unless_ended}
 use Rattle.flow_lanes.proofs.ItemHits.Told.{steered-told, told-none}
@@ -39,12 +39,12 @@ settles-by by items step old mid bare new bits last one two first finds kept lef
     let hits_are : two.hits ≡ one.hits ++ told by.all hits =
     tries.tallies.hits means trying tried ∙ ap (λ (b : Option Bits). one.hits ++ told by.all (hits_of trying b items)) finds in
     let own : drop first two.hits ≡ told by.all hits = (λ i. drop (at i) (hits_are i)) ∙ dropped one.hits (told by.all hits) in
-    let bare_is : session_at_hand bare ≡ cond step.ends None (session_at_hand old) = left ∙ ap (λ (s : Option Session). cond step.ends None s) kept in
+    let bare_is : session_at_hand bare ≡ cond step.ends None (session_at_hand old) = left ∙ ap (λ (s : Option FlowSession). cond step.ends None s) kept in
     let last_is : last ≡ bits_after_items trying (bits_now step.tracked old) items =
     tries.bits means trying tried ∙ ap (λ (b : Option Bits). bits_after_items trying b items) finds in
     state
-    ∙ (λ i. option_map (λ (session : Session). record { session = steered (sym tried.rules i) (own i) session; bits = unwrap_or (last_is i) empty }) (bare_is i))
-    ∙ (λ i. option_map (λ (session : Session). record {
+    ∙ (λ i. option_map (λ (session : FlowSession). record { session = steered (sym tried.rules i) (own i) session; bits = unwrap_or (last_is i) empty }) (bare_is i))
+    ∙ (λ i. option_map (λ (session : FlowSession). record {
       session = steered-told by.all trying.rules hits session i;
       bits = unwrap_or (bits_after_items trying (bits_now step.tracked old) items) empty;
     }) (cond step.ends None (session_at_hand old)))
@@ -56,7 +56,7 @@ found-bits false begun mid old is = refl
 found-bits true true mid old is = ap (λ (b : Option Bits). Some (unwrap_or b empty)) is
 found-bits true false mid old is = ap (λ (b : Option Bits). Some (unwrap_or b empty)) is
 
-unless_ends : (ends : Bool) (x y : Option Session) → (ends ≡ false → x ≡ y) → cond {A = Option Session} ends None x ≡ cond ends None y
+unless_ends : (ends : Bool) (x y : Option FlowSession) → (ends ≡ false → x ≡ y) → cond {A = Option FlowSession} ends None x ≡ cond ends None y
 unless_ends true x y same = refl
 unless_ends false x y same = same refl
 
@@ -81,15 +81,15 @@ module _ (making : Making) (p : Packet) (step : Step) (state : State) (items : L
       settles ∙ (λ i. option_map (after_items trying (bits_are i) (items_are i)) (left i))
 
 -- after a session that ended before it, a packet begins its own or has none
-begun-anew : (making : Making) (p : Packet) (step : Step) (state : State) (found : Option Session)
+begun-anew : (making : Making) (p : Packet) (step : Step) (state : State) (found : Option FlowSession)
     → step.begun ≡ step.tracked
     → session_of making p found step state ≡ session_of making p None step state
 unfolding session_of
 begun-anew making p step state found fresh =
     by_case step.tracked step.begun (Some (with_bases step (begun_session making p step state)))
-    (option_map (λ (session : Session). with_bases step (record (settled session) { state = state })) found) fresh
+    (option_map (λ (session : FlowSession). with_bases step (record (settled session) { state = state })) found) fresh
   where
-    by_case : (t b : Bool) (x y : Option Session) → b ≡ t → cond {A = Option Session} (not t) None (cond b x y) ≡ cond (not t) None (cond b x None)
+    by_case : (t b : Bool) (x y : Option FlowSession) → b ≡ t → cond {A = Option FlowSession} (not t) None (cond b x y) ≡ cond (not t) None (cond b x None)
     by_case false b x y is = refl
     by_case true true x y is = refl
     by_case true false x y is = absurd (false≢true is)
@@ -111,8 +111,8 @@ bits-anew true step found fresh = by_case step.tracked step.begun (unwrap_or (bi
 -- the items of the packet's session are those that the definition tells
 told-current : (b : Bool) (making : Making) (p : Packet) (step : Step) (state : State) (found : Option FlowState) → (b ≡ true → step.begun ≡ step.tracked)
     → items_on making p step state (session_at_hand (unless_ended b found))
-    ≡ (let session : Option Session = session_of making p (session_at_hand found) step state in
-    let after : Option Session = session_after p step session in
+    ≡ (let session : Option FlowSession = session_of making p (session_at_hand found) step state in
+    let after : Option FlowSession = session_after p step session in
     let sizes : ℕ × ℕ = sizes_after after in
     (cond b [] (option_map_or (λ s. left_items s p.moment sizes) (session_at_hand found) []))
     ++ option_map_or (λ s. acked_items p step s sizes) session []
@@ -120,8 +120,8 @@ told-current : (b : Bool) (making : Making) (p : Packet) (step : Step) (state : 
     ++ own_items making p step session after)
 told-current false making p step state found fresh = refl
 told-current true making p step state found fresh =
-    ap (λ (session : Option Session).
-    let after : Option Session = session_after p step session in
+    ap (λ (session : Option FlowSession).
+    let after : Option FlowSession = session_after p step session in
     let sizes : ℕ × ℕ = sizes_after after in
     [] ++ option_map_or (λ s. acked_items p step s sizes) session []
     ++ (cond step.ends (option_map_or (λ s. held_items s p.moment sizes) after []) [])
@@ -160,7 +160,7 @@ module _ (making : Making) (p : Packet) (found mid : Option FlowState) (step : S
       let session : session_of making p (session_at_hand mid) step state ≡ session_of making p (session_at_hand found) step state =
       ap (λ (f : Option FlowState). session_of making p (session_at_hand f) step state) left ∙ session-anew step.ended_before making p step state found anew in
       on
-      ∙ (λ i. option_map (after_items trying (bits_are i) (current-is i)) (cond {A = Option Session} step.ends None (session_after p step (session i))))
+      ∙ (λ i. option_map (after_items trying (bits_are i) (current-is i)) (cond {A = Option FlowSession} step.ends None (session_after p step (session i))))
       ∙ ap (λ (items : JobItems). state_after trying items found) told-is
 
 module _ {P : Type 0} (by : Inspection P) (none : SoFar) (hits : none.hits ≡ []) (items : none.items ≡ 0) (tries : none.tries ≡ 0) (visits : none.visits ≡ 0) where

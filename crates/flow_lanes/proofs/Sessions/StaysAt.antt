@@ -17,7 +17,7 @@ use Rattle.flow_lanes.specs.Engines.{Making}
 use Rattle.flow_lanes.specs.Flows.{FlowState, bits_at_hand, session_at_hand}
 use Rattle.flow_lanes.specs.Given.{Inspection}
 use Rattle.flow_lanes.specs.Items.{is_queued, session_after}
-use Rattle.flow_lanes.specs.Sessions.{Packet, Session, session_of, session_rules, settled, state_of, step_of, with_bases, begun_session}
+use Rattle.flow_lanes.specs.Sessions.{Packet, FlowSession, session_of, session_rules, settled, state_of, step_of, with_bases, begun_session}
 use Rattle.flow_lanes.specs.Sides.{with_base}
 use Rattle.flow_lanes.specs.Staying.{StaysAt, StaysIn}
 use Rattle.flow_lanes.specs.Tried.{SoFar, Tallies, of_session}
@@ -27,7 +27,7 @@ use Rattle.flow_lanes.proofs.Sessions.DetectsOn.{gains-on, goes-on, told-gain, t
 use Rattle.flow_lanes.proofs.Sessions.ItemsOn.{items-on, none-told}
 
 -- what the table of phases tells of the packet
-pub stays-in : (making : Making) (p : Packet) (old : Session) (rules : SessionRules) (step : Step) (state : State)
+pub stays-in : (making : Making) (p : Packet) (old : FlowSession) (rules : SessionRules) (step : Step) (state : State)
     → rules ≡ session_rules making p (Some old)
     → stays_as_is old.state (segment_of p.head.ip p.head.body (length p.payload) p.moment) rules ≡ true
     → session_step old.state (segment_of p.head.ip p.head.body (length p.payload) p.moment) rules ≡ record { step = step; state = state }
@@ -58,20 +58,20 @@ pub stays-at : (making : Making) (p : Packet) (before after : FlowState) (step :
     → StaysAt making p (Some before) step (Some after)
 unfolding session_of
 stays-at making p before after step stays bits =
-    let old : Session = before.session in
+    let old : FlowSession = before.session in
     let state : State = state_of making p (Some old) in
-    let on : Option Session = Some (with_bases step (record (settled old) { state = state })) in
+    let on : Option FlowSession = Some (with_bases step (record (settled old) { state = state })) in
     record {
       step_is = stays.step_is;
       session_is =
-          ap (λ (s : Session). Some s) stays.session_is
+          ap (λ (s : FlowSession). Some s) stays.session_is
           ∙ (λ i. Some (record old { state = state; client = sym stays.client_left.1 i; server = sym stays.server_left.1 i }))
           ∙ (λ i. Some (record (settled old) {
             state = state;
             client = with_base (settled old).client (sym stays.kind.client_base i);
             server = with_base (settled old).server (sym stays.kind.server_base i);
           }))
-          ∙ (λ i. cond {A = Option Session} (not (sym stays.kind.tracked i)) None (cond (sym stays.kind.begun i) (Some (with_bases step (begun_session making p step state))) on));
+          ∙ (λ i. cond {A = Option FlowSession} (not (sym stays.kind.tracked i)) None (cond (sym stays.kind.begun i) (Some (with_bases step (begun_session making p step state))) on));
       bits = ap (λ (b : Bits). Some b) bits;
       kind = stays.kind;
       left = none-told old stays.client_left stays.server_left;

@@ -1,11 +1,11 @@
 //! The packets of rows: over Ethernet II and IPv4, from C, 10.0.0.1, to S, 10.0.0.2, or back.
 
 use crate::page::Page;
-use row_files::{Parts, cut};
+use row_files::{TextParts, cut};
 
 /// An end of a packet: C or S, and a port.
 #[derive(Clone, Copy)]
-pub(crate) struct End {
+pub(crate) struct FrameEnd {
     pub host: u16,
     pub port: u16,
 }
@@ -18,10 +18,10 @@ pub(crate) const HEAD: &[u8] =
     b"\xd4\xc3\xb2\xa1\x02\0\x04\0\0\0\0\0\0\0\0\0\xff\xff\0\0\x01\0\0\0";
 
 /// The end that a text such as `C:1000` names.
-fn end_of(parts: &mut Parts<'_>, text: &str) -> End {
+fn end_of(parts: &mut TextParts<'_>, text: &str) -> FrameEnd {
     let (name, port) = cut(text, ':');
-    let mut port = Parts::of(port, ' ');
-    let end = End {
+    let mut port = TextParts::of(port, ' ');
+    let end = FrameEnd {
         host: host_of(parts, name),
         port: port.short(),
     };
@@ -32,7 +32,7 @@ fn end_of(parts: &mut Parts<'_>, text: &str) -> End {
 }
 
 /// The last number of a host's address.
-fn host_of(parts: &mut Parts<'_>, name: &str) -> u16 {
+fn host_of(parts: &mut TextParts<'_>, name: &str) -> u16 {
     match name {
         "C" => 1,
         "S" => 2,
@@ -44,7 +44,7 @@ fn host_of(parts: &mut Parts<'_>, name: &str) -> u16 {
 }
 
 /// Both ends of a packet, which the next part says, as `C:1000>S:2000`.
-pub(crate) fn ends_of(parts: &mut Parts<'_>) -> (End, End) {
+pub(crate) fn ends_of(parts: &mut TextParts<'_>) -> (FrameEnd, FrameEnd) {
     let (source, target) = cut(parts.word(), '>');
     (end_of(parts, source), end_of(parts, target))
 }
@@ -127,7 +127,12 @@ fn push_head(page: &mut Page, packet: &mut Vec<u8>, fields: Fields) {
 }
 
 /// Appends a UDP packet without a checksum.
-pub(crate) fn push_udp(page: &mut Page, packet: &mut Vec<u8>, ends: (End, End), text: &[u8]) {
+pub(crate) fn push_udp(
+    page: &mut Page,
+    packet: &mut Vec<u8>,
+    ends: (FrameEnd, FrameEnd),
+    text: &[u8],
+) {
     let (source, target) = ends;
     let size = size_of(text).saturating_add(8);
     let fields = Fields {
@@ -149,7 +154,7 @@ fn halves(number: u32) -> (u16, u16) {
 }
 
 /// A TCP header up to its checksum: 20 bytes long, window 65535.
-fn tcp_front(ends: (End, End), flags: u16, numbers: (u32, u32)) -> [u16; 8] {
+fn tcp_front(ends: (FrameEnd, FrameEnd), flags: u16, numbers: (u32, u32)) -> [u16; 8] {
     let (sequence_high, sequence_low) = halves(numbers.0);
     let (acknowledged_high, acknowledged_low) = halves(numbers.1);
     [
@@ -168,7 +173,7 @@ fn tcp_front(ends: (End, End), flags: u16, numbers: (u32, u32)) -> [u16; 8] {
 pub(crate) fn push_tcp(
     page: &mut Page,
     packet: &mut Vec<u8>,
-    ends: (End, End),
+    ends: (FrameEnd, FrameEnd),
     flags: u16,
     numbers: (u32, u32),
     text: &[u8],

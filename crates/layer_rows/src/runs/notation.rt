@@ -5,7 +5,7 @@ use crate::notation::{CONF, apply_given, push_number};
 use crate::page::Page;
 use crate::runs::frames::{HEAD, ends_of, push_fragment, push_tcp, push_udp, record_head};
 use crate::runs::row::RunRow;
-use row_files::{Parts, RowLine, cut};
+use row_files::{RowLine, TextParts, cut};
 
 /// Applies a line to a row, as often as it is read; false where it isn't understood.
 pub(crate) fn apply(page: &mut Page, row: &mut RunRow, line: &str) -> bool {
@@ -47,7 +47,7 @@ fn set_words(page: &mut Page, row: &mut RunRow, words: &str) {
 }
 
 fn set_step(row: &mut RunRow, text: &str) -> bool {
-    row.step = Parts::of(text, ' ').number();
+    row.step = TextParts::of(text, ' ').number();
     row.step > 0
 }
 
@@ -64,14 +64,14 @@ fn apply_captured(page: &mut Page, row: &mut RunRow, key: &str, rest: &str) -> b
 
 /// Seconds and microseconds, as `1 500000`.
 fn set_moment(row: &mut RunRow, text: &str) -> bool {
-    let mut parts = Parts::of(text, ' ');
+    let mut parts = TextParts::of(text, ' ');
     row.moment = Some((parts.number(), parts.number()));
     parts.is_read()
 }
 
 /// A packet in a record.
 fn apply_packet(page: &mut Page, row: &mut RunRow, key: &str, rest: &str) -> bool {
-    let mut parts = Parts::of(rest, ' ');
+    let mut parts = TextParts::of(rest, ' ');
     let mut packet = Vec::new(page.alloc);
     push_packet(page, &mut packet, key, &mut parts);
     if !parts.is_wrong() {
@@ -92,7 +92,7 @@ fn append_record(page: &mut Page, row: &mut RunRow, packet: &[u8]) {
 }
 
 /// Appends the packet of a line to an empty one.
-fn push_packet(page: &mut Page, packet: &mut Vec<u8>, key: &str, parts: &mut Parts<'_>) {
+fn push_packet(page: &mut Page, packet: &mut Vec<u8>, key: &str, parts: &mut TextParts<'_>) {
     match key {
         "U" => push_udp_line(page, packet, parts),
         "UX" => push_hex_line(page, packet, parts),
@@ -103,20 +103,20 @@ fn push_packet(page: &mut Page, packet: &mut Vec<u8>, key: &str, parts: &mut Par
 }
 
 /// `C:1000>S:2000 TEXT`
-fn push_udp_line(page: &mut Page, packet: &mut Vec<u8>, parts: &mut Parts<'_>) {
+fn push_udp_line(page: &mut Page, packet: &mut Vec<u8>, parts: &mut TextParts<'_>) {
     let ends = ends_of(parts);
     push_udp(page, packet, ends, parts.left().as_bytes());
 }
 
 /// `C:1000>S:2000 HEX`
-fn push_hex_line(page: &mut Page, packet: &mut Vec<u8>, parts: &mut Parts<'_>) {
+fn push_hex_line(page: &mut Page, packet: &mut Vec<u8>, parts: &mut TextParts<'_>) {
     let ends = ends_of(parts);
     let payload = bytes_of(page, parts.left());
     push_udp(page, packet, ends, &payload);
 }
 
 /// The TCP flags of these letters.
-fn flags_of(parts: &mut Parts<'_>) -> u16 {
+fn flags_of(parts: &mut TextParts<'_>) -> u16 {
     match parts.word() {
         "S" => 2,
         "SA" => 18,
@@ -131,7 +131,7 @@ fn flags_of(parts: &mut Parts<'_>) -> u16 {
 }
 
 /// `C:1000>S:80 A 1 101 TEXT`
-fn push_tcp_line(page: &mut Page, packet: &mut Vec<u8>, parts: &mut Parts<'_>) {
+fn push_tcp_line(page: &mut Page, packet: &mut Vec<u8>, parts: &mut TextParts<'_>) {
     let ends = ends_of(parts);
     let flags = flags_of(parts);
     let numbers = (parts.number(), parts.number());
@@ -139,7 +139,7 @@ fn push_tcp_line(page: &mut Page, packet: &mut Vec<u8>, parts: &mut Parts<'_>) {
 }
 
 /// `8 M TEXT`, or `-` in place of M
-fn push_fragment_line(page: &mut Page, packet: &mut Vec<u8>, parts: &mut Parts<'_>) {
+fn push_fragment_line(page: &mut Page, packet: &mut Vec<u8>, parts: &mut TextParts<'_>) {
     let offset = parts.short();
     let more = parts.word() == "M";
     push_fragment(page, packet, offset, more, parts.left().as_bytes());
@@ -176,13 +176,13 @@ fn apply_left(page: &mut Page, row: &mut RunRow, key: &str, rest: &str) -> bool 
 }
 
 fn set_status(row: &mut RunRow, text: &str) -> bool {
-    let mut parts = Parts::of(text, ' ');
+    let mut parts = TextParts::of(text, ' ');
     row.status = parts.number();
     parts.is_read()
 }
 
 fn set_left(row: &mut RunRow, text: &str) -> bool {
-    let mut parts = Parts::of(text, ' ');
+    let mut parts = TextParts::of(text, ' ');
     row.left = Some(parts.number());
     parts.is_read()
 }

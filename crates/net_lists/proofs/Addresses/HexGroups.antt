@@ -13,7 +13,7 @@ use Rattle.std.proofs.lemmas.Nat.{pow-add, mul-add-lt}
 use Rattle.std.proofs.Math.Pow.{pow_mono}
 use Rattle.std.proofs.Math.Nat.{add-mul, mul_assoc, mul_comm}
 use Rattle.std.proofs.lemmas.List.Sums.{fold-append}
-use Rattle.net_lists.specs.declared.address6.Groups.{Groups}
+use Rattle.net_lists.specs.declared.address6.AddrGroups.{AddrGroups}
 use Rattle.net_lists.specs.Addresses.{hex_digit, hex_value, is_group, group, groups_of, groups, groups_value, gap_place, gap, address_of, address_around, colons}
 use Rattle.net_lists.specs.Groups.{with_group, joined, groups_upto, whole, around}
 
@@ -110,11 +110,11 @@ pub all_fit : (count : ℕ) → count ≤ 8 → 2 ^ (16 * count) ≤ 2 ^ 128
 all_fit count h = let fits : 16 * count ≤ 128 = omega arith in pow_mono fits
 
 -- `count` groups that make this number
-made : ℕ → ℕ → Option Groups
+made : ℕ → ℕ → Option AddrGroups
 made count value = Some (record { count = count; value = value })
 
 -- the groups so far and those of more pieces
-kept : ℕ → ℕ → List ℕ → Option Groups
+kept : ℕ → ℕ → List ℕ → Option AddrGroups
 kept count value gs = cond (leb (count + length gs) 8) (Some (record { count = count + length gs; value = fold (λ v g. v * 65536 + g) value gs })) None
 
 below : (count : ℕ) → count ≤ 8 → (count == 8) ≡ false → count + 1 ≤ 8
@@ -293,7 +293,7 @@ module _ (text : List ℕ) (i : ℕ) (whole_place : Option ℕ) (so_far : whole_
   pub gap_ends : length text ≤ i → None ≡ whole_place
   gap_ends h = sym (so_far ∙ ap (option_map (λ n. i + n)) (gap_place-end text i h))
 
-module _ (so_far : Groups) (piece : List ℕ) (pieces all : List (List ℕ)) (first : all ≡ piece ∷ pieces) where
+module _ (so_far : AddrGroups) (piece : List ℕ) (pieces all : List (List ℕ)) (first : all ≡ piece ∷ pieces) where
   pub joined-stop : None ≡ group piece → None ≡ joined so_far all
   unfolding joined
   joined-stop e = sym (ap (joined so_far) first ∙ ap (λ o. option_and_then (λ next. option_and_then (λ more. joined more pieces) (with_group so_far next)) o) (sym e))
@@ -304,13 +304,13 @@ module _ (so_far : Groups) (piece : List ℕ) (pieces all : List (List ℕ)) (fi
       sym (ap (joined so_far) first ∙ ap (λ o. option_and_then (λ next. option_and_then (λ more. joined more pieces) (with_group so_far next)) o) (sym e)
       ∙ ap (λ o. option_and_then (λ more. joined more pieces) o) (sym f))
 
-  pub joined-on : (next : ℕ) (more : Groups) → Some next ≡ group piece → Some more ≡ with_group so_far next → joined so_far all ≡ joined more pieces
+  pub joined-on : (next : ℕ) (more : AddrGroups) → Some next ≡ group piece → Some more ≡ with_group so_far next → joined so_far all ≡ joined more pieces
   unfolding joined
   joined-on next more e f =
       ap (joined so_far) first ∙ ap (λ o. option_and_then (λ next. option_and_then (λ more. joined more pieces) (with_group so_far next)) o) (sym e)
       ∙ ap (λ o. option_and_then (λ more. joined more pieces) o) (sym f)
 
-pub joined-end : (so_far : Groups) → joined so_far [] ≡ Some so_far
+pub joined-end : (so_far : AddrGroups) → joined so_far [] ≡ Some so_far
 unfolding joined
 joined-end so_far = refl
 

@@ -10,7 +10,7 @@ use Rattle.std.proofs.lemmas.Bool.Decides.{nat_tests}
 use Rattle.net_lists.specs.Numbers.{are_digits, decimal_value, digits_upto, has_leading_zero, whole_number, kept_in, number_in}
 use Rattle.edge_io.specs.declared.address.Addr.{Addr}
 use Rattle.edge_io.specs.declared.address.Addr.TheVariants.{V4, V6}
-use Rattle.net_lists.specs.declared.part.Bounds.{Bounds}
+use Rattle.net_lists.specs.declared.part.ValueBounds.{ValueBounds}
 use Rattle.net_lists.specs.declared.part.AddrBounds.{AddrBounds}
 use Rattle.net_lists.specs.declared.network.Network.{Network}
 use Rattle.net_lists.specs.Addresses.{cut, hex_value, octet, dotted, group, groups_of, groups, gap_place, gap, address_of}
@@ -269,13 +269,13 @@ end_start byte rest front value (inl h) e = record { low = omega (arith, h.1); h
 end_start byte rest front value (inr h) e = number_start 0 65535 byte h.0 value (one_end byte h.0 value (ap (port_end 0) (sym h.1) ∙ e))
 
 -- a port part begins with a digit or a colon
-port_bounds_start : (byte : ℕ) (rest : List ℕ) (bounds : Bounds ℕ) → port_bounds (byte ∷ rest) ≡ Some bounds → IsStart byte
+port_bounds_start : (byte : ℕ) (rest : List ℕ) (bounds : ValueBounds ℕ) → port_bounds (byte ∷ rest) ≡ Some bounds → IsStart byte
 unfolding port_bounds between_ends
 port_bounds_start byte rest bounds e = go (cut 58 (byte ∷ rest)) refl e
   where
     go : (o : Option (List ℕ × List ℕ))
         → cut 58 (byte ∷ rest) ≡ o
-        → elim o as (λ _. Option (Bounds ℕ)) [
+        → elim o as (λ _. Option (ValueBounds ℕ)) [
           | None ↦ option_map (λ port. record { low = port; high = port }) (number_in 0 65535 (byte ∷ rest))
           | Some part ↦ between_ends part
         ] ≡

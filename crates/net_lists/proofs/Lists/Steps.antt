@@ -6,7 +6,7 @@ use Rattle.std.proofs.lemmas.Bool.{ltb-false, lt-ltb}
 use Rattle.std.proofs.lemmas.List.{append-nil}
 use Rattle.net_lists.specs.declared.part.Part.{Part}
 use Rattle.net_lists.specs.declared.place.Place.{Place}
-use Rattle.net_lists.specs.declared.place.Step.{Step}
+use Rattle.net_lists.specs.declared.place.ListStep.{ListStep}
 use Rattle.net_lists.specs.declared.place.Wanted.{Wanted}
 use Rattle.net_lists.specs.declared.place.Wanted.TheVariants as wanted
 use Rattle.net_lists.specs.Lists.{signed}
@@ -63,7 +63,7 @@ module _ {B : Type 0} (reads : List ℕ → Option B) where
   run-word wanted.Item depth negated sign word rest s =
       elim (reads word) as
       (λ o. elim
-      (option_map {U = Step B}
+      (option_map {U = ListStep B}
       (λ bounds. record { place = at wanted.Separator depth negated; part = Some (signed (ltb 0 negated) bounds) }) o)
       as (λ _. Option (List (Part B)))
       [ None ↦ None | Some step ↦ before (option_to_list step.part) (run reads step.place rest) ] ≡
@@ -74,7 +74,7 @@ module _ {B : Type 0} (reads : List ℕ → Option B) where
   run-word wanted.Operand depth negated sign word rest s =
       elim (reads word) as
       (λ o. elim
-      (option_map {U = Step B} (λ bounds. record { place = at wanted.Separator depth negated; part = Some (signed true bounds) })
+      (option_map {U = ListStep B} (λ bounds. record { place = at wanted.Separator depth negated; part = Some (signed true bounds) })
       o)
       as (λ _. Option (List (Part B)))
       [ None ↦ None | Some step ↦ before (option_to_list step.part) (run reads step.place rest) ] ≡
@@ -169,7 +169,7 @@ module _ {B : Type 0} (reads : List ℕ → Option B) where
   unfolding run
   run-refused place symbol rest e = ap (λ o. elim o as (λ _. Option (List (Part B))) [ None ↦ None | Some step ↦ before (option_to_list step.part) (run reads step.place rest) ]) (sym e)
 
-  pub run-step : (place : Place) (symbol : Symbol) (rest : List Symbol) (step : Step B)
+  pub run-step : (place : Place) (symbol : Symbol) (rest : List Symbol) (step : ListStep B)
       → Some step ≡ step_of reads place symbol
       → run reads place (symbol ∷ rest) ≡ before (option_to_list step.part) (run reads step.place rest)
   unfolding run
@@ -185,7 +185,7 @@ module _ {B : Type 0} (reads : List ℕ → Option B) where
 
   module _ (whole : Option (List (Part B))) (front : List (Part B)) (place : Place) (symbols : List Symbol) (so_far : whole ≡ before front (run reads place symbols)) where
     -- the reader in the code, a symbol on
-    pub goes_on : (symbol : Symbol) (rest : List Symbol) (step : Step B) (now : List (Part B))
+    pub goes_on : (symbol : Symbol) (rest : List Symbol) (step : ListStep B) (now : List (Part B))
         → symbols ≡ symbol ∷ rest
         → Some step ≡ step_of reads place symbol
         → now ≡ front ++ option_to_list step.part

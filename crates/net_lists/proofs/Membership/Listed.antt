@@ -7,7 +7,7 @@ use Rattle.std.proofs.lemmas.List.Elements.{All-cons}
 use Rattle.net_lists.specs.declared.part.Part.{Part}
 use Rattle.edge_io.specs.declared.address.Addr.{Addr}
 use Rattle.edge_io.specs.declared.address.Addr.TheVariants as addrs
-use Rattle.net_lists.specs.declared.part.Bounds.{Bounds}
+use Rattle.net_lists.specs.declared.part.ValueBounds.{ValueBounds}
 use Rattle.net_lists.specs.declared.part.AddrBounds.{AddrBounds}
 use Rattle.net_lists.specs.declared.part.AddrBounds.TheVariants as kinds
 use Rattle.net_lists.specs.Membership.{IsPositive, IsNegated, IsListed, Has, HasAddress}
@@ -192,10 +192,10 @@ module _ {B : Type 0} (has : B → Bool) (meant : B → Type 0) (yes : (b : B) �
       from (inr all) = inr (inr (refl, all))
 
 -- what the tests of bounds mean
-pub within_yes : (value : ℕ) (bounds : Bounds ℕ) → is_within value bounds ≡ true → Has value bounds
+pub within_yes : (value : ℕ) (bounds : ValueBounds ℕ) → is_within value bounds ≡ true → Has value bounds
 within_yes value bounds e = (leb-true bounds.low value (first_so _ _ e), leb-true value bounds.high (second_so (leb bounds.low value) _ e))
 
-pub within_no : (value : ℕ) (bounds : Bounds ℕ) → is_within value bounds ≡ false → Has value bounds → ⊥
+pub within_no : (value : ℕ) (bounds : ValueBounds ℕ) → is_within value bounds ≡ false → Has value bounds → ⊥
 within_no value bounds e h = false≢true (sym e ∙ ap (λ b. b && leb value bounds.high) (le-leb bounds.low value h.0) ∙ le-leb value bounds.high h.1)
 
 pub address_yes : (addr : Addr) (bounds : AddrBounds) → has_address addr bounds ≡ true → HasAddress addr bounds

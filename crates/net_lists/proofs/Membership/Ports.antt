@@ -3,7 +3,7 @@ use Rattle.std.proofs.Common.{◌≡◌, ℕ, zero, suc, ◌<◌, Bool, true, fa
 use Rattle.std.specs.List.{list_any, list_all}
 use Rattle.std.proofs.lemmas.Bool.{false≢true, leb-true, le-leb, and_parts, and_from, or_cases, or_left, or_right, not-true, not_from_false, false_from_ne_true}
 use Rattle.std.proofs.lemmas.List.{get_or_default}
-use Rattle.net_lists.specs.declared.part.Bounds.{Bounds}
+use Rattle.net_lists.specs.declared.part.ValueBounds.{ValueBounds}
 use Rattle.net_lists.specs.declared.part.Part.{Part}
 use Rattle.net_lists.specs.Membership.{IsPositive, IsNegated, IsListed, Has, is_in, has_port}
 
@@ -35,25 +35,25 @@ module _ {X : Type 0} (test : X → Bool) (P : X → Type 0) (to : (x : X) → t
   all-from (x ∷ xs) all = and_from (test x) (list_all test xs) (from x (all 0 x (omega arith))) (all-from xs (λ k d h. all (suc k) d (omega arith)))
 
 module _ (port : ℕ) where
-  in-tells : (part : Part (Bounds ℕ)) → is_in port part ≡ true → Has port part.bounds
+  in-tells : (part : Part (ValueBounds ℕ)) → is_in port part ≡ true → Has port part.bounds
   in-tells part e = let parts = and_parts (leb part.bounds.low port) (leb port part.bounds.high) e in (leb-true part.bounds.low port parts.0, leb-true port part.bounds.high parts.1)
 
-  in-from : (part : Part (Bounds ℕ)) → Has port part.bounds → is_in port part ≡ true
+  in-from : (part : Part (ValueBounds ℕ)) → Has port part.bounds → is_in port part ≡ true
   in-from part has = and_from (leb part.bounds.low port) (leb port part.bounds.high) (le-leb part.bounds.low port has.0) (le-leb port part.bounds.high has.1)
 
-  positive-tells : (part : Part (Bounds ℕ)) → (not part.negated && is_in port part) ≡ true → IsPositive part × Has port part.bounds
+  positive-tells : (part : Part (ValueBounds ℕ)) → (not part.negated && is_in port part) ≡ true → IsPositive part × Has port part.bounds
   positive-tells part e = let parts = and_parts (not part.negated) (is_in port part) e in (not-true part.negated parts.0, in-tells part parts.1)
 
-  positive-from : (part : Part (Bounds ℕ)) → IsPositive part × Has port part.bounds → (not part.negated && is_in port part) ≡ true
+  positive-from : (part : Part (ValueBounds ℕ)) → IsPositive part × Has port part.bounds → (not part.negated && is_in port part) ≡ true
   positive-from part has = and_from (not part.negated) (is_in port part) (not_from_false part.negated has.0) (in-from part has.1)
 
-  barred-tells : (part : Part (Bounds ℕ)) → (part.negated && is_in port part) ≡ true → IsNegated part × Has port part.bounds
+  barred-tells : (part : Part (ValueBounds ℕ)) → (part.negated && is_in port part) ≡ true → IsNegated part × Has port part.bounds
   barred-tells part e = let parts = and_parts part.negated (is_in port part) e in (parts.0, in-tells part parts.1)
 
-  barred-from : (part : Part (Bounds ℕ)) → IsNegated part × Has port part.bounds → (part.negated && is_in port part) ≡ true
+  barred-from : (part : Part (ValueBounds ℕ)) → IsNegated part × Has port part.bounds → (part.negated && is_in port part) ≡ true
   barred-from part has = and_from part.negated (is_in port part) has.0 (in-from part has.1)
 
-  pub has_port-tells : (parts : List (Part (Bounds ℕ))) → has_port parts port ≡ true → IsListed (Has port) parts
+  pub has_port-tells : (parts : List (Part (ValueBounds ℕ))) → has_port parts port ≡ true → IsListed (Has port) parts
   unfolding has_port
   has_port-tells parts e =
       let positive = list_any (λ part. not part.negated && is_in port part) parts in
@@ -73,10 +73,10 @@ module _ (port : ℕ) where
             (get_or parts k d) h (same parts k d (get_or parts k d) h) (neg, has)),
       )
     where
-      same : (xs : List (Part (Bounds ℕ))) (k : ℕ) (d e : Part (Bounds ℕ)) → k < length xs → get_or xs k e ≡ get_or xs k d
+      same : (xs : List (Part (ValueBounds ℕ))) (k : ℕ) (d e : Part (ValueBounds ℕ)) → k < length xs → get_or xs k e ≡ get_or xs k d
       same xs k d e h = get_or_default xs k e d h
 
-  pub has_port-from : (parts : List (Part (Bounds ℕ))) → IsListed (Has port) parts → has_port parts port ≡ true
+  pub has_port-from : (parts : List (Part (ValueBounds ℕ))) → IsListed (Has port) parts → has_port parts port ≡ true
   unfolding has_port
   has_port-from parts is =
       let positive = list_any (λ part. not part.negated && is_in port part) parts in
@@ -91,5 +91,5 @@ module _ (port : ℕ) where
       let a = any-tells (λ part. part.negated && is_in port part) (λ part. IsNegated part × Has port part.bounds) barred-tells barred-from parts e in
       is.1 a.0 a.1 a.2 (rw a.3 a.4.0) (rw a.3 a.4.1))))
 
-  pub has_port-is : (parts : List (Part (Bounds ℕ))) (answer : Bool) → (IsTrue answer ↔ IsListed (Has port) parts) → answer ≡ has_port parts port
+  pub has_port-is : (parts : List (Part (ValueBounds ℕ))) (answer : Bool) → (IsTrue answer ↔ IsListed (Has port) parts) → answer ≡ has_port parts port
   has_port-is parts answer is = same_bools answer (has_port parts port) (λ e. has_port-from parts (is.0 e)) (λ e. is.1 (has_port-tells parts e))

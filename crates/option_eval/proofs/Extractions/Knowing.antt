@@ -14,8 +14,8 @@ use Rattle.option_eval.specs.Next.{next_set, IsForAll, RisesTo}
 use Rattle.option_eval.specs.Places.{Means, is_extract}
 use Rattle.option_eval.specs.Sets.{point, IsGot, Gathers, IsLedTo, LeadsFrom}
 use Rattle.option_eval.specs.declared.known.Known.{Known}
-use Rattle.option_eval.specs.declared.next.Next.{Next}
-use Rattle.option_eval.specs.declared.next.Next.TheVariants as next
+use Rattle.option_eval.specs.declared.next.NextPlaces.{NextPlaces}
+use Rattle.option_eval.specs.declared.next.NextPlaces.TheVariants as next
 use Rattle.option_eval.proofs.Sets.Asking.{all_stay}
 use Rattle.option_eval.proofs.Extractions.Forgetting.{plain_alike}
 use Rattle.option_eval.proofs.Walks.Staying.{test_stays, test_free}
@@ -52,7 +52,7 @@ module _ (means : Means) (payload : List ℕ) (o : Opt) (plain : is_extract o �
   other_values vs ws two two' p q led = plain_alike means payload vs ws p q o plain (same_numbers vs ws two two') led
 
   -- what it leads to from the places of one state, it leads to from those of any
-  pub leads_all : (every : Bool) (next : Next) (vs places : List ℕ) → length vs ≡ 2 → 0 < length places → IsForAll o next
+  pub leads_all : (every : Bool) (next : NextPlaces) (vs places : List ℕ) → length vs ≡ 2 → 0 < length places → IsForAll o next
       → Gathers every (IsLedTo (LeadsFrom means payload vs o) places) (next_set next places) → LeadsAlike means payload o every next
   leads_all every next.Same vs places two some test found = λ ws places' two' some'.
       let x = get_or places 0 0 in
@@ -112,7 +112,7 @@ module _ (means : Means) (payload : List ℕ) where
   pub known_below : (os : List Opt) (a b : Known) → ((left : ℕ) → left < length os → known_at b left ≡ known_at a left) → AreKnown means payload os a → AreKnown means payload os b
   known_below [] a b same h = tt
   known_below (o ∷ os) a b same h = (
-    subst (λ (found : Option Next). IsKnown means payload o (needs_place os) found) (sym (same (length os) (omega arith))) h.0,
+    subst (λ (found : Option NextPlaces). IsKnown means payload o (needs_place os) found) (sym (same (length os) (omega arith))) h.0,
     known_below os a b (λ left below. same left (omega arith)) h.1,
   )
 
@@ -123,7 +123,7 @@ known_taken means payload os old taken take h =
     known_below means payload os old taken (λ other below. take other ∙ cond_false (other == length os) None (known_at old other) (apart_from other (length os) (inl below))) h
 
 -- a turn: what is known of one option is taken, what is known of the options after it changes, and it is put back
-module _ (taken after kept : Known) (old : Known) (left : ℕ) (next : Next) (free : Type 0)
+module _ (taken after kept : Known) (old : Known) (left : ℕ) (next : NextPlaces) (free : Type 0)
     (take : (other : ℕ) → known_at taken other ≡ cond (other == left) None (known_at old other))
     (others : (other : ℕ) → left ≤ other → known_at after other ≡ known_at taken other)
     (keeps : (other : ℕ) → (other == left) ≡ false → known_at kept other ≡ known_at after other)
@@ -148,7 +148,7 @@ module _ (taken after kept : Known) (old : Known) (left : ℕ) (next : Next) (fr
   turn_known means payload o os is on alike h = (
     subst (λ (n : ℕ). IsKnown means payload o (needs_place os) (known_at kept n)) is (⊎_elim
         (λ (none : known_at kept left ≡ None). some_none (LeadsAlike means payload o (needs_place os)) (known_at kept left) none)
-        (λ (both : free × (known_at kept left ≡ Some next)). subst (λ (found : Option Next). IsKnown means payload o (needs_place os) found) (sym both.1) (alike both.0))
+        (λ (both : free × (known_at kept left ≡ Some next)). subst (λ (found : Option NextPlaces). IsKnown means payload o (needs_place os) found) (sym both.1) (alike both.0))
         turn_own),
     known_below means payload os after kept (λ other below. keeps other (apart_from other left (inl (omega arith))))
         (on (known_below means payload os old taken (λ other below. taken_other other (apart_from other left (inl (omega arith)))) h.1)),
@@ -160,15 +160,15 @@ module _ (taken after kept : Known) (old : Known) (left : ℕ) (next : Next) (fr
       by_number : (other : ℕ) (b : Bool) → b ≡ (other == left) → IfSome (known_at kept other) (RisesTo high)
       by_number other true is = subst (λ (n : ℕ). IfSome (known_at kept n) (RisesTo high)) (sym (eqb-true other left (sym is))) (⊎_elim
           (λ (none : known_at kept left ≡ None). some_none (RisesTo high) (known_at kept left) none)
-          (λ (both : free × (known_at kept left ≡ Some next)). subst (λ (found : Option Next). IfSome found (RisesTo high)) (sym both.1) risen)
+          (λ (both : free × (known_at kept left ≡ Some next)). subst (λ (found : Option NextPlaces). IfSome found (RisesTo high)) (sym both.1) risen)
           turn_own)
-      by_number other false is = subst (λ (found : Option Next). IfSome found (RisesTo high)) (sym (keeps other (sym is))) (h other)
+      by_number other false is = subst (λ (found : Option NextPlaces). IfSome found (RisesTo high)) (sym (keeps other (sym is))) (h other)
 
 -- known places rise where less is known
 pub rising_taken : (old taken : Known) (left high : ℕ) → ((other : ℕ) → known_at taken other ≡ cond (other == left) None (known_at old other)) → AreRising high old → AreRising high taken
-rising_taken old taken left high take h = λ other. subst (λ (found : Option Next). IfSome found (RisesTo high)) (sym (take other)) (by_test (other == left) (known_at old other) (h other))
+rising_taken old taken left high take h = λ other. subst (λ (found : Option NextPlaces). IfSome found (RisesTo high)) (sym (take other)) (by_test (other == left) (known_at old other) (h other))
   where
-    by_test : (b : Bool) (found : Option Next) → IfSome found (RisesTo high) → IfSome (cond b None found) (RisesTo high)
+    by_test : (b : Bool) (found : Option NextPlaces) → IfSome found (RisesTo high) → IfSome (cond b None found) (RisesTo high)
     by_test true found risen = tt
     by_test false found risen = risen
 

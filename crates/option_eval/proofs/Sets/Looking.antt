@@ -8,13 +8,13 @@ use Rattle.std.proofs.lemmas.Int.{ints}
 use Rattle.memchr.specs.Find.{Nowhere}
 use Rattle.option_eval.specs.Absent.{IsReached, IsNoted, SeesOn}
 use Rattle.option_eval.specs.Sets.{IsRising, Occurs}
-use Rattle.option_eval.specs.declared.absent.Seen.{Seen}
+use Rattle.option_eval.specs.declared.absent.SeenSoFar.{SeenSoFar}
 use Rattle.option_eval.specs.declared.reach.Reach.{Reach}
 use Rattle.option_eval.proofs.Sets.Asking.{contains_head, contains_later}
 use Rattle.option_eval.proofs.Sets.Rising.{rising_least}
 use Rattle.option_eval.proofs.Sets.Sweeping.{occurs_fits}
 
-module _ (occurs : ℕ → Type 0) (low end from : ℕ) (seen : Seen) (from_is : from ≡ max low seen.done) where
+module _ (occurs : ℕ → Type 0) (low end from : ℕ) (seen : SeenSoFar) (from_is : from ≡ max low seen.done) where
   -- nothing new is looked at
   pub sees_same : (low < seen.last) ⊎ (end ≤ from) → SeesOn occurs low end seen seen
   sees_same why = record {
@@ -24,7 +24,7 @@ module _ (occurs : ℕ → Type 0) (low end from : ℕ) (seen : Seen) (from_is :
   }
 
   -- the bytes occur nowhere there
-  pub sees_none : (new : Seen) → new.done ≡ end → new.last ≡ seen.last → seen.last ≤ low → from < end → Nowhere occurs from end → SeesOn occurs low end seen new
+  pub sees_none : (new : SeenSoFar) → new.done ≡ end → new.last ≡ seen.last → seen.last ≤ low → from < end → Nowhere occurs from end → SeesOn occurs low end seen new
   sees_none new done_is last_is before more none = record {
     found = λ i over under here noted. absurd (⊎_elim
         (λ (old : i < seen.done). let known = noted old in omega arith)
@@ -38,7 +38,7 @@ module _ (occurs : ℕ → Type 0) (low end from : ℕ) (seen : Seen) (from_is :
   }
 
   -- the bytes occur first at a place there
-  pub sees_some : (new : Seen) (start : ℕ) → new.done ≡ start + 1 → new.last ≡ start + 1 → from ≤ start → start < end → occurs start → SeesOn occurs low end seen new
+  pub sees_some : (new : SeenSoFar) (start : ℕ) → new.done ≡ start + 1 → new.last ≡ start + 1 → from ≤ start → start < end → occurs start → SeesOn occurs low end seen new
   sees_some new start done_is last_is over under here = record {
     found = λ i from_low below at noted. omega arith;
     noted = λ i from_low at noted below. omega arith;
@@ -47,14 +47,14 @@ module _ (occurs : ℕ → Type 0) (low end from : ℕ) (seen : Seen) (from_is :
 
 module _ (nocase : Bool) (payload bytes : List ℕ) (reach : Reach) where
   -- what is seen serves the places that are left
-  pub record Serves (rest : List ℕ) (seen : Seen) : Type 0 where
+  pub record Serves (rest : List ℕ) (seen : SeenSoFar) : Type 0 where
     pub noted : (p i : ℕ) → Contains rest p → (pos p +ℤ reach.from) ≤ℤ pos i → Occurs nocase payload bytes i → IsNoted seen i
     pub is_found : 0 < seen.last
         → Occurs nocase payload bytes (seen.last - 1) ×
         ((p : ℕ) → Contains rest p →
         IfSome reach.room (λ room. pos (seen.last - 1 + length bytes) ≤ℤ ((pos p +ℤ reach.from) +ℤ room)))
 
-  pub serves_none : (rest : List ℕ) (seen : Seen) → seen.done ≡ 0 → seen.last ≡ 0 → Serves rest seen
+  pub serves_none : (rest : List ℕ) (seen : SeenSoFar) → seen.done ≡ 0 → seen.last ≡ 0 → Serves rest seen
   serves_none rest seen done_is last_is = record {
     noted = λ p i has over here below. absurd (omega arith);
     is_found = λ some. absurd (omega arith);
@@ -65,7 +65,7 @@ module _ (nocase : Bool) (payload bytes : List ℕ) (reach : Reach) where
   room_later None p q i more h = tt
   room_later (Some room) p q i more h = omega (arith, ints)
 
-  module _ (rest : List ℕ) (high bound low end : ℕ) (seen new : Seen) (some : 1 ≤ length rest)
+  module _ (rest : List ℕ) (high bound low end : ℕ) (seen new : SeenSoFar) (some : 1 ≤ length rest)
       (least : (p : ℕ) → Contains rest p → get_or rest 0 0 ≤ p)
       (fits : (i : ℕ) → i + length bytes ≤ length payload → i < bound)
       (low_is : (i : ℕ) → i < bound →

@@ -13,9 +13,9 @@ use Rattle.option_eval.specs.Numbers.{Point, fetched, origin, number_if, number_
 use Rattle.option_eval.specs.Places.{Means, Leads, IsFoundAt, Sought, Unless, is_only, sought, is_payload_option, is_extract, at_place}
 use Rattle.option_eval.specs.Sets.{IsRising, LeadsFrom, point}
 use Rattle.option_eval.specs.Trying.{OfMadeOne, LeadsTo, IsNext}
-use Rattle.option_eval.specs.declared.asked.Asked.{Asked}
-use Rattle.option_eval.specs.declared.made.Made.{Made}
-use Rattle.option_eval.specs.declared.next.Next.TheVariants as next
+use Rattle.option_eval.specs.declared.asked.AskedPlaces.{AskedPlaces}
+use Rattle.option_eval.specs.declared.made.MadeOption.{MadeOption}
+use Rattle.option_eval.specs.declared.next.NextPlaces.TheVariants as next
 
 -- a content that is negated, or sought by the fast pattern alone
 content_stay : (negated only : Bool) (A : Type 0) (B : ℕ → Type 0) (s t : Point) (far : ℕ → Point)
@@ -166,7 +166,7 @@ jump_moves (opt.ByteJump fetch times align beginning post) jumps test = false≢
 jump_moves _ jumps test = absurd jumps
 
 -- where a call answers places, these are the places after an option
-pub next_of : {P E : Type 0} (finds : P → List ℕ → Option Span) (option : Opt) (made : Made P) (at : Asked) (every : Bool)
+pub next_of : {P E : Type 0} (finds : P → List ℕ → Option Span) (option : Opt) (made : MadeOption P) (at : AskedPlaces) (every : Bool)
     (answer : Result (SmallVec ℕ) E)
     → OfMadeOne finds option made (λ means. IfOk answer (λ places. LeadsTo means option every at (next.To places)))
     → IfOk answer (λ places. IsRising 0 places.items (length at.payload.now + 1))

@@ -8,7 +8,7 @@ use Rattle.std.proofs.Math.Seq.{take-add}
 use Rattle.std.proofs.lemmas.List.{map-append, reverse-append, length-drop, length-take-le, take_all, take-append-drop, get_or-drop}
 use Rattle.std.proofs.lemmas.Bool.{false≢true, and_parts, and_from, or_cases, or_left, or_right, cases_lt}
 use Rattle.pattern_search.specs.declared.automaton.Automaton.{Automaton}
-use Rattle.pattern_search.specs.declared.seen.Seen.{Seen}
+use Rattle.pattern_search.specs.declared.seen.MarkSet.{MarkSet}
 use Rattle.pattern_search.specs.Marking.{is_marked}
 use Rattle.pattern_search.specs.Words.{begins, has_ended, word_of, word_at, IsClosed, IsAt}
 use Rattle.pattern_search.specs.Occurring.{numbers}
@@ -160,7 +160,7 @@ pending words closed letters bytes from count state at end is h k late after une
     omega (arith, deep, size, long)
 
 -- before the first place nothing begins
-pub covers-none : (automaton : Automaton) (bytes : List ℕ) (seen : Seen) → ((place : ℕ) → is_marked seen place ≡ false) → Covers automaton bytes 0 seen []
+pub covers-none : (automaton : Automaton) (bytes : List ℕ) (seen : MarkSet) → ((place : ℕ) → is_marked seen place ≡ false) → Covers automaton bytes 0 seen []
 covers-none automaton bytes seen none = record {
   covered = λ patterns finds.
       let pats = words_in automaton.letters patterns in
@@ -180,7 +180,7 @@ covers-none automaton bytes seen none = record {
 }
 
 -- after the last place everything has begun
-pub covers-all : (automaton : Automaton) (bytes : List ℕ) (done : ℕ) (seen : Seen) (hits : List ℕ) → length bytes ≤ done → Covers automaton bytes done seen hits
+pub covers-all : (automaton : Automaton) (bytes : List ℕ) (done : ℕ) (seen : MarkSet) (hits : List ℕ) → length bytes ≤ done → Covers automaton bytes done seen hits
     → (patterns : List (List ℕ)) → Finds automaton patterns
     → IsPermutation (numbers (is_ended (words_in automaton.letters patterns) (word_of automaton.letters bytes)) 0 (length patterns)) hits
 covers-all automaton bytes done seen hits h covers patterns finds =
@@ -203,7 +203,7 @@ covers-all automaton bytes done seen hits h covers patterns finds =
     subst Q (count-words automaton.letters patterns) (subst P same is.listed)
 
 -- a walk from a place on, up to where all that is pending lies after another place
-pub covers-walked : (automaton : Automaton) (bytes : List ℕ) (from count to at : ℕ) (old new : Seen) (old_hits new_hits : List ℕ) → from + count ≤ length bytes → to ≤ from + count
+pub covers-walked : (automaton : Automaton) (bytes : List ℕ) (from count to at : ℕ) (old new : MarkSet) (old_hits new_hits : List ℕ) → from + count ≤ length bytes → to ≤ from + count
     → ((from + count ≡ length bytes) ⊎ ((at < automaton.shallow) × (to + 3 ≤ from + count)))
     → Walks automaton (word_of automaton.letters (take count (drop from bytes))) at old old_hits new new_hits → CoversOn automaton bytes from (so_far old old_hits) to (so_far new new_hits)
 covers-walked automaton bytes from count to at old new old_hits new_hits within back ends walks = record {
@@ -274,7 +274,7 @@ covers-walked automaton bytes from count to at old new old_hits new_hits within 
 }
 
 -- a byte on, in a walk from a place on
-pub walks-on : (automaton : Automaton) (bytes : List ℕ) (from done at letter entry : ℕ) (first old new : Seen)
+pub walks-on : (automaton : Automaton) (bytes : List ℕ) (from done at letter entry : ℕ) (first old new : MarkSet)
     (first_hits old_hits new_hits : List ℕ)
     → from ≤ done
     → done < length bytes
@@ -298,7 +298,7 @@ walks-on automaton bytes from done at letter entry first old new first_hits old_
     (omega (arith, length-drop from bytes)) (letter_is ∙ ap (slice_index automaton.letters) (sym here)) steps notes)
 
 -- places at which nothing begins
-pub covers-skipped : (automaton : Automaton) (sieve : Sieve) (bytes : List ℕ) (from to : ℕ) (seen : Seen) (hits : List ℕ)
+pub covers-skipped : (automaton : Automaton) (sieve : Sieve) (bytes : List ℕ) (from to : ℕ) (seen : MarkSet) (hits : List ℕ)
     → automaton.sieve ≡ Some sieve → ((k : ℕ) → slice_index bytes k < 256) → Skips sieve bytes from to
     → Covers automaton bytes from seen hits → Covers automaton bytes to seen hits
 covers-skipped automaton sieve bytes from to seen hits own short skips covers = record {
@@ -326,7 +326,7 @@ covers-skipped automaton sieve bytes from to seen hits own short skips covers = 
 }
 
 -- a walk over all bytes
-pub covers-whole : (automaton : Automaton) (bytes : List ℕ) (i at : ℕ) (old new : Seen) (old_hits new_hits : List ℕ) → length bytes ≤ i
+pub covers-whole : (automaton : Automaton) (bytes : List ℕ) (i at : ℕ) (old new : MarkSet) (old_hits new_hits : List ℕ) → length bytes ≤ i
     → Walks automaton (word_of automaton.letters (take i bytes)) at old old_hits new new_hits
     → CoversOn automaton bytes 0 (so_far old old_hits) (length bytes) (so_far new new_hits)
 covers-whole automaton bytes i at old new old_hits new_hits h walks =

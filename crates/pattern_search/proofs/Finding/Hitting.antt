@@ -8,7 +8,7 @@ use Rattle.std.proofs.lemmas.Bool.{false≢true, true≢false, cases_eq, cases_B
 use Rattle.pattern_search.specs.Words.{word_at}
 use Rattle.pattern_search.specs.Outputs.{is_left, IsNext}
 use Rattle.pattern_search.specs.declared.automaton.Automaton.{Automaton}
-use Rattle.pattern_search.specs.declared.seen.Seen.{Seen}
+use Rattle.pattern_search.specs.declared.seen.MarkSet.{MarkSet}
 use Rattle.pattern_search.specs.Marking.{is_marked}
 use Rattle.pattern_search.specs.Rows.{state_of}
 use Rattle.pattern_search.specs.Occurring.{numbers}
@@ -78,7 +78,7 @@ numbers-mark test more at from (suc count) off on others low high =
     go false true e rest = absurd (false≢true e)
 
 -- what an answer says of the marks
-pub marked-by : (old new : Seen) (at : ℕ) (fresh answer : Bool)
+pub marked-by : (old new : MarkSet) (at : ℕ) (fresh answer : Bool)
     → fresh ≡ answer
     → ((place : ℕ) → is_marked new place ≡ (is_marked old place || (fresh && (place == at))))
     → (place : ℕ)
@@ -86,10 +86,10 @@ pub marked-by : (old new : Seen) (at : ℕ) (fresh answer : Bool)
 marked-by old new at fresh answer is also place = also place ∙ ap (λ b. is_marked old place || (b && (place == at))) is
 
 -- one place more is marked
-pub now-marked : (old new : Seen) (at : ℕ) → ((place : ℕ) → is_marked new place ≡ (is_marked old place || (true && (place == at)))) → is_marked new at ≡ true
+pub now-marked : (old new : MarkSet) (at : ℕ) → ((place : ℕ) → is_marked new place ≡ (is_marked old place || (true && (place == at)))) → is_marked new at ≡ true
 now-marked old new at also = also at ∙ or_right (is_marked old at) (true && (at == at)) (eq-eqb at at refl)
 
-pub others-same : (old new : Seen) (at : ℕ)
+pub others-same : (old new : MarkSet) (at : ℕ)
     → ((place : ℕ) → is_marked new place ≡ (is_marked old place || (true && (place == at))))
     → (place : ℕ)
     → (place ≡ at → ⊥)
@@ -101,10 +101,10 @@ others-same old new at also place ne = also place ∙ ap (λ b. is_marked old pl
     or-false false = refl
 
 -- how many places below a count aren't marked
-abbrev pub unseen : ℕ → Seen → ℕ
+abbrev pub unseen : ℕ → MarkSet → ℕ
 unseen count seen = length (numbers (λ place. not (is_marked seen place)) 0 count)
 
-pub unseen-less : (count at : ℕ) (old new : Seen)
+pub unseen-less : (count at : ℕ) (old new : MarkSet)
     → at < count
     → is_marked old at ≡ false
     → ((place : ℕ) → is_marked new place ≡ (is_marked old place || (true && (place == at))))
@@ -116,7 +116,7 @@ unseen-less count at old new h off also =
     omega (arith, length_permutation (at ∷ numbers test 0 count) (numbers more 0 count) p)
 
 -- nothing of a chain was marked yet
-pub following-none : (nexts : List ℕ) (head : ℕ) (seen : Seen) (hits : List ℕ) → IsFollowing nexts head seen hits head seen hits
+pub following-none : (nexts : List ℕ) (head : ℕ) (seen : MarkSet) (hits : List ℕ) → IsFollowing nexts head seen hits head seen hits
 following-none nexts head seen hits = record {
   begins = λ patterns same chained may. may;
   part = λ patterns same chained may place h l. l;
@@ -129,7 +129,7 @@ following-none nexts head seen hits = record {
     or-false true = refl
     or-false false = refl
 
-pub follows-end : (nexts : List ℕ) (head : ℕ) (old : Seen) (old_hits : List ℕ) (at : ℕ) (new : Seen) (new_hits : List ℕ)
+pub follows-end : (nexts : List ℕ) (head : ℕ) (old : MarkSet) (old_hits : List ℕ) (at : ℕ) (new : MarkSet) (new_hits : List ℕ)
     → IsFollowing nexts head old old_hits at new new_hits
     → at ≡ 0
     → Follows nexts head old old_hits new new_hits
@@ -145,11 +145,11 @@ own-left patterns at some nonempty =
     (ends_word-from patterns (word_at patterns (at - 1)) (at - 1) nonempty (begins-self (word_at patterns (at - 1))))
     (inr (omega arith))
 
-pub follows-seen : (nexts : List ℕ) (head : ℕ) (old : Seen) (old_hits : List ℕ) (at : ℕ) (new : Seen) (new_hits : List ℕ)
+pub follows-seen : (nexts : List ℕ) (head : ℕ) (old : MarkSet) (old_hits : List ℕ) (at : ℕ) (new : MarkSet) (new_hits : List ℕ)
     → IsFollowing nexts head old old_hits at new new_hits
     → 0 < at
     → (ltb (at - 1) (length nexts) && not (is_marked new (at - 1))) ≡ false
-    → (last : Seen)
+    → (last : MarkSet)
     → ((place : ℕ) → is_marked last place ≡ (is_marked new place || (false && (place == at - 1))))
     → Follows nexts head old old_hits last new_hits
 follows-seen nexts head old old_hits at new new_hits is some stops last also = record {
@@ -189,14 +189,14 @@ follows-seen nexts head old old_hits at new new_hits is some stops last also = r
     told-marked true e = refl
     told-marked false e = absurd (true≢false e)
 
-pub following-more : (nexts : List ℕ) (head : ℕ) (old : Seen) (old_hits : List ℕ) (at : ℕ) (new : Seen) (new_hits : List ℕ)
+pub following-more : (nexts : List ℕ) (head : ℕ) (old : MarkSet) (old_hits : List ℕ) (at : ℕ) (new : MarkSet) (new_hits : List ℕ)
     (next : ℕ)
     → IsFollowing nexts head old old_hits at new new_hits
     → 0 < at
     → at - 1 < length nexts
     → is_marked new (at - 1) ≡ false
     → next ≡ slice_index nexts (at - 1)
-    → (more : Seen)
+    → (more : MarkSet)
     → ((place : ℕ) → is_marked more place ≡ (is_marked new place || (true && (place == at - 1))))
     → IsFollowing nexts head old old_hits next more (new_hits ++ (at - 1) ∷ [])
 following-more nexts head old old_hits at new new_hits next is some within off next_is more also = record {
@@ -271,7 +271,7 @@ following-more nexts head old old_hits at new new_hits next is some within off n
     left-on patterns same chained may place h l = left-is patterns same chained may place h ∙ l
 
 -- the chain of the state with this row
-pub marks-chain : (automaton : Automaton) (at : ℕ) (old new : Seen) (old_hits new_hits : List ℕ) (head : ℕ)
+pub marks-chain : (automaton : Automaton) (at : ℕ) (old new : MarkSet) (old_hits new_hits : List ℕ) (head : ℕ)
     → Follows automaton.nexts.items head old old_hits new new_hits
     → (0 < automaton.trie.width → head ≡ slice_index automaton.heads.items (state_of automaton.trie.width at))
     → Marks automaton at old old_hits new new_hits
@@ -287,7 +287,7 @@ pub unwrapped : (o : Option ℕ) (P : Type 0) (v : ℕ) → SomeIff o P v → P 
 unwrapped None P v is p = absurd (is p)
 unwrapped (Some x) P v is p = is.1
 
-pub notes-none : (automaton : Automaton) (entry : ℕ) (old : Seen) (old_hits : List ℕ) → entry % 2 ≡ 0 → Notes automaton entry old old_hits old old_hits
+pub notes-none : (automaton : Automaton) (entry : ℕ) (old : MarkSet) (old_hits : List ℕ) → entry % 2 ≡ 0 → Notes automaton entry old old_hits old old_hits
 notes-none automaton entry old old_hits even = record {
   marked = λ patterns head wide count chained closed may is none place h.
       sym (ap (λ b. is_marked old place || b)
@@ -300,7 +300,7 @@ notes-none automaton entry old old_hits even = record {
     or-nothing true = refl
     or-nothing false = refl
 
-pub notes-some : (automaton : Automaton) (entry : ℕ) (old new : Seen) (old_hits new_hits : List ℕ)
+pub notes-some : (automaton : Automaton) (entry : ℕ) (old new : MarkSet) (old_hits new_hits : List ℕ)
     → Marks automaton (entry / 2) old old_hits new new_hits
     → Notes automaton entry old old_hits new new_hits
 notes-some automaton entry old new old_hits new_hits is = record {

@@ -6,7 +6,7 @@ use Rattle.std.specs.BTreeMap.{is_at}
 use Rattle.std.specs.BTreeSet.{contains}
 use Rattle.std.proofs.lemmas.Bool.Decides.{nat_tests}
 use Rattle.std.proofs.lemmas.Bool.{cases_eq, ne_eqb, or_left, not-false, lt-ltb, le-ltb}
-use Rattle.pattern_search.specs.declared.seen.Seen.{Seen}
+use Rattle.pattern_search.specs.declared.seen.MarkSet.{MarkSet}
 use Rattle.pattern_search.specs.Marking.{is_marked}
 
 -- a place past the count
@@ -16,7 +16,7 @@ past-answer count at b h = sym (ap (λ a. a && b) (le-ltb at count h))
 pub below-answer : (count at : ℕ) (b fresh : Bool) → at < count → fresh ≡ b → fresh ≡ (ltb at count && b)
 below-answer count at b fresh h e = e ∙ sym (ap (λ a. a && b) (lt-ltb at count h))
 
-pub past-marks : (seen : Seen) (at place : ℕ) → is_marked seen place ≡ (is_marked seen place || (false && (place == at)))
+pub past-marks : (seen : MarkSet) (at place : ℕ) → is_marked seen place ≡ (is_marked seen place || (false && (place == at)))
 past-marks seen at place = go (is_marked seen place)
   where
     go : (b : Bool) → b ≡ (b || false)
@@ -24,7 +24,7 @@ past-marks seen at place = go (is_marked seen place)
     go false = refl
 
 -- where the place was marked, nothing more is
-pub answer-marks : (old new : Seen) (at : ℕ) (fresh : Bool)
+pub answer-marks : (old new : MarkSet) (at : ℕ) (fresh : Bool)
     → fresh ≡ not (is_marked old at)
     → ((place : ℕ) → is_marked new place ≡ (is_marked old place || (place == at)))
     → (place : ℕ)
@@ -38,14 +38,14 @@ answer-marks old new at false e also place = also place ∙ ⊎_elim
     (cases_eq place at)
 
 -- no place is marked yet, and then one more
-pub none-marked : (seen : Seen) → seen.places.keys ≡ [] → (place : ℕ) → is_marked seen place ≡ false
+pub none-marked : (seen : MarkSet) → seen.places.keys ≡ [] → (place : ℕ) → is_marked seen place ≡ false
 unfolding is_marked
 none-marked seen none place = ap (list_any (is_at (nat_cmp place))) none
 
 place-test : (at place : ℕ) → is_eq (nat_cmp at place) ≡ (place == at)
 place-test at place = grind (arith, nat_tests)
 
-pub marks-added : (old new : Seen) (at : ℕ)
+pub marks-added : (old new : MarkSet) (at : ℕ)
     → ((place : ℕ) → contains nat_cmp new.places place ≡ cond (is_at (nat_cmp at) place) true (contains nat_cmp old.places place))
     → (place : ℕ)
     → is_marked new place ≡ (is_marked old place || (place == at))
@@ -61,6 +61,6 @@ marks-added old new at added place =
     go false true = refl
     go false false = refl
 
-pub answer-is : (old : Seen) (at : ℕ) (fresh : Bool) → fresh ≡ not (contains nat_cmp old.places at) → fresh ≡ not (is_marked old at)
+pub answer-is : (old : MarkSet) (at : ℕ) (fresh : Bool) → fresh ≡ not (contains nat_cmp old.places at) → fresh ≡ not (is_marked old at)
 unfolding is_marked
 answer-is old at fresh e = e

@@ -4,7 +4,7 @@ use Rattle.std.specs.List.Sorted.{IsPermutation}
 use Rattle.std.proofs.lemmas.List.{length-map}
 use Rattle.std.proofs.lemmas.Bool.{cases_eq, lt-ltb, le-ltb, ltb-true, and_parts, and_from, or_cases, or_left, or_right}
 use Rattle.pattern_search.specs.declared.automaton.Automaton.{Automaton}
-use Rattle.pattern_search.specs.declared.seen.Seen.{Seen}
+use Rattle.pattern_search.specs.declared.seen.MarkSet.{MarkSet}
 use Rattle.pattern_search.specs.Marking.{is_marked}
 use Rattle.pattern_search.specs.Words.{begins, has_ended, word_of, word_at, IsAt}
 use Rattle.pattern_search.specs.Outputs.{is_left, ends_word, AreWords}
@@ -61,7 +61,7 @@ ended-more words patterns ends read letter state place are at h =
     go true false false = refl
     go false e b = refl
 
-closed-under : (patterns : List (List ℕ)) (read : List ℕ) (first seen : Seen)
+closed-under : (patterns : List (List ℕ)) (read : List ℕ) (first seen : MarkSet)
     → IsClosedUnder patterns first
     → ((place : ℕ) → place < length patterns → is_marked seen place ≡ (is_marked first place || is_ended patterns read place))
     → IsClosedUnder patterns seen
@@ -75,7 +75,7 @@ closed-under patterns read first seen closed marked one other j k m some b = mar
 pub count-words : (letters : List ℕ) (patterns : List (List ℕ)) → length (words_in letters patterns) ≡ length patterns
 count-words letters patterns = length-map patterns (word_of letters)
 
-pub walks-none : (automaton : Automaton) (bytes : List ℕ) (seen : Seen) (hits : List ℕ) → Walks automaton (word_of automaton.letters (take 0 bytes)) 0 seen hits seen hits
+pub walks-none : (automaton : Automaton) (bytes : List ℕ) (seen : MarkSet) (hits : List ℕ) → Walks automaton (word_of automaton.letters (take 0 bytes)) 0 seen hits seen hits
 walks-none automaton bytes seen hits =
     let P : List ℕ → Type 0 = λ read. Walks automaton read 0 seen hits seen hits in
     subst P (sym (word_of-none automaton.letters)) (record {
@@ -97,7 +97,7 @@ walks-none automaton bytes seen hits =
     or-nothing true = refl
     or-nothing false = refl
 
-pub walks-more : (automaton : Automaton) (bytes : List ℕ) (i at letter entry : ℕ) (first old new : Seen)
+pub walks-more : (automaton : Automaton) (bytes : List ℕ) (i at letter entry : ℕ) (first old new : MarkSet)
     (first_hits old_hits new_hits : List ℕ)
     → Walks automaton (word_of automaton.letters (take i bytes)) at first first_hits old old_hits
     → i < length bytes

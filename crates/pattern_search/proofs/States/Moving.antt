@@ -1,7 +1,7 @@
 -- Moves: back along the fails, and on by a letter.
 use Rattle.std.proofs.Common.{◌≡◌, ℕ, ◌+◌, ◌-◌, ◌<◌, min, List, [], ◌∷◌, length, slice_index, sym, refl, ap, subst, ◌∙◌, arith, ⊎_elim}
 use Rattle.std.proofs.lemmas.Bool.{cases_eq, cases_lt}
-use Rattle.pattern_search.specs.declared.trie.Step.{Step}
+use Rattle.pattern_search.specs.declared.trie.TrieState.{TrieState}
 use Rattle.pattern_search.specs.declared.trie.Trie.{Trie}
 use Rattle.pattern_search.specs.declared.moves.Reached.{Reached}
 use Rattle.pattern_search.specs.Words.{begins, word_at, step_at, IsAt, IsFail, IsTrieOf, FindsChild}
@@ -173,10 +173,10 @@ fails-move trie fails state shallow next ne other known moves = record {
 }
 
 -- where a state fails to whose step is this one
-pub fails-first-by : (trie : Trie) (fails : List ℕ) (state : ℕ) (step : Step) → step ≡ step_at trie.steps.items (state - 1) → (state ≡ 0 → ⊥) → step.up ≡ 0 → FailsTo trie fails state 0
-fails-first-by trie fails state step known ne up = fails-first trie fails state ne (ap (λ (s : Step). s.up) (sym known) ∙ up)
+pub fails-first-by : (trie : Trie) (fails : List ℕ) (state : ℕ) (step : TrieState) → step ≡ step_at trie.steps.items (state - 1) → (state ≡ 0 → ⊥) → step.up ≡ 0 → FailsTo trie fails state 0
+fails-first-by trie fails state step known ne up = fails-first trie fails state ne (ap (λ (s : TrieState). s.up) (sym known) ∙ up)
 
-pub fails-move-by : (trie : Trie) (fails : List ℕ) (state shallow next : ℕ) (step : Step)
+pub fails-move-by : (trie : Trie) (fails : List ℕ) (state shallow next : ℕ) (step : TrieState)
     → step ≡ step_at trie.steps.items (state - 1)
     → (state ≡ 0 → ⊥)
     → (step.up ≡ 0 → ⊥)
@@ -184,5 +184,5 @@ pub fails-move-by : (trie : Trie) (fails : List ℕ) (state shallow next : ℕ) 
     → Moves trie fails shallow step.by next
     → FailsTo trie fails state next
 fails-move-by trie fails state shallow next step known ne =
-    let P : Step → Type 0 = λ s. (s.up ≡ 0 → ⊥) → shallow ≡ slice_index fails s.up → Moves trie fails shallow s.by next → FailsTo trie fails state next in
+    let P : TrieState → Type 0 = λ s. (s.up ≡ 0 → ⊥) → shallow ≡ slice_index fails s.up → Moves trie fails shallow s.by next → FailsTo trie fails state next in
     subst P (sym known) (fails-move trie fails state shallow next ne)

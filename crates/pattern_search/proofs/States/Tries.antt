@@ -3,11 +3,12 @@ use Rattle.std.proofs.Common.{◌≡◌, ℕ, zero, suc, ◌+◌, ◌-◌, ◌<�
 use Rattle.std.proofs.Common.{subst, ◌∙◌, arith, ⊎_elim, length-set, get_or-set_same, get_or-set_other}
 use Rattle.std.proofs.lemmas.List.{get_or_append_left, get_or_push, length_push}
 use Rattle.std.proofs.lemmas.Bool.{cases_lt, cases_eq}
-use Rattle.pattern_search.specs.declared.trie.Step.{Step}
+use Rattle.pattern_search.specs.declared.trie.TrieState.{TrieState}
 use Rattle.pattern_search.specs.declared.trie.Trie.{Trie}
 use Rattle.pattern_search.specs.Words.{word_at, words_from, words_of, step_at, IsLastChild, IsTrieOf, IsTrie, HasChild, FindsChild}
 
-pub words-push : (words : List (List ℕ)) (steps : List Step) (step : Step) → words_from words (steps ++ step ∷ []) ≡ words_from words steps ++ (step.by ∷ word_at (words_from words steps) step.up) ∷ []
+pub words-push : (words : List (List ℕ)) (steps : List TrieState) (step : TrieState)
+    → words_from words (steps ++ step ∷ []) ≡ words_from words steps ++ (step.by ∷ word_at (words_from words steps) step.up) ∷ []
 unfolding words_from
 words-push words [] step = refl
 words-push words (first ∷ steps) step = words-push (words ++ (first.by ∷ word_at words first.up) ∷ []) steps step
@@ -56,7 +57,7 @@ module _ (words : List (List ℕ)) (old new : Trie) (deep state letter : ℕ) (i
     (width : new.width ≡ old.width)
     (firsts : new.firsts.items ≡ set (old.firsts.items ++ 0 ∷ []) state (length words))
     (few : length new.steps.items < 1073741824) where
-  abbrev added : Step
+  abbrev added : TrieState
   added = record { up = state; by = letter; same = slice_index old.firsts.items state }
 
   abbrev more : List (List ℕ)
@@ -121,17 +122,17 @@ module _ (words : List (List ℕ)) (old new : Trie) (deep state letter : ℕ) (i
   last number h k = omega (arith, ap length steps, length_push old.steps.items added)
 
   step-kept : (number : ℕ) → number < length old.steps.items → step_at new.steps.items number ≡ step_at old.steps.items number
-  step-kept number h = ap (λ (ss : List Step). step_at ss number) steps ∙ get_or_append_left old.steps.items (added ∷ []) (record { up = 0; by = 0; same = 0 }) number h
+  step-kept number h = ap (λ (ss : List TrieState). step_at ss number) steps ∙ get_or_append_left old.steps.items (added ∷ []) (record { up = 0; by = 0; same = 0 }) number h
 
   step-last : (number : ℕ) → number ≡ length old.steps.items → step_at new.steps.items number ≡ record { up = state; by = letter; same = slice_index old.firsts.items state }
-  step-last number e = ap (λ (ss : List Step). step_at ss number) steps ∙ get_or_push old.steps.items added (record { up = 0; by = 0; same = 0 }) number (sym e)
+  step-last number e = ap (λ (ss : List TrieState). step_at ss number) steps ∙ get_or_push old.steps.items added (record { up = 0; by = 0; same = 0 }) number (sym e)
 
   -- the last child up to a number that there was stays
   last-kept : (upto other child : ℕ) → upto ≤ length old.steps.items → IsLastChild old.steps.items upto other child → IsLastChild new.steps.items upto other child
   last-kept upto other child h was = record {
     within = was.within;
-    own = λ some. ap (λ (s : Step). s.up) (step-kept (child - 1) (omega (arith, was.within))) ∙ was.own some;
-    greatest = λ number k up. was.greatest number k (sym (ap (λ (s : Step). s.up) (step-kept number (omega arith))) ∙ up);
+    own = λ some. ap (λ (s : TrieState). s.up) (step-kept (child - 1) (omega (arith, was.within))) ∙ was.own some;
+    greatest = λ number k up. was.greatest number k (sym (ap (λ (s : TrieState). s.up) (step-kept number (omega arith))) ∙ up);
   }
 
   -- the last child of another state, up to the new one, stays
@@ -143,7 +144,7 @@ module _ (words : List (List ℕ)) (old new : Trie) (deep state letter : ℕ) (i
         own = kept.own;
         greatest = λ number k up. ⊎_elim
             (λ below. kept.greatest number below up)
-            (λ above. absurd (ne (sym up ∙ ap (λ (s : Step). s.up) (step-last number (last number above k)))))
+            (λ above. absurd (ne (sym up ∙ ap (λ (s : TrieState). s.up) (step-last number (last number above k)))))
             (cases_lt number (length old.steps.items));
       }
 
@@ -153,7 +154,7 @@ module _ (words : List (List ℕ)) (old new : Trie) (deep state letter : ℕ) (i
       let e : length words - 1 ≡ length old.steps.items = omega (arith, is.count) in
       record {
         within = omega (arith, is.count, ap length steps, length_push old.steps.items added);
-        own = λ some. ap (λ (s : Step). s.up) (step-last (length words - 1) e);
+        own = λ some. ap (λ (s : TrieState). s.up) (step-last (length words - 1) e);
         greatest = λ number k up. omega (arith, is.count, ap length steps, length_push old.steps.items added);
       }
 
@@ -163,8 +164,8 @@ module _ (words : List (List ℕ)) (old new : Trie) (deep state letter : ℕ) (i
     within = omega arith;
     own = λ some. absurd (omega arith);
     greatest = λ number k up. ⊎_elim
-        (λ below. absurd (omega (arith, is.count, is.ups number below, up, ap (λ (s : Step). s.up) (step-kept number below))))
-        (λ above. absurd (omega (arith, up, ap (λ (s : Step). s.up) (step-last number (last number above k)))))
+        (λ below. absurd (omega (arith, is.count, is.ups number below, up, ap (λ (s : TrieState). s.up) (step-kept number below))))
+        (λ above. absurd (omega (arith, up, ap (λ (s : TrieState). s.up) (step-last number (last number above k)))))
         (cases_lt number (length old.steps.items));
   }
 
@@ -191,7 +192,7 @@ module _ (words : List (List ℕ)) (old new : Trie) (deep state letter : ℕ) (i
 
   same-each : (number : ℕ) → number < length new.steps.items → IsLastChild new.steps.items number (step_at new.steps.items number).up (step_at new.steps.items number).same
   same-each number h =
-      let P : Step → Type 0 = λ s. IsLastChild new.steps.items number s.up s.same in
+      let P : TrieState → Type 0 = λ s. IsLastChild new.steps.items number s.up s.same in
       ⊎_elim
       (λ below. subst P (sym (step-kept number below)) (last-kept number (step_at old.steps.items number).up (step_at old.steps.items number).same (omega arith) (is.same number below)))
       (λ above.
@@ -217,18 +218,18 @@ module _ (words : List (List ℕ)) (old new : Trie) (deep state letter : ℕ) (i
         (λ k. more-kept (number + 1) (omega (arith, is.count)) ∙ is.told number k ∙
         ap (λ w. (step_at old.steps.items number).by ∷ w)
         (sym (more-kept (step_at old.steps.items number).up (omega (arith, is.ups number k, is.count)))) ∙
-        ap (λ (s : Step). s.by ∷ word_at more s.up) (sym (step-kept number k)))
+        ap (λ (s : TrieState). s.by ∷ word_at more s.up) (sym (step-kept number k)))
         (λ k. ap (word_at more) (omega (arith, last number k h, is.count)) ∙ more-last ∙
         ap (λ w. letter ∷ w) (sym (more-kept state here)) ∙
-        ap (λ (s : Step). s.by ∷ word_at more s.up) (sym (step-last number (last number k h))))
+        ap (λ (s : TrieState). s.by ∷ word_at more s.up) (sym (step-last number (last number k h))))
         (cases_lt number (length old.steps.items));
     ups = λ number h. ⊎_elim
-        (λ k. omega (arith, is.ups number k, ap (λ (s : Step). s.up) (step-kept number k)))
-        (λ k. omega (arith, last number k h, is.count, ap (λ (s : Step). s.up) (step-last number (last number k h))))
+        (λ k. omega (arith, is.ups number k, ap (λ (s : TrieState). s.up) (step-kept number k)))
+        (λ k. omega (arith, last number k h, is.count, ap (λ (s : TrieState). s.up) (step-last number (last number k h))))
         (cases_lt number (length old.steps.items));
     bys = λ number h. ⊎_elim
-        (λ k. omega (arith, is.bys number k, ap (λ (s : Step). s.by) (step-kept number k)))
-        (λ k. omega (arith, ap (λ (s : Step). s.by) (step-last number (last number k h))))
+        (λ k. omega (arith, is.bys number k, ap (λ (s : TrieState). s.by) (step-kept number k)))
+        (λ k. omega (arith, ap (λ (s : TrieState). s.by) (step-last number (last number k h))))
         (cases_lt number (length old.steps.items));
     first = first-each;
     same = same-each;
@@ -271,7 +272,7 @@ adds-child old new state letter lacking child is here wide finds none number ste
     let words = words_of old.steps.items in
     let last : child ≡ length words = omega (arith, is.count) in
     let firsts_now = firsts ∙ ap (set (old.firsts.items ++ 0 ∷ []) state) last in
-    let added : Step = record { up = state; by = letter; same = slice_index old.firsts.items state } in
+    let added : TrieState = record { up = state; by = letter; same = slice_index old.firsts.items state } in
     let grown : words_of new.steps.items ≡ words ++ (letter ∷ word_at words state) ∷ [] = ap words_of steps ∙ words-push ([] ∷ []) old.steps.items added in
     let lacks = (finds.found words (length (word_at words state) + 1) is here).lacks none in
     let all = more-trie words old new (length (word_at words state) + 1) state letter is here wide lacks refl steps width firsts_now few in

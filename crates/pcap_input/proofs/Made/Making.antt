@@ -7,7 +7,7 @@ use Rattle.std.proofs.lemmas.Bool.{ne_eqb}
 use Rattle.std.proofs.lemmas.Fmt.{length-decimal-le}
 use Rattle.std.proofs.lemmas.List.Edits.{fill_by_more}
 use Rattle.pcap_input.specs.declared.frames.Segment.{Segment}
-use Rattle.pcap_input.specs.declared.traffic.Session.{Session}
+use Rattle.pcap_input.specs.declared.traffic.TrafficSession.{TrafficSession}
 use Rattle.pcap_input.specs.declared.traffic.Traffic.{Traffic}
 use Rattle.pcap_input.specs.Frames.{tcp_frame, udp_frame}
 use Rattle.pcap_input.specs.Generated.{step, steps, draw, letters, first_session, first_traffic, segment_at, session_after}
@@ -52,9 +52,9 @@ text-short number bytes small is =
     omega arith
 
 -- a session more
-pub sessions-step : (sessions : List Session) (number : ℕ) (session : Session) → number < length sessions → session ≡ first_session number
-    → ((k : ℕ) (d : Session) → k < number → get_or sessions k d ≡ first_session k)
-    → (k : ℕ) (d : Session) → k < number + 1 → get_or (set sessions number session) k d ≡ first_session k
+pub sessions-step : (sessions : List TrafficSession) (number : ℕ) (session : TrafficSession) → number < length sessions → session ≡ first_session number
+    → ((k : ℕ) (d : TrafficSession) → k < number → get_or sessions k d ≡ first_session k)
+    → (k : ℕ) (d : TrafficSession) → k < number + 1 → get_or (set sessions number session) k d ≡ first_session k
 sessions-step sessions number session within is first k d below =
     ap (λ s. get_or (set sessions number s) k d) is
     ∙ fill_by_more first_session sessions number d within (λ j under. first j d under) k below
@@ -72,7 +72,7 @@ datagram-made traffic host first after text frame host_is first_is text_is after
     rw (frame_is, text_is, after_is, first_is, host_is) refl
 
 -- a segment, by its draws
-pub segment-made : (traffic : Traffic) (number first after : ℕ) (session next : Session) (sessions : List Session) (segment : Segment) (payload frame : List ℕ)
+pub segment-made : (traffic : Traffic) (number first after : ℕ) (session next : TrafficSession) (sessions : List TrafficSession) (segment : Segment) (payload frame : List ℕ)
     → number ≡ draw 16 traffic.draws.state
     → first ≡ step traffic.draws.state
     → session ≡ session_at traffic.sessions number

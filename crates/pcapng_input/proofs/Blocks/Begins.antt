@@ -8,7 +8,7 @@ use Rattle.pcap_input.specs.Savefile.{number_at}
 use Rattle.pcapng_input.specs.declared.capture.NgFault.{NgFault}
 use Rattle.pcapng_input.specs.declared.capture.NgFault.TheVariants as fault
 use Rattle.pcapng_input.specs.declared.block.Block.{Block}
-use Rattle.pcapng_input.specs.declared.content.Content.{Content}
+use Rattle.pcapng_input.specs.declared.content.BlockContent.{BlockContent}
 use Rattle.pcapng_input.specs.declared.walk.Walk.{Walk}
 use Rattle.pcap_input.specs.Cut.{Clean}
 use Rattle.pcapng_input.specs.Blocks.{section_type, Stops, refused, truncated, bad_block, front_length, is_sized, order_of}
@@ -23,7 +23,7 @@ pub fronted-err : (walk : Walk) (block : Block) (front : List ℕ) (why : NgFaul
 unfolding fronted
 fronted-err walk block front why is more = rw (fronted, is) refl
 
-pub fronted-ok : (walk : Walk) (block : Block) (front : List ℕ) (told : Content) → content_of walk block front ≡ Ok told
+pub fronted-ok : (walk : Walk) (block : Block) (front : List ℕ) (told : BlockContent) → content_of walk block front ≡ Ok told
     → (more : List ℕ) → fronted walk block front more ≡ closing walk block told more
 unfolding fronted
 fronted-ok walk block front told is more = rw (fronted, is) refl

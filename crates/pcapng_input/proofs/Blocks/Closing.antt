@@ -9,9 +9,9 @@ use Rattle.pcap_input.proofs.Laws.{number_at-append}
 use Rattle.pcapng_input.specs.declared.capture.NgFault.{NgFault}
 use Rattle.pcapng_input.specs.declared.capture.NgFault.TheVariants as fault
 use Rattle.pcapng_input.specs.declared.block.Block.{Block}
-use Rattle.pcapng_input.specs.declared.content.Packet.{Packet}
-use Rattle.pcapng_input.specs.declared.content.Content.{Content}
-use Rattle.pcapng_input.specs.declared.content.Content.TheVariants as content
+use Rattle.pcapng_input.specs.declared.content.PacketBlock.{PacketBlock}
+use Rattle.pcapng_input.specs.declared.content.BlockContent.{BlockContent}
+use Rattle.pcapng_input.specs.declared.content.BlockContent.TheVariants as content
 use Rattle.pcapng_input.specs.declared.resolution.Resolution.{Resolution}
 use Rattle.pcapng_input.specs.declared.walk.Walk.{Walk}
 use Rattle.pcapng_input.specs.declared.step.BlockRead.TheVariants as read
@@ -22,14 +22,14 @@ use Rattle.pcapng_input.proofs.Blocks.Taking.{took_after, less_within}
 use Rattle.pcapng_input.proofs.Blocks.Stages.{CutsBelow, shows_cut, shows_refused, shows_skipped, shows_given, shows_lacking}
 
 -- fewer bytes than the block has
-pub closing_cuts : (walk : Walk) (block : Block) (told : Content) → CutsBelow (closing walk block told) walk.at (inner_length block + 4)
+pub closing_cuts : (walk : Walk) (block : Block) (told : BlockContent) → CutsBelow (closing walk block told) walk.at (inner_length block + 4)
 unfolding closing
 closing_cuts walk block told bytes fewer =
     let test : nat_lt (length bytes) (inner_length block + 4) ≡ true = grind (arith, nat_tests) in
     rw test refl
 
 -- the block whole: its last four bytes are its total length or not
-pub closing_whole : (walk : Walk) (block : Block) (told : Content) (inner last more : List ℕ) (same : Bool)
+pub closing_whole : (walk : Walk) (block : Block) (told : BlockContent) (inner last more : List ℕ) (same : Bool)
     → length inner ≡ inner_length block → length last ≡ 4 → (number_at walk.section.swapped 0 4 last == block.total) ≡ same
     → closing walk block told ((inner ++ last) ++ more) ≡ (if same then given_by walk block told inner more else refused (bad_block walk))
 unfolding closing
@@ -45,12 +45,12 @@ closing_whole walk block told inner last more same size four tells =
     rw (test, number, tells, front, back) refl
 
 -- some of a block's inner bytes were taken, and then the rest and the last four
-pub record Whole (walk : Walk) (block : Block) (told : Content) (same : Bool) (inner : List ℕ) (old new : Option (List ℕ)) : Type 0 where
+pub record Whole (walk : Walk) (block : Block) (told : BlockContent) (same : Bool) (inner : List ℕ) (old new : Option (List ℕ)) : Type 0 where
   pub taken : List ℕ
   pub took : old ≡ before taken new
   pub is : (more : List ℕ) → closing walk block told (taken ++ more) ≡ (if same then given_by walk block told inner more else refused (bad_block walk))
 
-pub whole : (walk : Walk) (block : Block) (told : Content) (same : Bool) (len : ℕ) (front : List ℕ) (old mid new : Option (List ℕ))
+pub whole : (walk : Walk) (block : Block) (told : BlockContent) (same : Bool) (len : ℕ) (front : List ℕ) (old mid new : Option (List ℕ))
     → old ≡ before front mid → length front + len ≡ inner_length block → (last : TakesLast walk.section.swapped block.total len same mid new)
     → Whole walk block told same (front ++ last.passed) old new
 whole walk block told same len front old mid new took fits last = record {
@@ -60,31 +60,31 @@ whole walk block told same len front old mid new took fits last = record {
 }
 
 -- the block was cut short
-pub closing_less : (walk new_walk : Walk) (block : Block) (told : Content) (len : ℕ) (why : NgFault) (old new : Option (List ℕ))
+pub closing_less : (walk new_walk : Walk) (block : Block) (told : BlockContent) (len : ℕ) (why : NgFault) (old new : Option (List ℕ))
     → len ≤ inner_length block + 4 → TakesLess walk.at len why old new → Shows (closing walk block told) new_walk (Err why) old new
 closing_less walk new_walk block told len why old new fits less =
     shows_cut (closing walk block told) new_walk walk.at (inner_length block + 4) why old new (closing_cuts walk block told)
     (less_within walk.at len (inner_length block + 4) why old new fits less)
 
 -- a block is refused whose last four bytes are another number
-pub closing_differs : (walk new_walk : Walk) (block : Block) (told : Content) (inner : List ℕ) (old new : Option (List ℕ))
+pub closing_differs : (walk new_walk : Walk) (block : Block) (told : BlockContent) (inner : List ℕ) (old new : Option (List ℕ))
     → Whole walk block told false inner old new → Shows (closing walk block told) new_walk (Err (bad_block walk)) old new
 closing_differs walk new_walk block told inner old new all = shows_refused (closing walk block told) new_walk (bad_block walk) all.taken old new all.took all.is
 
 -- a whole block is what its inner bytes give
-pub closing_refused : (walk new_walk : Walk) (block : Block) (told : Content) (inner : List ℕ) (why : NgFault) (old new : Option (List ℕ))
+pub closing_refused : (walk new_walk : Walk) (block : Block) (told : BlockContent) (inner : List ℕ) (why : NgFault) (old new : Option (List ℕ))
     → Whole walk block told true inner old new → ((more : List ℕ) → given_by walk block told inner more ≡ refused why)
     → Shows (closing walk block told) new_walk (Err why) old new
 closing_refused walk new_walk block told inner why old new all is =
     shows_refused (closing walk block told) new_walk why all.taken old new all.took (λ more. all.is more ∙ is more)
 
-pub closing_skipped : (walk new_walk : Walk) (block : Block) (told : Content) (inner : List ℕ) (old new : Option (List ℕ))
+pub closing_skipped : (walk new_walk : Walk) (block : Block) (told : BlockContent) (inner : List ℕ) (old new : Option (List ℕ))
     → Whole walk block told true inner old new → ((more : List ℕ) → given_by walk block told inner more ≡ Skips new_walk more)
     → Shows (closing walk block told) new_walk (Ok read.Skipped) old new
 closing_skipped walk new_walk block told inner old new all is =
     shows_skipped (closing walk block told) new_walk all.taken old new all.took (λ more. all.is more ∙ is more)
 
-pub closing_lacking : (walk new_walk after : Walk) (block : Block) (told : Content) (inner : List ℕ) (old new : Option (List ℕ))
+pub closing_lacking : (walk new_walk after : Walk) (block : Block) (told : BlockContent) (inner : List ℕ) (old new : Option (List ℕ))
     → Whole walk block told true inner old new → ((more : List ℕ) → given_by walk block told inner more ≡ Skips after more)
     → Shows (closing walk block told) new_walk (Err fault.NoMemory) old new
 closing_lacking walk new_walk after block told inner old new all is =
@@ -109,14 +109,14 @@ unfolding given_by
 given-no_resolution walk block link snaplen inner more is = rw (given_by, is) refl
 
 -- a packet, whose captured bytes come first
-pub given-packet : (walk : Walk) (block : Block) (packet : Packet) (bytes passed more : List ℕ) → length bytes ≡ packet.captured
+pub given-packet : (walk : Walk) (block : Block) (packet : PacketBlock) (bytes passed more : List ℕ) → length bytes ≡ packet.captured
     → given_by walk block (content.Packet packet) (bytes ++ passed) more ≡ Gives (record_of walk packet bytes) (after_packet walk block packet) more
 unfolding given_by
 given-packet walk block packet bytes passed more size =
     let front = take_at bytes passed packet.captured size in
     rw front refl
 
-pub closing_packet : (walk : Walk) (block : Block) (packet : Packet) (bytes passed : List ℕ) (old new : Option (List ℕ)) → length bytes ≡ packet.captured
+pub closing_packet : (walk : Walk) (block : Block) (packet : PacketBlock) (bytes passed : List ℕ) (old new : Option (List ℕ)) → length bytes ≡ packet.captured
     → Whole walk block (content.Packet packet) true (bytes ++ passed) old new
     → Shows (closing walk block (content.Packet packet)) (after_packet walk block packet) (Ok (read.Record (record_of walk packet bytes))) old new
 closing_packet walk block packet bytes passed old new size all =

@@ -8,8 +8,8 @@ use Rattle.pcap_input.specs.Savefile.{number_at}
 use Rattle.pcap_input.proofs.Told.{split_told}
 use Rattle.pcapng_input.specs.declared.capture.NgFault.{NgFault}
 use Rattle.pcapng_input.specs.declared.capture.NgFault.TheVariants as fault
-use Rattle.pcapng_input.specs.declared.content.Content.{Content}
-use Rattle.pcapng_input.specs.declared.content.Content.TheVariants as content
+use Rattle.pcapng_input.specs.declared.content.BlockContent.{BlockContent}
+use Rattle.pcapng_input.specs.declared.content.BlockContent.TheVariants as content
 use Rattle.pcapng_input.proofs.Blocks.Begins.{fronted-err, fronted-ok, number_front}
 use Rattle.pcapng_input.proofs.Blocks.Openings.{opening_short, opening_other, opening_cut, magic_none, magic_known}
 use Rattle.pcapng_input.specs.declared.walk.Walk.{Walk}
@@ -47,7 +47,7 @@ section_told : (walk : Walk) (swapped : Bool) (first front : List ℕ) (one : Bo
     → content_of walk (section_block swapped first) front ≡ (if one then Ok content.Skipped else Err (bad_block walk))
 unfolding content_of section_of
 section_told walk swapped first front one is =
-    let told : Bool → Result Content NgFault = λ b. if b then Ok content.Skipped else Err (bad_block walk) in
+    let told : Bool → Result BlockContent NgFault = λ b. if b then Ok content.Skipped else Err (bad_block walk) in
     ap told is
 
 fronted_by : (walk : Walk) (swapped : Bool) (first front after : List ℕ) (one : Bool) → (number_at walk.section.swapped 0 2 front == 1) ≡ one → walk.at ≡ 0

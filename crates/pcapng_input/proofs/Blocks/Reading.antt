@@ -9,7 +9,7 @@ use Rattle.pcap_input.proofs.Told.{none_taken}
 use Rattle.pcapng_input.specs.declared.capture.NgFault.{NgFault}
 use Rattle.pcapng_input.specs.declared.capture.NgFault.TheVariants as fault
 use Rattle.pcapng_input.specs.declared.block.Block.{Block}
-use Rattle.pcapng_input.specs.declared.content.Content.{Content}
+use Rattle.pcapng_input.specs.declared.content.BlockContent.{BlockContent}
 use Rattle.pcapng_input.specs.declared.walk.Walk.{Walk}
 use Rattle.pcapng_input.specs.declared.step.BlockRead.{BlockRead}
 use Rattle.pcapng_input.specs.declared.step.BlockRead.TheVariants as read
@@ -26,7 +26,7 @@ use Rattle.pcapng_input.proofs.Blocks.Begins.{step_cut, step_begun, step_few}
 use Rattle.pcapng_input.proofs.Blocks.Openings.{opening_short, opening_other, opening_cut, magic_cuts, magic_none, magic_known}
 
 -- all of a block's inner bytes were taken before the last four
-pub whole_front : (walk : Walk) (block : Block) (told : Content) (same : Bool) (front : List ℕ) (old mid new : Option (List ℕ))
+pub whole_front : (walk : Walk) (block : Block) (told : BlockContent) (same : Bool) (front : List ℕ) (old mid new : Option (List ℕ))
     → old ≡ before front mid → length front ≡ inner_length block → TakesLast walk.section.swapped block.total 0 same mid new → Whole walk block told same front old new
 whole_front walk block told same front old mid new took size last =
     let fits : length front + 0 ≡ inner_length block = omega (arith, size) in
@@ -52,7 +52,7 @@ pub known_refused : (walk new_walk : Walk) (block : Block) (front : List ℕ) (w
 known_refused walk new_walk block front why old new is size told took =
     shows_refused (known walk block) new_walk why front old new took (λ more. known_fronted walk block front is size more ∙ fronted-err walk block front why told more)
 
-pub known_closing : (walk new_walk : Walk) (block : Block) (front : List ℕ) (told : Content) (answer : Result BlockRead NgFault) (old mid new : Option (List ℕ)) → is_sized block ≡ true
+pub known_closing : (walk new_walk : Walk) (block : Block) (front : List ℕ) (told : BlockContent) (answer : Result BlockRead NgFault) (old mid new : Option (List ℕ)) → is_sized block ≡ true
     → length front ≡ front_length block.kind → content_of walk block front ≡ Ok told → old ≡ before front mid → Shows (closing walk block told) new_walk answer mid new
     → Shows (known walk block) new_walk answer old new
 known_closing walk new_walk block front told answer old mid new is size is_told took shown =

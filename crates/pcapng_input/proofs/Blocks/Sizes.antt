@@ -2,13 +2,13 @@
 use Rattle.std.proofs.Common.{◌≡◌, ◌+◌, ◌≤◌, Bool, true, false, IsTrue, refl, arith}
 use Rattle.std.specs.Prelude.{◌&&◌, ◌==◌, ◌%◌, nat_le}
 use Rattle.std.proofs.lemmas.Bool.Decides.{nat_tests}
-use Rattle.pcapng_input.specs.declared.block.Kind.{Kind}
-use Rattle.pcapng_input.specs.declared.block.Kind.TheVariants as kind
+use Rattle.pcapng_input.specs.declared.block.BlockKind.{BlockKind}
+use Rattle.pcapng_input.specs.declared.block.BlockKind.TheVariants as kind
 use Rattle.pcapng_input.specs.declared.block.Block.{Block}
 use Rattle.pcapng_input.specs.Blocks.{least_total, fixed_front, front_length, is_sized}
 
 -- a least length has room for the fixed front and the last four bytes
-front_least : (k : Kind) → fixed_front k + 4 ≤ least_total k
+front_least : (k : BlockKind) → fixed_front k + 4 ≤ least_total k
 front_least kind.Section = omega arith
 front_least kind.Interface = omega arith
 front_least kind.Simple = omega arith
@@ -29,7 +29,7 @@ sized_fits block is =
     omega (arith, front_least block.kind)
 
 -- a front is no longer than a buffer of 20 bytes
-pub front_short : (k : Kind) → front_length k ≤ 20
+pub front_short : (k : BlockKind) → front_length k ≤ 20
 front_short kind.Section = omega arith
 front_short kind.Interface = omega arith
 front_short kind.Simple = omega arith

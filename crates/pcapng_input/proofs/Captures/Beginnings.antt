@@ -8,8 +8,8 @@ use Rattle.pcap_input.specs.Savefile.{number_at}
 use Rattle.pcapng_input.specs.declared.capture.NgRecord.{NgRecord}
 use Rattle.pcapng_input.specs.declared.capture.NgFault.{NgFault}
 use Rattle.pcapng_input.specs.declared.block.Block.{Block}
-use Rattle.pcapng_input.specs.declared.content.Content.{Content}
-use Rattle.pcapng_input.specs.declared.content.Content.TheVariants as content
+use Rattle.pcapng_input.specs.declared.content.BlockContent.{BlockContent}
+use Rattle.pcapng_input.specs.declared.content.BlockContent.TheVariants as content
 use Rattle.pcapng_input.specs.declared.resolution.Resolution.{Resolution}
 use Rattle.pcapng_input.specs.declared.walk.Walk.{Walk}
 use Rattle.pcapng_input.specs.Options.{resolution_told}
@@ -68,21 +68,21 @@ interface_local walk block link snaplen stage inner own more whole None told joi
 interface_local walk block link snaplen stage inner own more whole (Some resolution) told joined is =
     local_skips stage _ own more whole joined (λ m. is m ∙ given-interface walk block link snaplen inner m resolution told)
 
-given_local : (walk : Walk) (block : Block) (told : Content) (stage : List ℕ → Step) (inner own more whole : List ℕ) → whole ≡ own ++ more
+given_local : (walk : Walk) (block : Block) (told : BlockContent) (stage : List ℕ → Step) (inner own more whole : List ℕ) → whole ≡ own ++ more
     → ((m : List ℕ) → stage (own ++ m) ≡ given_by walk block told inner m) → IsLocal stage whole (stage whole)
 unfolding given_by
 given_local walk block content.Skipped stage inner own more whole joined is = local_skips stage _ own more whole joined is
 given_local walk block (content.Interface link snaplen) stage inner own more whole joined is = interface_local walk block link snaplen stage inner own more whole _ refl joined is
 given_local walk block (content.Packet packet) stage inner own more whole joined is = local_gives stage _ _ own more whole joined is
 
-closed_local : (walk : Walk) (block : Block) (told : Content) (inner last more whole : List ℕ) (same : Bool) → length inner ≡ inner_length block → length last ≡ 4
+closed_local : (walk : Walk) (block : Block) (told : BlockContent) (inner last more whole : List ℕ) (same : Bool) → length inner ≡ inner_length block → length last ≡ 4
     → (number_at walk.section.swapped 0 4 last == block.total) ≡ same → whole ≡ (inner ++ last) ++ more → IsLocal (closing walk block told) whole (closing walk block told whole)
 closed_local walk block told inner last more whole false size four tells joined =
     local_ends (closing walk block told) whole _ (ap (closing walk block told) joined ∙ closing_whole walk block told inner last more false size four tells)
 closed_local walk block told inner last more whole true size four tells joined =
     given_local walk block told (closing walk block told) inner (inner ++ last) more whole joined (λ m. closing_whole walk block told inner last m true size four tells)
 
-closing_by : (walk : Walk) (block : Block) (told : Content) (whole : List ℕ) (short : Bool)
+closing_by : (walk : Walk) (block : Block) (told : BlockContent) (whole : List ℕ) (short : Bool)
     → nat_lt (length whole) (inner_length block + 4) ≡ short
     → IsLocal (closing walk block told) whole (closing walk block told whole)
 closing_by walk block told whole true is =
@@ -96,7 +96,7 @@ closing_by walk block told whole false is =
     (sym (take-append-drop (inner_length block) whole) ∙ ap (λ xs. take (inner_length block) whole ++ xs) (sym (take-append-drop 4 after))
     ∙ sym (append_assoc (take (inner_length block) whole) (take 4 after) (drop 4 after)))
 
-fronted_by : (walk : Walk) (block : Block) (front whole : List ℕ) (told : Result Content NgFault)
+fronted_by : (walk : Walk) (block : Block) (front whole : List ℕ) (told : Result BlockContent NgFault)
     → content_of walk block front ≡ told
     → IsLocal (fronted walk block front) whole (fronted walk block front whole)
 fronted_by walk block front whole (Err why) is = local_ends (fronted walk block front) whole _ (fronted-err walk block front why is whole)

@@ -8,8 +8,8 @@ use Rattle.pcapng_input.specs.declared.capture.NgFault.{NgFault}
 use Rattle.pcapng_input.specs.declared.capture.NgRecord.{NgRecord}
 use Rattle.pcapng_input.specs.declared.capture.NgFault.TheVariants as fault
 use Rattle.pcapng_input.specs.declared.block.Block.{Block}
-use Rattle.pcapng_input.specs.declared.content.Content.{Content}
-use Rattle.pcapng_input.specs.declared.content.Content.TheVariants as content
+use Rattle.pcapng_input.specs.declared.content.BlockContent.{BlockContent}
+use Rattle.pcapng_input.specs.declared.content.BlockContent.TheVariants as content
 use Rattle.pcapng_input.specs.declared.resolution.Resolution.{Resolution}
 use Rattle.pcapng_input.specs.declared.walk.Walk.{Walk}
 use Rattle.pcapng_input.specs.Options.{resolution_told}
@@ -37,13 +37,13 @@ unfolding given_by
 interface_moves walk block link snaplen count inner more None is some fewer = rw (given_by, is) tt
 interface_moves walk block link snaplen count inner more (Some resolution) is some fewer = rw (given_by, is) (omega arith, fewer)
 
-given_moves : (walk : Walk) (block : Block) (told : Content) (count : ℕ) (inner more : List ℕ) → 0 < block.total → length more < count → Moves walk.at count (given_by walk block told inner more)
+given_moves : (walk : Walk) (block : Block) (told : BlockContent) (count : ℕ) (inner more : List ℕ) → 0 < block.total → length more < count → Moves walk.at count (given_by walk block told inner more)
 unfolding given_by
 given_moves walk block content.Skipped count inner more some fewer = (omega arith, fewer)
 given_moves walk block (content.Interface link snaplen) count inner more some fewer = interface_moves walk block link snaplen count inner more _ refl some fewer
 given_moves walk block (content.Packet packet) count inner more some fewer = (omega arith, fewer)
 
-closing_moves : (walk : Walk) (block : Block) (told : Content) (count : ℕ) (after : List ℕ) → 0 < block.total → length after < count → Moves walk.at count (closing walk block told after)
+closing_moves : (walk : Walk) (block : Block) (told : BlockContent) (count : ℕ) (after : List ℕ) → 0 < block.total → length after < count → Moves walk.at count (closing walk block told after)
 unfolding closing
 closing_moves walk block told count after some fewer =
     either walk.at count (nat_lt (length after) (inner_length block + 4)) (truncated walk) _ (λ _. tt)
@@ -52,7 +52,7 @@ closing_moves walk block told count after some fewer =
     (λ _. given_moves walk block told count (take (inner_length block) after) (drop (inner_length block + 4) after) some (omega (arith, length-drop (inner_length block + 4) after)))
     (λ _. tt))
 
-fronted_by : (walk : Walk) (block : Block) (front : List ℕ) (count : ℕ) (after : List ℕ) (told : Result Content NgFault) → content_of walk block front ≡ told
+fronted_by : (walk : Walk) (block : Block) (front : List ℕ) (count : ℕ) (after : List ℕ) (told : Result BlockContent NgFault) → content_of walk block front ≡ told
     → 0 < block.total → length after < count → Moves walk.at count (fronted walk block front after)
 fronted_by walk block front count after (Err why) is some fewer = subst (Moves walk.at count) (sym (fronted-err walk block front why is after)) tt
 fronted_by walk block front count after (Ok told) is some fewer =

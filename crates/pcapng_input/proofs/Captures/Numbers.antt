@@ -8,8 +8,8 @@ use Rattle.pcapng_input.specs.declared.capture.NgFault.{NgFault}
 use Rattle.pcapng_input.specs.declared.capture.NgRecord.{NgRecord}
 use Rattle.pcapng_input.specs.declared.capture.NgFault.TheVariants as fault
 use Rattle.pcapng_input.specs.declared.block.Block.{Block}
-use Rattle.pcapng_input.specs.declared.content.Content.{Content}
-use Rattle.pcapng_input.specs.declared.content.Content.TheVariants as content
+use Rattle.pcapng_input.specs.declared.content.BlockContent.{BlockContent}
+use Rattle.pcapng_input.specs.declared.content.BlockContent.TheVariants as content
 use Rattle.pcapng_input.specs.declared.resolution.Resolution.{Resolution}
 use Rattle.pcapng_input.specs.declared.walk.Walk.{Walk}
 use Rattle.pcapng_input.specs.Options.{resolution_told}
@@ -39,14 +39,14 @@ unfolding given_by
 interface_counts walk block link snaplen inner more None is = rw (given_by, is) tt
 interface_counts walk block link snaplen inner more (Some resolution) is = rw (given_by, is) refl
 
-given_counts : (walk : Walk) (block : Block) (told : Content) (inner more : List ℕ)
+given_counts : (walk : Walk) (block : Block) (told : BlockContent) (inner more : List ℕ)
     → Counts walk.number (given_by walk block told inner more)
 unfolding given_by
 given_counts walk block content.Skipped inner more = refl
 given_counts walk block (content.Interface link snaplen) inner more = interface_counts walk block link snaplen inner more _ refl
 given_counts walk block (content.Packet packet) inner more = refl
 
-closing_counts : (walk : Walk) (block : Block) (told : Content) (after : List ℕ)
+closing_counts : (walk : Walk) (block : Block) (told : BlockContent) (after : List ℕ)
     → Counts walk.number (closing walk block told after)
 unfolding closing
 closing_counts walk block told after =
@@ -56,7 +56,7 @@ closing_counts walk block told after =
     (refused (bad_block walk))
     (given_counts walk block told (take (inner_length block) after) (drop (inner_length block + 4) after)) tt)
 
-fronted_by : (walk : Walk) (block : Block) (front after : List ℕ) (told : Result Content NgFault)
+fronted_by : (walk : Walk) (block : Block) (front after : List ℕ) (told : Result BlockContent NgFault)
     → content_of walk block front ≡ told → Counts walk.number (fronted walk block front after)
 fronted_by walk block front after (Err why) is = subst (Counts walk.number) (sym (fronted-err walk block front why is after)) tt
 fronted_by walk block front after (Ok told) is =
@@ -172,7 +172,7 @@ not_cut true ending step after more is = cc
 not_cut false ending step after more is = (refl, is)
 
 -- a section header that is whole has 28 bytes at least
-fronted_long : (walk : Walk) (block : Block) (front body : List ℕ) (after : Walk) (more : List ℕ) (told : Result Content NgFault)
+fronted_long : (walk : Walk) (block : Block) (front body : List ℕ) (after : Walk) (more : List ℕ) (told : Result BlockContent NgFault)
     → content_of walk block front ≡ told → fronted walk block front body ≡ Skips after more → 4 ≤ length body
 unfolding closing
 fronted_long walk block front body after more (Err why) is skips =

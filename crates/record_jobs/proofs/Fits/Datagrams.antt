@@ -28,7 +28,7 @@ use Rattle.frag3_core.specs.Trackers.{Frag3State, Fragment, TrackerState, Tracke
 use Rattle.frag3_core.specs.Trackers.{datagram_of, found, held_count, ignored, in_time, is_timed_out, key_of, others, own}
 use Rattle.frag3_core.specs.Trackers.{same_key, state_after, taken, tracker_of, trackers_after, whole_head, with_own, with_room}
 use Rattle.frag3_core.specs.Trackers.{without}
-use Rattle.record_jobs.specs.declared.item.Item.{Item}
+use Rattle.record_jobs.specs.declared.item.RecordItem.{RecordItem}
 use Rattle.record_jobs.specs.Packets.{completed_datagram, datagram_from, datagram_in, datagram_item, datagram_of_fragment}
 use Rattle.record_jobs.specs.Packets.{datagram_said, frag3_after, fragment_fields, fragment_in, fragment_item, fragment_of}
 use Rattle.record_jobs.specs.Packets.{fragments, is_fragment, item_of, packet_fields, packet_from, packet_in, said_by}
@@ -258,7 +258,7 @@ brought_datagram way before r earlier fits = by_fields (fragment_fields (said_by
 -- ---- what is inspected
 
 -- an item by its head
-abbrev pub FitsBrought : Item → Type 0
+abbrev pub FitsBrought : RecordItem → Type 0
 FitsBrought item = FitsHead item.head
 
 brought : (kind : ItemKind) (moment : Moment) (fields : Option Fields) → IfSome fields FitsFields → IfSome (option_map (item_of kind moment) fields) FitsBrought
@@ -278,7 +278,7 @@ rebuilt_brought checks moment None fit = tt
 rebuilt_brought checks moment (Some datagram) fit =
     brought kind.Rebuilt moment (result_ok (datagram_said checks datagram)) (ok_fits (datagram_said checks datagram) (rebuilt_fits datagram.ip datagram.bytes checks fit.ip_fits fit.bytes))
 
-first_of : (one other : Option Item) → IfSome one FitsBrought → IfSome other FitsBrought → IfSome (option_or one other) FitsBrought
+first_of : (one other : Option RecordItem) → IfSome one FitsBrought → IfSome other FitsBrought → IfSome (option_or one other) FitsBrought
 first_of None other a b = b
 first_of (Some item) other a b = a
 

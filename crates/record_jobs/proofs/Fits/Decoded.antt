@@ -11,7 +11,7 @@ use Rattle.edge_io.specs.Bytes.{be16, be32, byte_at, slice, word_sum}
 use Rattle.edge_io.specs.OnResult.{◌>>=◌}
 use Rattle.edge_io.specs.declared.link.Link.{Link}
 use Rattle.packet_decode.specs.declared.checks.Checks.{Checks}
-use Rattle.packet_decode.specs.declared.ipv4.Bounds.{Bounds}
+use Rattle.packet_decode.specs.declared.ipv4.DataBounds.{DataBounds}
 use Rattle.packet_decode.specs.declared.packet.Body.{Body}
 use Rattle.packet_decode.specs.declared.packet.Body.TheVariants as body
 use Rattle.packet_decode.specs.declared.packet.IpHead.{IpHead}
@@ -23,7 +23,7 @@ use Rattle.packet_decode.specs.Decoding.{Fields, data_bounds, datagram_at, datag
 use Rattle.packet_decode.specs.Decoding.{is_fragment, is_message_right, is_segment_right, link_start, tcp_at, tcp_head_at}
 use Rattle.packet_decode.specs.Decoding.{transport_at, udp_at}
 use Rattle.packet_decode.specs.Versions.{icmp_protocol, version_of}
-use Rattle.ipv6_decode.specs.declared.walk.Walk.{Walk}
+use Rattle.ipv6_decode.specs.declared.walk.HeaderWalk.{HeaderWalk}
 use Rattle.ipv6_decode.specs.Decoding6.{datagram_decoded6, decoded6, packet_at, packet_after, upper_at, walk_start}
 use Rattle.ipv6_decode.specs.Headers.{be128, after_fragment_header, after_header, after_length_field, fragment_head, head_at, is_at_header, most_headers, packet_stop, walk_end}
 use Rattle.ipv6_decode.specs.Versions.{are_six, rebuilt_decoded, record_decoded, unless_other}
@@ -129,7 +129,7 @@ four_head : (bytes : List ℕ) (start : ℕ) → AreBytes bytes → FitsIp (ip_h
 unfolding ip_head_at
 four_head bytes start all = record { version = refl; src = four_fit bytes (start + 12) all; dst = four_fit bytes (start + 16) all; protocol = byte_fits bytes (start + 9) all }
 
-four_at : (bytes : List ℕ) (start : ℕ) (bounds : Bounds) (checks : Checks) → AreBytes bytes → IfOk (datagram_at bytes start bounds checks) FitsFields
+four_at : (bytes : List ℕ) (start : ℕ) (bounds : DataBounds) (checks : Checks) → AreBytes bytes → IfOk (datagram_at bytes start bounds checks) FitsFields
 unfolding datagram_at
 four_at bytes start bounds checks all =
     let ip = ip_head_at bytes start in
@@ -148,10 +148,10 @@ four link bytes checks all =
 -- ---- version 6
 
 -- a walk's head fits
-abbrev FitsWalk : Walk → Type 0
+abbrev FitsWalk : HeaderWalk → Type 0
 FitsWalk walk = FitsIp walk.head
 
-length_field_fits : (walk : Walk) (bytes : List ℕ) → FitsWalk walk → AreBytes bytes → IfOk (after_length_field walk bytes) FitsWalk
+length_field_fits : (walk : HeaderWalk) (bytes : List ℕ) → FitsWalk walk → AreBytes bytes → IfOk (after_length_field walk bytes) FitsWalk
 unfolding after_length_field
 length_field_fits walk bytes fits all =
     let end = walk.place + 8 + 8 * byte_at bytes (walk.place + 1) in
@@ -159,27 +159,27 @@ length_field_fits walk bytes fits all =
     (choose FitsWalk (nat_lt (length bytes) end) (Err skip.Malformed) (Ok (record { head = record walk.head { protocol = byte_at bytes walk.place }; place = end; is_part = walk.is_part })) tt
     (record { version = fits.version; src = fits.src; dst = fits.dst; protocol = byte_fits bytes walk.place all }))
 
-fragment_header_fits : (walk : Walk) (bytes : List ℕ) → FitsWalk walk → AreBytes bytes → IfOk (after_fragment_header walk bytes) FitsWalk
+fragment_header_fits : (walk : HeaderWalk) (bytes : List ℕ) → FitsWalk walk → AreBytes bytes → IfOk (after_fragment_header walk bytes) FitsWalk
 unfolding after_fragment_header fragment_head
 fragment_header_fits walk bytes fits all =
     let head = fragment_head walk.head bytes walk.place in
     choose FitsWalk (nat_lt (length bytes) (walk.place + 8)) (Err skip.Malformed) (Ok (record { head = head; place = walk.place + 8; is_part = is_fragment head })) tt
     (record { version = fits.version; src = fits.src; dst = fits.dst; protocol = byte_fits bytes walk.place all })
 
-header_fits : (walk : Walk) (bytes : List ℕ) → FitsWalk walk → AreBytes bytes → IfOk (after_header walk bytes) FitsWalk
+header_fits : (walk : HeaderWalk) (bytes : List ℕ) → FitsWalk walk → AreBytes bytes → IfOk (after_header walk bytes) FitsWalk
 unfolding after_header
 header_fits walk bytes fits all =
     choose FitsWalk (walk.head.protocol == 44) (after_fragment_header walk bytes) (after_length_field walk bytes)
     (fragment_header_fits walk bytes fits all) (length_field_fits walk bytes fits all)
 
-walk_fits : (left : ℕ) (walk : Walk) (bytes : List ℕ) → FitsWalk walk → AreBytes bytes → IfOk (walk_end left walk bytes) FitsWalk
+walk_fits : (left : ℕ) (walk : HeaderWalk) (bytes : List ℕ) → FitsWalk walk → AreBytes bytes → IfOk (walk_end left walk bytes) FitsWalk
 unfolding walk_end
 walk_fits zero walk bytes fits all = choose FitsWalk (is_at_header walk) (Err skip.Malformed) (Ok walk) tt fits
 walk_fits (suc left) walk bytes fits all =
     choose FitsWalk (is_at_header walk) (after_header walk bytes >>= (λ next. walk_end left next bytes)) (Ok walk)
     (bind-with FitsWalk FitsWalk (after_header walk bytes) (λ next. walk_end left next bytes) (header_fits walk bytes fits all) (λ next fit. walk_fits left next bytes fit all)) fits
 
-packet_after_fits : (walk : Walk) (packet : List ℕ) (checks : Checks) → FitsWalk walk → AreBytes packet → IfOk (packet_after walk packet checks) FitsFields
+packet_after_fits : (walk : HeaderWalk) (packet : List ℕ) (checks : Checks) → FitsWalk walk → AreBytes packet → IfOk (packet_after walk packet checks) FitsFields
 unfolding packet_after
 packet_after_fits walk packet checks fits all =
     choose FitsFields walk.is_part (Ok (record { ip = walk.head; body = body.Fragment; payload = slice packet walk.place (length packet) })) (upper_at walk packet checks)

@@ -11,7 +11,7 @@ use Rattle.stream5_sessions.specs.declared.flows.Touch.{Touch}
 use Rattle.flow_lanes.specs.declared.job.Job.{Job}
 use Rattle.flow_lanes.specs.declared.job.Work.{Work}
 use Rattle.flow_lanes.specs.declared.job.Work.TheVariants as work
-use Rattle.record_jobs.specs.declared.item.Item.{Item}
+use Rattle.record_jobs.specs.declared.item.RecordItem.{RecordItem}
 use Rattle.record_jobs.specs.declared.time.Time.{Time}
 use Rattle.record_jobs.specs.Jobs.{alone, end_of, evicted_by, finishes, flow_packet, job_count, jobs, numbered, packet_work, time_of, works, works_by}
 use Rattle.record_jobs.specs.Packets.{fragment_item, packet_in}
@@ -23,16 +23,16 @@ use Rattle.record_jobs.proofs.Fits.Datagrams.{FitsBrought, fragment_brought, pac
 
 -- ---- what is done
 
-alone_fits : (item : Option Item) → IfSome item FitsBrought → All FitsWork (option_to_list (option_map alone item))
+alone_fits : (item : Option RecordItem) → IfSome item FitsBrought → All FitsWork (option_to_list (option_map alone item))
 alone_fits None fits = All-nil FitsWork
 alone_fits (Some item) fits = All-cons FitsWork (alone item) [] fits (All-nil FitsWork)
 
-found_fits : (way : Way) (time : Time) (touch : Option Touch) (item : Item) → FitsBrought item → FitsWork (packet_work way time touch item)
+found_fits : (way : Way) (time : Time) (touch : Option Touch) (item : RecordItem) → FitsBrought item → FitsWork (packet_work way time touch item)
 unfolding flow_packet
 found_fits way time None item fits = fits
 found_fits way time (Some touch) item fits = fits
 
-packet_fits : (way : Way) (time : Time) (touch : Option Touch) (item : Option Item) → IfSome item FitsBrought → All FitsWork (option_to_list (option_map (packet_work way time touch) item))
+packet_fits : (way : Way) (time : Time) (touch : Option Touch) (item : Option RecordItem) → IfSome item FitsBrought → All FitsWork (option_to_list (option_map (packet_work way time touch) item))
 packet_fits way time touch None fits = All-nil FitsWork
 packet_fits way time touch (Some item) fits = All-cons FitsWork (packet_work way time touch item) [] (found_fits way time touch item fits) (All-nil FitsWork)
 
@@ -40,7 +40,7 @@ ended_fits : (flow : Option ℕ) → All FitsWork (option_to_list (option_map (�
 ended_fits None = All-nil FitsWork
 ended_fits (Some flow) = All-cons FitsWork (work.Finish flow) [] tt (All-nil FitsWork)
 
-works_fit : (way : Way) (time : Time) (touch : Option Touch) (fragment packet : Option Item) → IfSome fragment FitsBrought → IfSome packet FitsBrought
+works_fit : (way : Way) (time : Time) (touch : Option Touch) (fragment packet : Option RecordItem) → IfSome fragment FitsBrought → IfSome packet FitsBrought
     → All FitsWork (works_by way time touch fragment packet)
 works_fit way time touch fragment packet own whole =
     let one = option_to_list (option_map (λ (f : ℕ). work.Finish f) (evicted_by touch)) in

@@ -16,7 +16,7 @@ use Rattle.flow_lanes.specs.declared.job.Work.{Work}
 use Rattle.flow_lanes.specs.declared.job.Work.TheVariants as work
 use Rattle.record_jobs.specs.declared.counts.RecordCounts.{RecordCounts}
 use Rattle.record_jobs.specs.declared.content.RecordContent.{RecordContent}
-use Rattle.record_jobs.specs.declared.item.Item.{Item}
+use Rattle.record_jobs.specs.declared.item.RecordItem.{RecordItem}
 use Rattle.record_jobs.specs.declared.time.Time.{Time}
 use Rattle.record_jobs.specs.Counts.{counts}
 use Rattle.record_jobs.specs.Fronts.{FrontState, HasTaken, IsFrontAfter}
@@ -41,12 +41,12 @@ short_numbered : (number : ℕ) (moment : Moment) (xs : List Work) → AllByRecu
 short_numbered number moment [] all = tt
 short_numbered number moment (x ∷ xs) all = (all.0, short_numbered (number + 1) moment xs all.1)
 
-short_packet : (way : Way) (time : Time) (touch : Option Touch) (item : Item) → length item.payload ≤ 65535 → HasShortWork (packet_work way time touch item)
+short_packet : (way : Way) (time : Time) (touch : Option Touch) (item : RecordItem) → length item.payload ≤ 65535 → HasShortWork (packet_work way time touch item)
 unfolding flow_packet
 short_packet way time None item h = tt
 short_packet way time (Some touch) item h = h
 
-short_works : (way : Way) (time : Time) (touch : Option Touch) (fragment packet : Option Item)
+short_works : (way : Way) (time : Time) (touch : Option Touch) (fragment packet : Option RecordItem)
     → IfSome packet (λ item. length item.payload ≤ 65535)
     → AllByRecursion HasShortWork (works_by way time touch fragment packet)
 short_works way time touch fragment packet h =
@@ -61,11 +61,11 @@ short_works way time touch fragment packet h =
     finish None = tt
     finish (Some flow) = (tt, tt)
 
-    part : (o : Option Item) → AllByRecursion HasShortWork (option_to_list (option_map alone o))
+    part : (o : Option RecordItem) → AllByRecursion HasShortWork (option_to_list (option_map alone o))
     part None = tt
     part (Some item) = (tt, tt)
 
-    whole : (o : Option Item) → IfSome o (λ item. length item.payload ≤ 65535) → AllByRecursion HasShortWork (option_to_list (option_map (packet_work way time touch) o))
+    whole : (o : Option RecordItem) → IfSome o (λ item. length item.payload ≤ 65535) → AllByRecursion HasShortWork (option_to_list (option_map (packet_work way time touch) o))
     whole None h = tt
     whole (Some item) h = (short_packet way time touch item h, tt)
 
@@ -121,7 +121,7 @@ takes way old r new jobs_old jobs_new steps before holds = record { added = adde
     works_are =
         ap (λ (b : Option Moment). works_by way (time_by b r) steps.touch content.fragment content.packet) holds.begin
         ∙ ap (λ (t : Option Touch). works_by way (time_by (begin_of before) r) t content.fragment content.packet) touch_is
-        ∙ ap (λ (o : Option Item). works_by way (time_by (begin_of before) r) (touch_in way before r) o content.packet) fragment_is
+        ∙ ap (λ (o : Option RecordItem). works_by way (time_by (begin_of before) r) (touch_in way before r) o content.packet) fragment_is
         ∙ ap (works_by way (time_by (begin_of before) r) (touch_in way before r) (fragment_item way r)) packet_is
         ∙ works-are way before r
 
@@ -150,7 +150,7 @@ takes way old r new jobs_old jobs_new steps before holds = record { added = adde
 
     packet_short : IfSome (packet_in way before r) IsShortItem
     packet_short =
-        subst (λ (o : Option Item). IfSome o IsShortItem) packet_is
+        subst (λ (o : Option RecordItem). IfSome o IsShortItem) packet_is
         (steps.short (subst (λ (f : Option Frag3State). IfSome (datagram_from way f r.captured.moment (said_by way r)) IsShortDatagram) (sym holds.frag3) (datagram-short way before r)))
 
     after : IsFrontAfter way new (before ++ r ∷ [])

@@ -23,7 +23,7 @@ use Rattle.flow_lanes.specs.declared.job.Work.{Work}
 use Rattle.flow_lanes.specs.declared.job.Work.TheVariants as work
 use Rattle.flow_lanes.specs.Holding.{is_seen, seen_of}
 use Rattle.flow_lanes.specs.Sessions.{is_tcp}
-use Rattle.record_jobs.specs.declared.item.Item.{Item}
+use Rattle.record_jobs.specs.declared.item.RecordItem.{RecordItem}
 use Rattle.record_jobs.specs.declared.time.Time.{Time}
 use Rattle.record_jobs.specs.Jobs.{alone, flow_packet, job_count, jobs, numbered, packet_work, time_of, works, works_by}
 use Rattle.record_jobs.specs.Packets.{fragment_item, packet_in}
@@ -59,11 +59,11 @@ tracked-tcp stream ip body.Fragment key e is = cc
 tracked-tcp stream ip (body.Stream sport dport) key e is = cc
 
 -- there is a packet, of TCP
-abbrev IsTcp : Option Item → Type 0
+abbrev IsTcp : Option RecordItem → Type 0
 IsTcp None = ⊥
 IsTcp (Some item) = is_tcp item.head.body ≡ true
 
-key-tcp : (way : Way) (packet : Option Item) (key : Key) → option_and_then (item_key way) packet ≡ Some key → IsTcp packet → key.tcp ≡ true
+key-tcp : (way : Way) (packet : Option RecordItem) (key : Key) → option_and_then (item_key way) packet ≡ Some key → IsTcp packet → key.tcp ≡ true
 key-tcp way None key e is = absurd is
 key-tcp way (Some item) key e is = tracked-tcp way.stream item.head.ip item.head.body key e is
 
@@ -98,13 +98,13 @@ module _ (flow : ℕ) (moment : Moment) where
   abbrev after : Bool → ℕ → List Work → Bool
   after was number todo = fold (seen_of flow) was (numbered number moment todo)
 
-  module _ (way : Way) (time : Time) (fragment : Option Item) where
+  module _ (way : Way) (time : Time) (fragment : Option RecordItem) where
     -- the packet is of the flow, and of TCP
-    abbrev Begins : Touch → Option Item → Type 0
+    abbrev Begins : Touch → Option RecordItem → Type 0
     Begins touch packet = (touch.flow ≡ flow) × IsTcp packet
 
     -- the packet, once the fragment by itself is passed over
-    of_packet : (touch : Touch) (packet : Option Item) (was : Bool) (number : ℕ)
+    of_packet : (touch : Touch) (packet : Option RecordItem) (was : Bool) (number : ℕ)
         → after was number
         (option_to_list (option_map alone fragment) ++ option_to_list (option_map (packet_work way time (Some touch)) packet)) ≡
         true
@@ -112,7 +112,7 @@ module _ (flow : ℕ) (moment : Moment) where
     unfolding flow_packet
     of_packet touch packet was number h = by_fragment fragment packet number h
       where
-        by_packet : (packet : Option Item) (number : ℕ) → after was number (option_to_list (option_map (packet_work way time (Some touch)) packet)) ≡ true → (was ≡ true) ⊎ Begins touch packet
+        by_packet : (packet : Option RecordItem) (number : ℕ) → after was number (option_to_list (option_map (packet_work way time (Some touch)) packet)) ≡ true → (was ≡ true) ⊎ Begins touch packet
         by_packet None number h = inl h
         by_packet (Some item) number h = by_flow (flow == touch.flow) refl h
           where
@@ -127,7 +127,7 @@ module _ (flow : ℕ) (moment : Moment) where
                 (by_was was (is_tcp item.head.body) h)
             by_flow false is h = inl h
 
-        by_fragment : (fragment packet : Option Item) (number : ℕ)
+        by_fragment : (fragment packet : Option RecordItem) (number : ℕ)
             → after was number
             (option_to_list (option_map alone fragment) ++
             option_to_list (option_map (packet_work way time (Some touch)) packet)) ≡
@@ -136,18 +136,18 @@ module _ (flow : ℕ) (moment : Moment) where
         by_fragment None packet number h = by_packet packet number h
         by_fragment (Some item) packet number h = by_packet packet (number + 1) h
 
-    untouched : (packet : Option Item) (was : Bool) (number : ℕ) → after was number (works_by way time None fragment packet) ≡ true → was ≡ true
+    untouched : (packet : Option RecordItem) (was : Bool) (number : ℕ) → after was number (works_by way time None fragment packet) ≡ true → was ≡ true
     untouched packet was number h = by_fragment fragment packet number h
       where
-        by_packet : (packet : Option Item) (number : ℕ) → after was number (option_to_list (option_map (packet_work way time None) packet)) ≡ true → was ≡ true
+        by_packet : (packet : Option RecordItem) (number : ℕ) → after was number (option_to_list (option_map (packet_work way time None) packet)) ≡ true → was ≡ true
         by_packet None number h = h
         by_packet (Some item) number h = h
 
-        by_fragment : (fragment packet : Option Item) (number : ℕ) → after was number (works_by way time None fragment packet) ≡ true → was ≡ true
+        by_fragment : (fragment packet : Option RecordItem) (number : ℕ) → after was number (works_by way time None fragment packet) ≡ true → was ≡ true
         by_fragment None packet number h = by_packet packet number h
         by_fragment (Some item) packet number h = by_packet packet (number + 1) h
 
-    touched : (touch : Touch) (packet : Option Item) (was : Bool) (number : ℕ) → after was number (works_by way time (Some touch) fragment packet) ≡ true
+    touched : (touch : Touch) (packet : Option RecordItem) (was : Bool) (number : ℕ) → after was number (works_by way time (Some touch) fragment packet) ≡ true
         → ((was ≡ true) × (touch.evicted ≡ Some flow → ⊥)) ⊎ Begins touch packet
     touched touch packet was number h = by_ended touch.evicted refl h
       where

@@ -14,7 +14,7 @@ use Rattle.stream5_sessions.proofs.Liveness.Lasting.{flow-stays, own-lives}
 use Rattle.flow_lanes.specs.declared.job.Work.{Work}
 use Rattle.flow_lanes.specs.declared.job.Work.TheVariants as work
 use Rattle.flow_lanes.specs.Open.{is_open, open_after}
-use Rattle.record_jobs.specs.declared.item.Item.{Item}
+use Rattle.record_jobs.specs.declared.item.RecordItem.{RecordItem}
 use Rattle.record_jobs.specs.declared.time.Time.{Time}
 use Rattle.record_jobs.specs.Jobs.{alone, flow_packet, job_count, jobs, numbered, packet_work, time_of, works, works_by}
 use Rattle.record_jobs.specs.Packets.{fragment_item, packet_in}
@@ -28,9 +28,9 @@ module _ (flow : ℕ) (moment : Moment) where
   abbrev after : Bool → ℕ → List Work → Bool
   after was number todo = fold (open_after flow) was (numbered number moment todo)
 
-  module _ (way : Way) (time : Time) (fragment : Option Item) where
+  module _ (way : Way) (time : Time) (fragment : Option RecordItem) where
     -- the packet, once the fragment by itself is passed over
-    of_packet : (touch : Touch) (packet : Option Item) (was : Bool) (number : ℕ)
+    of_packet : (touch : Touch) (packet : Option RecordItem) (was : Bool) (number : ℕ)
         → after was number
         (option_to_list (option_map alone fragment) ++ option_to_list (option_map (packet_work way time (Some touch)) packet)) ≡
         true
@@ -38,7 +38,7 @@ module _ (flow : ℕ) (moment : Moment) where
     unfolding flow_packet
     of_packet touch packet was number h = by_fragment fragment packet number h
       where
-        by_packet : (packet : Option Item) (number : ℕ) → after was number (option_to_list (option_map (packet_work way time (Some touch)) packet)) ≡ true → (was ≡ true) ⊎ (touch.flow ≡ flow)
+        by_packet : (packet : Option RecordItem) (number : ℕ) → after was number (option_to_list (option_map (packet_work way time (Some touch)) packet)) ≡ true → (was ≡ true) ⊎ (touch.flow ≡ flow)
         by_packet None number h = inl h
         by_packet (Some item) number h = by_flow (flow == touch.flow) refl h
           where
@@ -46,7 +46,7 @@ module _ (flow : ℕ) (moment : Moment) where
             by_flow true is h = inr (sym (eqb-true flow touch.flow is))
             by_flow false is h = inl h
 
-        by_fragment : (fragment packet : Option Item) (number : ℕ)
+        by_fragment : (fragment packet : Option RecordItem) (number : ℕ)
             → after was number
             (option_to_list (option_map alone fragment) ++
             option_to_list (option_map (packet_work way time (Some touch)) packet)) ≡
@@ -55,18 +55,18 @@ module _ (flow : ℕ) (moment : Moment) where
         by_fragment None packet number h = by_packet packet number h
         by_fragment (Some item) packet number h = by_packet packet (number + 1) h
 
-    untouched : (packet : Option Item) (was : Bool) (number : ℕ) → after was number (works_by way time None fragment packet) ≡ true → was ≡ true
+    untouched : (packet : Option RecordItem) (was : Bool) (number : ℕ) → after was number (works_by way time None fragment packet) ≡ true → was ≡ true
     untouched packet was number h = by_fragment fragment packet number h
       where
-        by_packet : (packet : Option Item) (number : ℕ) → after was number (option_to_list (option_map (packet_work way time None) packet)) ≡ true → was ≡ true
+        by_packet : (packet : Option RecordItem) (number : ℕ) → after was number (option_to_list (option_map (packet_work way time None) packet)) ≡ true → was ≡ true
         by_packet None number h = h
         by_packet (Some item) number h = h
 
-        by_fragment : (fragment packet : Option Item) (number : ℕ) → after was number (works_by way time None fragment packet) ≡ true → was ≡ true
+        by_fragment : (fragment packet : Option RecordItem) (number : ℕ) → after was number (works_by way time None fragment packet) ≡ true → was ≡ true
         by_fragment None packet number h = by_packet packet number h
         by_fragment (Some item) packet number h = by_packet packet (number + 1) h
 
-    touched : (touch : Touch) (packet : Option Item) (was : Bool) (number : ℕ) → after was number (works_by way time (Some touch) fragment packet) ≡ true
+    touched : (touch : Touch) (packet : Option RecordItem) (was : Bool) (number : ℕ) → after was number (works_by way time (Some touch) fragment packet) ≡ true
         → ((was ≡ true) × (touch.evicted ≡ Some flow → ⊥)) ⊎ (touch.flow ≡ flow)
     touched touch packet was number h = by_ended touch.evicted refl h
       where

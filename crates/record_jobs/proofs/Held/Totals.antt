@@ -35,7 +35,7 @@ use Rattle.flow_lanes.specs.Flows.{Detection}
 use Rattle.flow_lanes.specs.Holding.{IsLimited, IsLimitedJob, IsLimitedWork, held_bytes, held_segments, is_seen}
 use Rattle.flow_lanes.specs.Sessions.{is_tcp}
 use Rattle.flow_lanes.specs.LanesAfter.{LanesState}
-use Rattle.record_jobs.specs.declared.item.Item.{Item}
+use Rattle.record_jobs.specs.declared.item.RecordItem.{RecordItem}
 use Rattle.record_jobs.specs.declared.time.Time.{Time}
 use Rattle.record_jobs.specs.Holding.{KeepStreams, engines_used, greatest, most_held}
 use Rattle.record_jobs.specs.Jobs.{alone, evicted_by, flow_packet, job_count, jobs, numbered, packet_work, time_of, works, works_by}
@@ -120,7 +120,7 @@ module _ (way : Way) (making : Making) (same : making.stream ≡ way.stream) whe
             (address-most (λ (e : StreamEngine). e.segs_limit) way.stream.engines addr);
       }
 
-  one-limited : (time : Time) (touch : Option Touch) (item : Item) → Limited (packet_work way time touch item)
+  one-limited : (time : Time) (touch : Option Touch) (item : RecordItem) → Limited (packet_work way time touch item)
   unfolding flow_packet
   one-limited time None item = tt
   one-limited time (Some touch) item = (toward-limited (is_tcp item.head.body) time item.head.ip.dst, toward-limited (is_tcp item.head.body) time item.head.ip.src)
@@ -129,15 +129,15 @@ module _ (way : Way) (making : Making) (same : making.stream ≡ way.stream) whe
   ended-limited None = All-nil Limited
   ended-limited (Some flow) = All-cons Limited (work.Finish flow) [] tt (All-nil Limited)
 
-  alone-limited : (item : Option Item) → All Limited (option_to_list (option_map alone item))
+  alone-limited : (item : Option RecordItem) → All Limited (option_to_list (option_map alone item))
   alone-limited None = All-nil Limited
   alone-limited (Some item) = All-cons Limited (alone item) [] tt (All-nil Limited)
 
-  packet-limited : (time : Time) (touch : Option Touch) (item : Option Item) → All Limited (option_to_list (option_map (packet_work way time touch) item))
+  packet-limited : (time : Time) (touch : Option Touch) (item : Option RecordItem) → All Limited (option_to_list (option_map (packet_work way time touch) item))
   packet-limited time touch None = All-nil Limited
   packet-limited time touch (Some item) = All-cons Limited (packet_work way time touch item) [] (one-limited time touch item) (All-nil Limited)
 
-  works-limited : (time : Time) (touch : Option Touch) (fragment packet : Option Item) → All Limited (works_by way time touch fragment packet)
+  works-limited : (time : Time) (touch : Option Touch) (fragment packet : Option RecordItem) → All Limited (works_by way time touch fragment packet)
   works-limited time touch fragment packet =
       let one = option_to_list (option_map (λ (f : ℕ). work.Finish f) (evicted_by touch)) in
       let two = option_to_list (option_map alone fragment) in

@@ -16,7 +16,7 @@ use Rattle.flow_lanes.specs.declared.job.Work.{Work}
 use Rattle.flow_lanes.specs.declared.job.Work.TheVariants as work
 use Rattle.flow_lanes.specs.Flows.{same_flow}
 use Rattle.flow_lanes.specs.Sound.{IsSoundFor, facts_after}
-use Rattle.record_jobs.specs.declared.item.Item.{Item}
+use Rattle.record_jobs.specs.declared.item.RecordItem.{RecordItem}
 use Rattle.record_jobs.specs.declared.time.Time.{Time}
 use Rattle.record_jobs.specs.Jobs.{alone, end_of, evicted_by, finishes, flow_packet, job_count, jobs, numbered, packet_work, time_of, works, works_by}
 use Rattle.record_jobs.specs.Packets.{fragment_item, packet_in}
@@ -34,17 +34,17 @@ finish_part : (way : Way) (keys : List Key) (packets : ℕ) (earlier : List Job)
 finish_part way keys packets earlier number moment None knows = no_job way keys packets earlier knows
 finish_part way keys packets earlier number moment (Some flow) knows = finish_job way keys packets earlier number moment flow knows
 
-fragment_part : (way : Way) (keys : List Key) (packets : ℕ) (earlier : List Job) (number : ℕ) (moment : Moment) (fragment : Option Item) → KnowsAll way keys packets earlier
+fragment_part : (way : Way) (keys : List Key) (packets : ℕ) (earlier : List Job) (number : ℕ) (moment : Moment) (fragment : Option RecordItem) → KnowsAll way keys packets earlier
     → Goes way keys packets earlier (numbered number moment (option_to_list (option_map alone fragment)))
 fragment_part way keys packets earlier number moment None knows = no_job way keys packets earlier knows
 fragment_part way keys packets earlier number moment (Some item) knows = alone_job way keys packets earlier number moment item knows
 
 -- a packet's data are short, where it is of a flow
-IsShortItem : Way → Option Item → Type 0
+IsShortItem : Way → Option RecordItem → Type 0
 IsShortItem way None = ⊤
 IsShortItem way (Some item) = IfSome (item_key way item) (λ (_ : Key). length item.payload ≤ 65535)
 
-packet_part : (way : Way) (keys : List Key) (packets : ℕ) (earlier : List Job) (number : ℕ) (time : Time) (packet : Option Item)
+packet_part : (way : Way) (keys : List Key) (packets : ℕ) (earlier : List Job) (number : ℕ) (time : Time) (packet : Option RecordItem)
     → KnowsAll way keys packets earlier
     → packets < 2 ^ 32
     → IsShortItem way packet
@@ -74,7 +74,7 @@ short_work : (number : ℕ) (moment : Moment) (todo : List Work) → AllByRecurs
 short_work number moment [] all = tt
 short_work number moment (x ∷ xs) all = (all.0, short_work (number + 1) moment xs all.1)
 
-short_item : (way : Way) (keys : List Key) (time : Time) (packet : Option Item)
+short_item : (way : Way) (keys : List Key) (time : Time) (packet : Option RecordItem)
     → AllByRecursion HasShortWork
     (option_to_list (option_map
     (packet_work way time (option_map (touch_found (most_flows way.stream) keys) (option_and_then (item_key way) packet)))
@@ -119,7 +119,7 @@ record_goes way before r earlier knows few short =
     keys : List Key
     keys = touches way before
 
-    packet : Option Item
+    packet : Option RecordItem
     packet = packet_in way before r
 
     more : List Key

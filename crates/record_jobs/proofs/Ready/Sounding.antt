@@ -28,7 +28,7 @@ use Rattle.flow_lanes.specs.declared.facts.FlowEnds.{FlowEnds}
 use Rattle.flow_lanes.specs.declared.facts.FlowFacts.{FlowFacts}
 use Rattle.flow_lanes.specs.Sound.{HasSessions, IsSoundFor, IsSoundPacket, ends_of, facts_after, facts_after_one, key_of_packet, way_of}
 use Rattle.flow_lanes.specs.LanesAfter.{is_of_flow}
-use Rattle.record_jobs.specs.declared.item.Item.{Item}
+use Rattle.record_jobs.specs.declared.item.RecordItem.{RecordItem}
 use Rattle.record_jobs.specs.declared.time.Time.{Time}
 use Rattle.record_jobs.specs.Jobs.{alone, flow_packet, numbered}
 use Rattle.record_jobs.specs.Touches.{item_key, key_between, most_flows, tracked_key}
@@ -46,7 +46,7 @@ abbrev pub ends_at : Way → Key → FlowEnds
 ends_at way key = record { key = key; low = way_at way key.low.addr; high = way_at way key.high.addr }
 
 -- a packet of a flow, as its job has it
-abbrev pub packet_of : Way → Time → Item → Packet
+abbrev pub packet_of : Way → Time → RecordItem → Packet
 packet_of way time item = record {
   head = item.head;
   payload = item.payload;
@@ -63,7 +63,7 @@ same_end-self : (end : End) → same_end end end ≡ true
 same_end-self end = ap (λ b. b && eqb end.port end.port) (same_addr-refl end.addr) ∙ eq-eqb end.port end.port refl
 
 -- what goes by either end of a packet
-toward_end : (way : Way) (time : Time) (item : Item) (end : End)
+toward_end : (way : Way) (time : Time) (item : RecordItem) (end : End)
     → (end ≡ sender (packet_of way time item)) ⊎ (end ≡ receiver (packet_of way time item))
     → (sender (packet_of way time item)).addr ≡ item.head.ip.src → (receiver (packet_of way time item)).addr ≡ item.head.ip.dst
     → way_of (toward (packet_of way time item) end) ≡ way_at way end.addr
@@ -129,7 +129,7 @@ tracked_is way ip body.Fragment len moment key e = cc
 tracked_is way ip (body.Stream sport dport) len moment key e = cc
 
 -- the ends of a packet are those of its key
-ends_are : (way : Way) (time : Time) (item : Item) (key : Key) → item_key way item ≡ Some key → ends_of (packet_of way time item) ≡ ends_at way key
+ends_are : (way : Way) (time : Time) (item : RecordItem) (key : Key) → item_key way item ≡ Some key → ends_of (packet_of way time item) ≡ ends_at way key
 ends_are way time item key e =
     ap (λ (w : EndWay). made (key_of_packet p) w (way_of (toward p (key_of_packet p).high)))
     (toward_end way time item (key_of_packet p).low (low_is (is_tcp item.head.body) (sender p) (receiver p)) from to)
@@ -224,7 +224,7 @@ Goes-append way touches later packets more earlier xs ys first then = record {
 pub no_job : (way : Way) (touches : List Key) (packets : ℕ) (earlier : List Job) → KnowsAll way touches packets earlier → Goes way touches packets earlier []
 no_job way touches packets earlier knows = record { sounds = tt; knows = subst (KnowsAll way touches packets) (sym (append-nil earlier)) knows }
 
-pub alone_job : (way : Way) (touches : List Key) (packets : ℕ) (earlier : List Job) (number : ℕ) (moment : Moment) (item : Item)
+pub alone_job : (way : Way) (touches : List Key) (packets : ℕ) (earlier : List Job) (number : ℕ) (moment : Moment) (item : RecordItem)
     → KnowsAll way touches packets earlier
     → Goes way touches packets earlier (numbered number moment (alone item ∷ []))
 alone_job way touches packets earlier number moment item knows = record {
@@ -245,7 +245,7 @@ finish_job way touches packets earlier number moment ended knows = record {
     go flow false = knows flow
 
 -- a packet of the flow that its touch has
-pub packet_job : (way : Way) (touches : List Key) (packets : ℕ) (earlier : List Job) (number : ℕ) (time : Time) (item : Item) (key : Key) (flow : ℕ)
+pub packet_job : (way : Way) (touches : List Key) (packets : ℕ) (earlier : List Job) (number : ℕ) (time : Time) (item : RecordItem) (key : Key) (flow : ℕ)
     → KnowsAll way touches packets earlier → item_key way item ≡ Some key → flow ≡ number_at (most_flows way.stream) touches key → packets < 2 ^ 32 → length item.payload ≤ 65535
     → Goes way (key ∷ touches) (packets + 1) earlier (numbered number time.now (flow_packet way time item flow ∷ []))
 unfolding flow_packet toward_address

@@ -16,7 +16,7 @@ use Rattle.flow_lanes.specs.declared.answer.Hits.{Hits}
 use Rattle.flow_lanes.specs.declared.job.Job.{Job}
 use Rattle.flow_lanes.specs.declared.job.Work.TheVariants as work
 use Rattle.flow_lanes.specs.Flows.{Detection}
-use Rattle.record_jobs.specs.declared.item.Item.{Item}
+use Rattle.record_jobs.specs.declared.item.RecordItem.{RecordItem}
 use Rattle.record_jobs.specs.Jobs.{end_of, finishes, job_count, jobs, numbered}
 use Rattle.record_jobs.specs.Packets.{packet_in}
 use Rattle.record_jobs.specs.Splitting.{IsSplitWhole, Pairs, Part, all_items, is_between, items_between, items_of_job, last_items, of_part, record_items}
@@ -143,13 +143,13 @@ module _ (d : Detection) (way : Way) (pairs : Pairs) (part : Part) (records : Li
   unfolding key_in
   key-of_part before r key is = by_packet (packet_in way before r) refl is
     where
-      by_packet : (packet : Option Item) → packet_in way before r ≡ packet → option_and_then (item_key way) packet ≡ Some key → own_key key ≡ part r
+      by_packet : (packet : Option RecordItem) → packet_in way before r ≡ packet → option_and_then (item_key way) packet ≡ Some key → own_key key ≡ part r
       by_packet None found is = absurd cc
       by_packet (Some item) found is = key-tells way pairs part whole.of_pairs before r item key found is
 
   same-key : (before : List LinkedRecord) (r : LinkedRecord) (rest : List LinkedRecord) → before ++ r ∷ rest ≡ records → part r ≡ true → key_in way (filter part before) r ≡ key_in way before r
   unfolding key_in
-  same-key before r rest are of = ap (λ (o : Option Item). option_and_then (item_key way) o) (same-packet way part records whole.split before r rest are of)
+  same-key before r rest are of = ap (λ (o : Option RecordItem). option_and_then (item_key way) o) (same-packet way part records whole.split before r rest are of)
 
   -- the part's touches are those of its keys
   own-option : (o : Option Key) (c : Bool) (keys : List Key) → ((key : Key) → o ≡ Some key → own_key key ≡ c)
@@ -184,7 +184,7 @@ module _ (d : Detection) (way : Way) (pairs : Pairs) (part : Part) (records : Li
   -- the last items of a flow of the part are those of the whole
   same-ends : (key : Key) → own_key key ≡ true → ends_of d way (filter part records) key ≡ ends_of d way records key
   same-ends key is =
-      let owns : (earlier : List LinkedRecord) (s : LinkedRecord) (item : Item) → packet_in way earlier s ≡ Some item → item_key way item ≡ Some key → part s ≡ true =
+      let owns : (earlier : List LinkedRecord) (s : LinkedRecord) (item : RecordItem) → packet_in way earlier s ≡ Some item → item_key way item ≡ Some key → part s ≡ true =
       λ earlier s item found tracked. sym (key-tells way pairs part whole.of_pairs earlier s item key found tracked) ∙ is in
       ap (λ (js : List Job). after d js (finish_job (end_of (filter part records))))
       (same-key_packets way part records whole.split.by_pair whole.split.start (same-packet way part records whole.split) key owns records [] (append-nil records))

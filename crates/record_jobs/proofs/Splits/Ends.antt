@@ -15,13 +15,13 @@ use Rattle.packet_decode.specs.declared.skip.Skip.{Skip}
 use Rattle.packet_decode.specs.declared.skip.Skip.TheVariants as skip
 use Rattle.packet_decode.specs.Decoding.{Fields, datagram_decoded, icmp_at, is_message_right, is_segment_right, tcp_at, transport_at, udp_at}
 use Rattle.packet_decode.specs.Versions.{icmp_protocol, version_of}
-use Rattle.ipv6_decode.specs.declared.walk.Walk.{Walk}
+use Rattle.ipv6_decode.specs.declared.walk.HeaderWalk.{HeaderWalk}
 use Rattle.ipv6_decode.specs.Addresses.{HaveSameEnds}
 use Rattle.ipv6_decode.specs.Decoding6.{datagram_decoded6, upper_at}
 use Rattle.ipv6_decode.specs.Headers.{after_fragment_header, after_header, after_length_field, fragment_head, is_at_header, most_headers, walk_end}
 use Rattle.ipv6_decode.specs.Versions.{are_six, rebuilt_decoded}
 use Rattle.frag3_core.specs.declared.answer.Datagram.{Datagram}
-use Rattle.record_jobs.specs.declared.item.Item.{Item}
+use Rattle.record_jobs.specs.declared.item.RecordItem.{RecordItem}
 use Rattle.record_jobs.specs.Packets.{datagram_in, datagram_item, datagram_said, is_fragment, item_of, packet_fields, packet_from, packet_in, said_by}
 use Rattle.record_jobs.specs.Way.{LinkedRecord, Way}
 use Rattle.record_jobs.proofs.Addresses.{ends}
@@ -71,10 +71,10 @@ module _ (ip : IpHead) where
       (choose HasHead (ip.protocol == icmp_protocol (version_of ip.src)) (icmp_at ip bytes start stop checks.icmp) _ (icmp_head bytes start stop checks.icmp) refl))
 
   -- extension headers don't change a packet's addresses
-  abbrev HasEnds : Walk → Type 0
+  abbrev HasEnds : HeaderWalk → Type 0
   HasEnds walk = HaveSameEnds walk.head ip
 
-  header_ends : (walk : Walk) (bytes : List ℕ) → HasEnds walk → IfOk (after_header walk bytes) HasEnds
+  header_ends : (walk : HeaderWalk) (bytes : List ℕ) → HasEnds walk → IfOk (after_header walk bytes) HasEnds
   unfolding after_header after_length_field after_fragment_header fragment_head
   header_ends walk bytes has =
       let end = walk.place + 8 + 8 * byte_at bytes (walk.place + 1) in
@@ -83,7 +83,7 @@ module _ (ip : IpHead) where
       (choose HasEnds (nat_lt (length bytes) (walk.place + 2)) (Err skip.Malformed) _ tt
       (choose HasEnds (nat_lt (length bytes) end) (Err skip.Malformed) _ tt has))
 
-  walk_ends : (left : ℕ) (walk : Walk) (bytes : List ℕ) → HasEnds walk → IfOk (walk_end left walk bytes) HasEnds
+  walk_ends : (left : ℕ) (walk : HeaderWalk) (bytes : List ℕ) → HasEnds walk → IfOk (walk_end left walk bytes) HasEnds
   unfolding walk_end
   walk_ends zero walk bytes has = choose HasEnds (is_at_header walk) (Err skip.Malformed) (Ok walk) tt has
   walk_ends (suc left) walk bytes has =
@@ -118,7 +118,7 @@ rebuilt_ends ip bytes checks =
 -- ---- the packets of a record
 
 -- a record says something, and a packet goes between the addresses of that
-pub record GoesBetween (said : Result Fields Skip) (item : Item) : Type 0 where
+pub record GoesBetween (said : Result Fields Skip) (item : RecordItem) : Type 0 where
   pub fields : Fields
   pub is : said ≡ Ok fields
   pub src : item.head.ip.src ≡ fields.ip.src
@@ -128,7 +128,7 @@ some_same : {A : Type 0} (x y : A) → Some x ≡ Some y → x ≡ y
 some_same x y is = cc
 
 -- a datagram that can be read
-of_datagram : (checks : Checks) (moment : Moment) (said : Result Fields Skip) (item : Item) (datagram : Option Datagram)
+of_datagram : (checks : Checks) (moment : Moment) (said : Result Fields Skip) (item : RecordItem) (datagram : Option Datagram)
     → ((d : Datagram) → datagram ≡ Some d → IsOkAnd said (λ fields. HaveSameEnds d.ip fields.ip)) → datagram_item checks moment datagram ≡ Some item → GoesBetween said item
 of_datagram checks moment said item None between is = absurd cc
 of_datagram checks moment said item (Some d) between is = by_read (datagram_said checks d) (rebuilt_ends d.ip d.bytes checks) is
@@ -140,12 +140,12 @@ of_datagram checks moment said item (Some d) between is = by_read (datagram_said
 
     by_read : (read : Result Fields Skip) → IfOk read (IsBetween d.ip) → option_map (item_of kind.Rebuilt moment) (result_ok read) ≡ Some item → GoesBetween said item
     by_read (Ok fields) has is =
-        let same : item.head.ip ≡ fields.ip = ap (λ (i : Item). i.head.ip) (sym (some_same (item_of kind.Rebuilt moment fields) item is)) in
+        let same : item.head.ip ≡ fields.ip = ap (λ (i : RecordItem). i.head.ip) (sym (some_same (item_of kind.Rebuilt moment fields) item is)) in
         by_said said fields has same (between d refl)
     by_read (Err why) has is = absurd cc
 
 -- a packet, as it was captured or put together
-of_packet : (way : Way) (moment : Moment) (said : Result Fields Skip) (item : Item) (datagram : Option Datagram)
+of_packet : (way : Way) (moment : Moment) (said : Result Fields Skip) (item : RecordItem) (datagram : Option Datagram)
     → ((d : Datagram) → datagram ≡ Some d → IsOkAnd said (λ fields. HaveSameEnds d.ip fields.ip)) → packet_from way moment datagram said ≡ Some item → GoesBetween said item
 of_packet way moment (Err why) item datagram between is = of_datagram way.checks moment (Err why) item datagram between is
 of_packet way moment (Ok fields) item datagram between is = by_fragment (is_fragment fields.body) is
@@ -153,10 +153,10 @@ of_packet way moment (Ok fields) item datagram between is = by_fragment (is_frag
     by_fragment : (b : Bool) → option_or (option_map (item_of kind.Packet moment) (cond b None (Some fields))) (datagram_item way.checks moment datagram) ≡ Some item → GoesBetween (Ok fields) item
     by_fragment true is = of_datagram way.checks moment (Ok fields) item datagram between is
     by_fragment false is =
-        let same : item.head.ip ≡ fields.ip = ap (λ (i : Item). i.head.ip) (sym (some_same (item_of kind.Packet moment fields) item is)) in
+        let same : item.head.ip ≡ fields.ip = ap (λ (i : RecordItem). i.head.ip) (sym (some_same (item_of kind.Packet moment fields) item is)) in
         record { fields = fields; is = refl; src = ap (λ (h : IpHead). h.src) same; dst = ap (λ (h : IpHead). h.dst) same }
 
-pub packet-between : (way : Way) (before : List LinkedRecord) (r : LinkedRecord) (item : Item) → packet_in way before r ≡ Some item → GoesBetween (said_by way r) item
+pub packet-between : (way : Way) (before : List LinkedRecord) (r : LinkedRecord) (item : RecordItem) → packet_in way before r ≡ Some item → GoesBetween (said_by way r) item
 unfolding packet_in
 packet-between way before r item is =
     of_packet way r.captured.moment (said_by way r) item (datagram_in way before r) (λ d found. (ends way before r d found).ends) is

@@ -20,7 +20,7 @@ use Rattle.flow_lanes.specs.declared.job.Job.{Job}
 use Rattle.flow_lanes.specs.declared.job.Work.{Work}
 use Rattle.flow_lanes.specs.declared.job.Work.TheVariants as work
 use Rattle.flow_lanes.specs.Flows.{Detection, answer, flow_of, flow_state, hits, hits_in, same_flow, same_number, session_at_hand, state_after, state_after_one, work_items}
-use Rattle.record_jobs.specs.declared.item.Item.{Item}
+use Rattle.record_jobs.specs.declared.item.RecordItem.{RecordItem}
 use Rattle.record_jobs.specs.declared.time.Time.{Time}
 use Rattle.record_jobs.specs.Jobs.{alone, flow_packet, job_count, jobs, numbered, packet_work, time_of, works, works_by}
 use Rattle.record_jobs.specs.Packets.{fragment_item, packet_in}
@@ -93,20 +93,20 @@ module _ (d : Detection) where
   filter-never test (job ∷ earlier) never = rw (never job) (filter-never test earlier never)
 
   -- an item by itself
-  abbrev pub alone_job : Moment → Item → Job
+  abbrev pub alone_job : Moment → RecordItem → Job
   alone_job moment item = record { number = 0; moment = moment; work = alone item }
 
-  alone-items : (earlier : List Job) (number : ℕ) (moment : Moment) (item : Item)
+  alone-items : (earlier : List Job) (number : ℕ) (moment : Moment) (item : RecordItem)
       → items_of_job d earlier (record { number = number; moment = moment; work = alone item }) ≡ after [] (alone_job moment item)
   alone-items earlier number moment item =
       let job : Job = record { number = number; moment = moment; work = alone item } in
       ap (λ (jobs : List Job). after jobs job) (filter-never (same_flow job) earlier (λ other. refl)) ∙ sym (after-nameless [] job)
 
   -- a packet of a flow whose earlier jobs are these, without their numbers
-  abbrev pub packet_job : Way → Time → Moment → Item → Job
+  abbrev pub packet_job : Way → Time → Moment → RecordItem → Job
   packet_job way time moment item = record { number = 0; moment = moment; work = flow_packet way time item 0 }
 
-  packet-items : (way : Way) (time : Time) (moment : Moment) (item : Item) (number flow : ℕ) (earlier own : List Job) → map nameless (filter (of_number flow) earlier) ≡ own
+  packet-items : (way : Way) (time : Time) (moment : Moment) (item : RecordItem) (number flow : ℕ) (earlier own : List Job) → map nameless (filter (of_number flow) earlier) ≡ own
       → items_of_job d earlier (record { number = number; moment = moment; work = flow_packet way time item flow }) ≡ after own (packet_job way time moment item)
   unfolding flow_packet
   packet-items way time moment item number flow earlier own are =
@@ -115,12 +115,12 @@ module _ (d : Detection) where
 
 -- ---- the packets of a key
 
-abbrev pub own_tracked : Way → Time → Moment → Key → Item → Option Key → List Job
+abbrev pub own_tracked : Way → Time → Moment → Key → RecordItem → Option Key → List Job
 own_tracked way time moment key item None = []
 own_tracked way time moment key item (Some other) =
     cond (same_key key other) (record { number = 0; moment = moment; work = flow_packet way time item 0 } ∷ []) []
 
-abbrev pub own_packet : Way → Time → Moment → Key → Option Item → List Job
+abbrev pub own_packet : Way → Time → Moment → Key → Option RecordItem → List Job
 own_packet way time moment key None = []
 own_packet way time moment key (Some item) = own_tracked way time moment key item (item_key way item)
 
@@ -132,13 +132,13 @@ module _ (way : Way) (time : Time) (moment : Moment) (flow : ℕ) where
   abbrev chosen : ℕ → List Work → List Job
   chosen number todo = map nameless (filter (λ job. same_number (Some flow) (flow_of job)) (numbered number moment todo))
 
-  chosen-none : (number : ℕ) (fragment packet : Option Item) → chosen number (works_by way time None fragment packet) ≡ []
+  chosen-none : (number : ℕ) (fragment packet : Option RecordItem) → chosen number (works_by way time None fragment packet) ≡ []
   chosen-none number None None = refl
   chosen-none number None (Some item) = refl
   chosen-none number (Some first) None = refl
   chosen-none number (Some first) (Some item) = refl
 
-  chosen-some : (number : ℕ) (touch : Touch) (fragment : Option Item) (item : Item) → touch.evicted ≡ None
+  chosen-some : (number : ℕ) (touch : Touch) (fragment : Option RecordItem) (item : RecordItem) → touch.evicted ≡ None
       → chosen number (works_by way time (Some touch) fragment (Some item)) ≡ cond (flow == touch.flow) (record { number = 0; moment = moment; work = flow_packet way time item 0 } ∷ []) []
   unfolding flow_packet
   chosen-some number touch fragment item none =
@@ -155,7 +155,7 @@ module _ (way : Way) (time : Time) (moment : Moment) (flow : ℕ) where
       by_flow at true = refl
       by_flow at false = refl
 
-      by_fragment : (fragment : Option Item)
+      by_fragment : (fragment : Option RecordItem)
           → chosen number (option_to_list (option_map alone fragment) ++ (flow_packet way time item touch.flow ∷ []))
           ≡ cond (flow == touch.flow) (record { number = 0; moment = moment; work = flow_packet way time item 0 } ∷ []) []
       by_fragment None = by_flow number (flow == touch.flow)
@@ -206,19 +206,19 @@ module _ (way : Way) (records : List LinkedRecord) (room : HasRoomFor way record
         moment : Moment
         moment = r.captured.moment
 
-        Told : Option Item → Type 0
+        Told : Option RecordItem → Type 0
         Told packet =
             chosen way time moment number (job_count way before)
             (works_by way time (option_map (touch_found most (touches way before)) (option_and_then (item_key way) packet))
             (fragment_item way r) packet)
             ≡ own_packet way time moment key packet
 
-        of_tracked : (item : Item) (other : Key) → packet_in way before r ≡ Some item → item_key way item ≡ Some other
+        of_tracked : (item : RecordItem) (other : Key) → packet_in way before r ≡ Some item → item_key way item ≡ Some other
             → chosen way time moment number (job_count way before) (works_by way time (Some (touch_found most (touches way before) other)) (fragment_item way r) (Some item))
             ≡ own_tracked way time moment key item (Some other)
         of_tracked item other found tracked =
             let pushed : touches way (before ++ r ∷ []) ≡ other ∷ touches way before =
-            touches-push way before r ∙ ap (λ (o : Option Item). option_to_list (option_and_then (item_key way) o) ++ touches way before) found
+            touches-push way before r ∙ ap (λ (o : Option RecordItem). option_to_list (option_and_then (item_key way) o) ++ touches way before) found
             ∙ ap (λ (o : Option Key). option_to_list o ++ touches way before) tracked in
             let more = touches-grow way (before ++ r ∷ []) rest in
             let whole : all ≡ more.0 ++ (other ∷ touches way before) =
@@ -234,13 +234,13 @@ module _ (way : Way) (records : List LinkedRecord) (room : HasRoomFor way record
             chosen-some way time moment number (job_count way before) (touch_found most (touches way before) other) (fragment_item way r) item (none-ended most other (touches way before) room_here)
             ∙ ap (λ (b : Bool). cond b (record { number = 0; moment = moment; work = flow_packet way time item 0 } ∷ []) []) tells
 
-        by_key : (item : Item) (at : Option Key) → packet_in way before r ≡ Some item → item_key way item ≡ at
+        by_key : (item : RecordItem) (at : Option Key) → packet_in way before r ≡ Some item → item_key way item ≡ at
             → chosen way time moment number (job_count way before) (works_by way time (option_map (touch_found most (touches way before)) at) (fragment_item way r) (Some item))
             ≡ own_tracked way time moment key item at
         by_key item None found tracked = chosen-none way time moment number (job_count way before) (fragment_item way r) (Some item)
         by_key item (Some other) found tracked = of_tracked item other found tracked
 
-        by_packet : (packet : Option Item) → packet_in way before r ≡ packet → Told (packet_in way before r)
+        by_packet : (packet : Option RecordItem) → packet_in way before r ≡ packet → Told (packet_in way before r)
         by_packet None found = subst Told (sym found) (chosen-none way time moment number (job_count way before) (fragment_item way r) None)
         by_packet (Some item) found = subst Told (sym found) (by_key item (item_key way item) found refl)
 
@@ -263,15 +263,15 @@ module _ (way : Way) (records : List LinkedRecord) (room : HasRoomFor way record
 
 -- ---- the items of a record
 module _ (d : Detection) (way : Way) where
-  abbrev pub plain_tracked : List LinkedRecord → LinkedRecord → Item → Option Key → List Hits
+  abbrev pub plain_tracked : List LinkedRecord → LinkedRecord → RecordItem → Option Key → List Hits
   plain_tracked before r item None = after d [] (alone_job d r.captured.moment item)
   plain_tracked before r item (Some key) = after d (trail (of_key way key) before) (packet_job d way (time_of before r) r.captured.moment item)
 
-  abbrev pub plain_packet : List LinkedRecord → LinkedRecord → Option Item → List Hits
+  abbrev pub plain_packet : List LinkedRecord → LinkedRecord → Option RecordItem → List Hits
   plain_packet before r None = []
   plain_packet before r (Some item) = plain_tracked before r item (item_key way item)
 
-  abbrev pub plain_fragment : LinkedRecord → Option Item → List Hits
+  abbrev pub plain_fragment : LinkedRecord → Option RecordItem → List Hits
   plain_fragment r None = []
   plain_fragment r (Some item) = after d [] (alone_job d r.captured.moment item)
 
@@ -299,7 +299,7 @@ module _ (d : Detection) (way : Way) where
     Passed more = (flow : ℕ) → filter (of_number d flow) more ≡ []
 
     -- what is done after the fragment, if there is one
-    after_fragment : (fragment : Option Item) (todo : List Work) (last : List Hits)
+    after_fragment : (fragment : Option RecordItem) (todo : List Work) (last : List Hits)
         → ((number : ℕ) (more : List Job) → Passed more → given number (earlier ++ more) todo ≡ last)
         → given (job_count way before) earlier (option_to_list (option_map alone fragment) ++ todo) ≡ plain_fragment r fragment ++ last
     after_fragment None todo last rest =
@@ -319,19 +319,19 @@ module _ (d : Detection) (way : Way) where
         time : Time
         time = time_of before r
 
-        Told : Option Item → Type 0
+        Told : Option RecordItem → Type 0
         Told packet =
             given (job_count way before) earlier (works_by way time (option_map (touch_found most_here (touches way before)) (option_and_then (item_key way) packet)) (fragment_item way r) packet)
             ≡ plain_fragment r (fragment_item way r) ++ plain_packet before r packet
 
-        of_tracked : (item : Item) (key : Key) → packet_in way before r ≡ Some item → item_key way item ≡ Some key
+        of_tracked : (item : RecordItem) (key : Key) → packet_in way before r ≡ Some item → item_key way item ≡ Some key
             → given (job_count way before) earlier (works_by way time (Some (touch_found most_here (touches way before) key)) (fragment_item way r) (Some item))
             ≡ plain_fragment r (fragment_item way r) ++ plain_tracked before r item (Some key)
         of_tracked item key found tracked =
             let touch : Touch = touch_found most_here (touches way before) key in
             let pushed : touches way (before ++ r ∷ []) ≡ key ∷ touches way before =
             touches-push way before r
-            ∙ ap (λ (o : Option Item). option_to_list (option_and_then (item_key way) o) ++ touches way before) found
+            ∙ ap (λ (o : Option RecordItem). option_to_list (option_and_then (item_key way) o) ++ touches way before) found
             ∙ ap (λ (o : Option Key). option_to_list o ++ touches way before) tracked in
             let room_here : Room most_here (key ∷ touches way before) = subst (Room most_here) pushed room in
             let here : is_touched (touches way (before ++ r ∷ [])) key ≡ true =
@@ -362,7 +362,7 @@ module _ (d : Detection) (way : Way) where
             ∙ after_fragment (fragment_item way r) (flow_packet way time item touch.flow ∷ [])
             (plain_tracked before r item (Some key)) last
 
-        by_key : (item : Item) (at : Option Key) → packet_in way before r ≡ Some item → item_key way item ≡ at
+        by_key : (item : RecordItem) (at : Option Key) → packet_in way before r ≡ Some item → item_key way item ≡ at
             → given (job_count way before) earlier (works_by way time (option_map (touch_found most_here (touches way before)) at) (fragment_item way r) (Some item))
             ≡ plain_fragment r (fragment_item way r) ++ plain_tracked before r item at
         by_key item None found tracked =
@@ -370,6 +370,6 @@ module _ (d : Detection) (way : Way) where
             (λ number more passed. append-nil (items_of_job d (earlier ++ more) (record { number = number; moment = moment; work = alone item })) ∙ alone-items d (earlier ++ more) number moment item)
         by_key item (Some key) found tracked = of_tracked item key found tracked
 
-        by_packet : (packet : Option Item) → packet_in way before r ≡ packet → Told (packet_in way before r)
+        by_packet : (packet : Option RecordItem) → packet_in way before r ≡ packet → Told (packet_in way before r)
         by_packet None found = subst Told (sym found) (after_fragment (fragment_item way r) [] [] (λ number more passed. refl))
         by_packet (Some item) found = subst Told (sym found) (by_key item (item_key way item) found refl)

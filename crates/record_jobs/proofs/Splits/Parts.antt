@@ -17,7 +17,7 @@ use Rattle.stream5_sessions.proofs.KeyLaws.{same_key-is}
 use Rattle.flow_lanes.specs.declared.answer.Hits.{Hits}
 use Rattle.flow_lanes.specs.declared.job.Job.{Job}
 use Rattle.flow_lanes.specs.Flows.{Detection}
-use Rattle.record_jobs.specs.declared.item.Item.{Item}
+use Rattle.record_jobs.specs.declared.item.RecordItem.{RecordItem}
 use Rattle.record_jobs.specs.declared.time.Time.{Time}
 use Rattle.record_jobs.specs.Jobs.{begin_of, time_of}
 use Rattle.record_jobs.specs.Packets.{fragment_item, packet_in}
@@ -108,7 +108,7 @@ module _ (way : Way) (part : Part) (records : List LinkedRecord) (by_pair : IsBy
     (packets : (before : List LinkedRecord) (r : LinkedRecord) (rest : List LinkedRecord) → before ++ r ∷ rest ≡ records → part r ≡ true
     → packet_in way (filter part before) r ≡ packet_in way before r) where
   -- two records that have packets of one key are of one part
-  one-part : (key : Key) (one other : List LinkedRecord) (r s : LinkedRecord) (item more : Item) → packet_in way one r ≡ Some item → packet_in way other s ≡ Some more
+  one-part : (key : Key) (one other : List LinkedRecord) (r s : LinkedRecord) (item more : RecordItem) → packet_in way one r ≡ Some item → packet_in way other s ≡ Some more
       → item_key way item ≡ Some key → item_key way more ≡ Some key → part r ≡ part s
   one-part key one other r s item more found found_too tracked tracked_too =
       let ends = packet-between way one r item found in
@@ -118,7 +118,7 @@ module _ (way : Way) (part : Part) (records : List LinkedRecord) (by_pair : IsBy
       (same-pair item.head.ip more.head.ip ends.fields.ip ends_too.fields.ip pair (ends.src, ends.dst) (ends_too.src, ends_too.dst))
 
   -- where each record that has a packet of a key is of the part
-  module _ (key : Key) (owns : (earlier : List LinkedRecord) (s : LinkedRecord) (item : Item) → packet_in way earlier s ≡ Some item → item_key way item ≡ Some key → part s ≡ true) where
+  module _ (key : Key) (owns : (earlier : List LinkedRecord) (s : LinkedRecord) (item : RecordItem) → packet_in way earlier s ≡ Some item → item_key way item ≡ Some key → part s ≡ true) where
     -- a record of another part has no packet of the key
     apart : (earlier : List LinkedRecord) (s : LinkedRecord) → part s ≡ false → of_key way key earlier s ≡ []
     apart earlier s isnt = by_packet (packet_in way earlier s) refl
@@ -126,19 +126,19 @@ module _ (way : Way) (part : Part) (records : List LinkedRecord) (by_pair : IsBy
         time : Time
         time = time_of earlier s
 
-        by_same : (more : Item) (other : Key) → packet_in way earlier s ≡ Some more → item_key way more ≡ Some other → (b : Bool) → same_key key other ≡ b
+        by_same : (more : RecordItem) (other : Key) → packet_in way earlier s ≡ Some more → item_key way more ≡ Some other → (b : Bool) → same_key key other ≡ b
             → own_tracked way (time_of earlier s) s.captured.moment key more (Some other) ≡ []
         by_same more other there at true same =
             absurd (false≢true (sym isnt ∙ owns earlier s more there (at ∙ ap Some (sym (same_key-is key other same)))))
         by_same more other there at false differs = rw differs refl
 
-        by_key : (more : Item) (at : Option Key) → packet_in way earlier s ≡ Some more → item_key way more ≡ at → own_tracked way (time_of earlier s) s.captured.moment key more at ≡ []
+        by_key : (more : RecordItem) (at : Option Key) → packet_in way earlier s ≡ Some more → item_key way more ≡ at → own_tracked way (time_of earlier s) s.captured.moment key more at ≡ []
         by_key more None there at = refl
         by_key more (Some other) there at = by_same more other there at (same_key key other) refl
 
-        by_packet : (packet : Option Item) → packet_in way earlier s ≡ packet → own_packet way (time_of earlier s) s.captured.moment key (packet_in way earlier s) ≡ []
-        by_packet None there = subst (λ (o : Option Item). own_packet way (time_of earlier s) s.captured.moment key o ≡ []) (sym there) refl
-        by_packet (Some more) there = subst (λ (o : Option Item). own_packet way (time_of earlier s) s.captured.moment key o ≡ []) (sym there) (by_key more (item_key way more) there refl)
+        by_packet : (packet : Option RecordItem) → packet_in way earlier s ≡ packet → own_packet way (time_of earlier s) s.captured.moment key (packet_in way earlier s) ≡ []
+        by_packet None there = subst (λ (o : Option RecordItem). own_packet way (time_of earlier s) s.captured.moment key o ≡ []) (sym there) refl
+        by_packet (Some more) there = subst (λ (o : Option RecordItem). own_packet way (time_of earlier s) s.captured.moment key o ≡ []) (sym there) (by_key more (item_key way more) there refl)
 
     -- the part has all packets of the key
     pub same-key_packets : (before rest : List LinkedRecord) → before ++ rest ≡ records → trail (of_key way key) (filter part before) ≡ trail (of_key way key) before
@@ -157,7 +157,7 @@ module _ (way : Way) (part : Part) (records : List LinkedRecord) (by_pair : IsBy
                 ap (trail (of_key way key)) (filter-kept part earlier s [] is)
                 ∙ trail-push (of_key way key) (filter part earlier) s
                 ∙ ap (λ (front : List Job). front ++ of_key way key (filter part earlier) s) same
-                ∙ ap (λ (o : Option Item). trail (of_key way key) earlier ++ own_packet way (time_of (filter part earlier) s) s.captured.moment key o) packet
+                ∙ ap (λ (o : Option RecordItem). trail (of_key way key) earlier ++ own_packet way (time_of (filter part earlier) s) s.captured.moment key o) packet
                 ∙ ap (λ (t : Time). trail (of_key way key) earlier ++ own_packet way t s.captured.moment key (packet_in way earlier s)) time
                 ∙ sym (trail-push (of_key way key) earlier s)
             by_part false isnt =
@@ -171,17 +171,20 @@ module _ (way : Way) (part : Part) (records : List LinkedRecord) (by_pair : IsBy
   pub plain-same : (d : Detection) (before : List LinkedRecord) (r : LinkedRecord) (rest : List LinkedRecord) → before ++ r ∷ rest ≡ records → part r ≡ true
       → plain_items d way (filter part before) r ≡ plain_items d way before r
   plain-same d before r rest are of =
-      ap (λ (o : Option Item). plain_fragment d way r (fragment_item way r) ++ plain_packet d way (filter part before) r o) (packets before r rest are of)
+      ap (λ (o : Option RecordItem). plain_fragment d way r (fragment_item way r) ++ plain_packet d way (filter part before) r o) (packets before r rest are of)
       ∙ ap (λ (back : List Hits). plain_fragment d way r (fragment_item way r) ++ back) (by_packet (packet_in way before r) refl)
     where
-      by_key : (item : Item) (at : Option Key) → packet_in way before r ≡ Some item → item_key way item ≡ at → plain_tracked d way (filter part before) r item at ≡ plain_tracked d way before r item at
+      by_key : (item : RecordItem) (at : Option Key)
+          → packet_in way before r ≡ Some item
+          → item_key way item ≡ at
+          → plain_tracked d way (filter part before) r item at ≡ plain_tracked d way before r item at
       by_key item None found tracked = refl
       by_key item (Some key) found tracked =
-          let owns : (earlier : List LinkedRecord) (s : LinkedRecord) (more : Item) → packet_in way earlier s ≡ Some more → item_key way more ≡ Some key → part s ≡ true =
+          let owns : (earlier : List LinkedRecord) (s : LinkedRecord) (more : RecordItem) → packet_in way earlier s ≡ Some more → item_key way more ≡ Some key → part s ≡ true =
           λ earlier s more there at. sym (one-part key before earlier r s item more found there tracked at) ∙ of in
           ap (λ (own : List Job). after d own (packet_job d way (time_of (filter part before) r) r.captured.moment item)) (same-key_packets key owns before (r ∷ rest) are)
           ∙ ap (λ (t : Time). after d (trail (of_key way key) before) (packet_job d way t r.captured.moment item)) (same-time part records before r rest start are of)
 
-      by_packet : (packet : Option Item) → packet_in way before r ≡ packet → plain_packet d way (filter part before) r packet ≡ plain_packet d way before r packet
+      by_packet : (packet : Option RecordItem) → packet_in way before r ≡ packet → plain_packet d way (filter part before) r packet ≡ plain_packet d way before r packet
       by_packet None found = refl
       by_packet (Some item) found = by_key item (item_key way item) found refl

@@ -10,7 +10,7 @@ use Rattle.stream5_sessions.specs.Liveness.{distinct_count, is_touched, max_for}
 use Rattle.stream5_sessions.proofs.Liveness.Apart.{Apart, Apart-recent}
 use Rattle.stream5_sessions.proofs.KeyLaws.{same_key-is, same_key-self}
 use Rattle.stream5_sessions.proofs.Liveness.Recent.{is_touched-recent, is_touched-remove_key, length-recent, length-remove_key, recent, remove_key}
-use Rattle.record_jobs.specs.declared.item.Item.{Item}
+use Rattle.record_jobs.specs.declared.item.RecordItem.{RecordItem}
 use Rattle.record_jobs.specs.Packets.{packet_in}
 use Rattle.record_jobs.specs.Touches.{item_key, key_in, most_flows, touches}
 use Rattle.record_jobs.specs.Way.{LinkedRecord, Way}
@@ -124,7 +124,7 @@ module _ (way : Way) (part : Part) (records : List LinkedRecord)
       step before r rest are among = by_part (part r) refl
         where
           same-key : part r ≡ true → key_in way (filter part before) r ≡ key_in way before r
-          same-key of = ap (λ (o : Option Item). option_and_then (item_key way) o) (packets before r rest are of)
+          same-key of = ap (λ (o : Option RecordItem). option_and_then (item_key way) o) (packets before r rest are of)
 
           by_part : (b : Bool) → part r ≡ b → AreAmong (touches way (filter part (before ++ r ∷ []))) (touches way (before ++ r ∷ []))
           by_part true of =

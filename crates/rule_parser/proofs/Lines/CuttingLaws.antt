@@ -6,7 +6,7 @@ use Rattle.edge_io.specs.Bytes.{is_blank, without_front_blanks}
 use Rattle.net_lists.specs.Cutting.{front_len, depth_after, first_word, after_word}
 use Rattle.net_lists.specs.declared.stop.Stop.{Stop}
 use Rattle.conf_types.specs.declared.classes.Class.{Class}
-use Rattle.rule_parser.specs.declared.draft.Draft.{Draft}
+use Rattle.rule_parser.specs.declared.draft.RuleDraft.{RuleDraft}
 use Rattle.rule_parser.specs.declared.fault.Fault.{Fault}
 use Rattle.rule_parser.specs.declared.header.HeaderTexts.{HeaderTexts}
 use Rattle.rule_parser.specs.declared.written.Quoting.{Quoting}
@@ -135,7 +135,7 @@ header-written texts line cut words rest count are next written = record {
 }
 
 -- the fold over the options of a text is the one over the options that it is written of
-pub options-read : (classes : List Class) (names later : List (List ℕ)) (draft : Draft) (left : ℕ) (inside : List ℕ) (answer : Result Draft (Stop Fault))
+pub options-read : (classes : List Class) (names later : List (List ℕ)) (draft : RuleDraft) (left : ℕ) (inside : List ℕ) (answer : Result RuleDraft (Stop Fault))
     → GivesWith answer later (rule_options classes names draft left (option_texts outside inside))
     → (options : List (List ℕ)) (rest : List ℕ) → AreOptionTexts options → IsClosed outside rest → inside ≡ options_text options rest
     → GivesWith answer later (rule_options classes names draft left (options ++ rest ∷ []))

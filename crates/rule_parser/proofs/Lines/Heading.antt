@@ -2,7 +2,7 @@
 -- word that is wrong ends it.
 use Rattle.std.proofs.Common.{◌≡◌, ℕ, Bool, Result, Ok, Err, List, refl, sym, ap, subst, ◌∙◌, inl, inr}
 use Rattle.net_lists.specs.declared.part.AddrBounds.{AddrBounds}
-use Rattle.net_lists.specs.declared.part.Bounds.{Bounds}
+use Rattle.net_lists.specs.declared.part.ValueBounds.{ValueBounds}
 use Rattle.net_lists.specs.declared.part.Part.{Part}
 use Rattle.net_lists.specs.declared.stop.Stop.{Stop}
 use Rattle.net_lists.specs.declared.stop.Stop.TheVariants.{NoMemory, Wrong}
@@ -59,7 +59,7 @@ abbrev Addresses : Type 0
 Addresses = List (Part AddrBounds)
 
 abbrev Ports : Type 0
-Ports = List (Part (Bounds ℕ))
+Ports = List (Part (ValueBounds ℕ))
 
 -- the header of these words
 abbrev pub IsMadeOf : Action → Proto → Addresses → Ports → Bool → Addresses → Ports → Result Header Fault → Type 0

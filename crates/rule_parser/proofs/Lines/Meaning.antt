@@ -2,7 +2,7 @@
 use Rattle.std.proofs.Common.{◌≡◌, ℕ, Option, Some, Result, Ok, Err, List, length, sym, ◌∙◌, ap, subst, inl, inr, arith}
 use Rattle.conf_types.specs.declared.classes.Class.{Class}
 use Rattle.net_lists.specs.declared.part.AddrBounds.{AddrBounds}
-use Rattle.net_lists.specs.declared.part.Bounds.{Bounds}
+use Rattle.net_lists.specs.declared.part.ValueBounds.{ValueBounds}
 use Rattle.net_lists.specs.declared.part.Part.{Part}
 use Rattle.net_lists.specs.Addresses.{address_bounds}
 use Rattle.net_lists.specs.Lists.{IsList}
@@ -58,7 +58,7 @@ same_list parts a b first second = cc
 addresses-unique : (text : List ℕ) (a b : List (Part AddrBounds)) → IsList address_bounds text a → IsList address_bounds text b → a ≡ b
 addresses-unique text a b first second = same_list (list_parts address_bounds text) a b (read address_bounds address_parts first) (read address_bounds address_parts second)
 
-ports-unique : (text : List ℕ) (a b : List (Part (Bounds ℕ))) → IsList port_bounds text a → IsList port_bounds text b → a ≡ b
+ports-unique : (text : List ℕ) (a b : List (Part (ValueBounds ℕ))) → IsList port_bounds text a → IsList port_bounds text b → a ≡ b
 ports-unique text a b first second = same_list (list_parts port_bounds text) a b (read port_bounds port_parts first) (read port_bounds port_parts second)
 
 address_word : (variables : Variables) (text : List ℕ) → IsOne (IsAddressWord variables text)

@@ -8,7 +8,7 @@ use Rattle.edge_io.specs.Bytes.{is_blank}
 use Rattle.edge_io.specs.OnResult.{◌>>=◌}
 use Rattle.net_lists.specs.declared.stop.Stop.{Stop}
 use Rattle.net_lists.specs.declared.stop.Stop.TheVariants.{NoMemory, Wrong}
-use Rattle.rule_parser.specs.declared.draft.Draft.{Draft}
+use Rattle.rule_parser.specs.declared.draft.RuleDraft.{RuleDraft}
 use Rattle.rule_parser.specs.declared.fault.Fault.{Fault}
 use Rattle.rule_parser.specs.declared.fault.Fault.TheVariants.{OptionSyntax}
 use Rattle.rule_parser.specs.Bits.{GivesWith}
@@ -45,14 +45,14 @@ option_texts-has : (text : List ℕ) → has_text (option_texts outside text) �
 option_texts-has text = ap has_text (option_texts-at outside text) ∙ texts_at-has text (option_len outside text)
 
 -- a step of the fold, where texts are left after it
-options-more : (classes : List Class) (names : List (List ℕ)) (draft : Draft) (left : ℕ) (text : List ℕ) (texts : List (List ℕ)) → has_text texts ≡ true
+options-more : (classes : List Class) (names : List (List ℕ)) (draft : RuleDraft) (left : ℕ) (text : List ℕ) (texts : List (List ℕ)) → has_text texts ≡ true
     → rule_options classes names draft left (text ∷ texts) ≡ (rule_option classes names draft left text >>= λ after. rule_options classes after.1 after.0 (left - (length text + 1)) texts)
 unfolding rule_options has_text
 options-more classes names draft left text [] h = cc
 options-more classes names draft left text (next ∷ more) h = refl
 
 -- the fold over a text's options is the first option and the fold over those after it
-pub options-step : (classes : List Class) (names : List (List ℕ)) (draft : Draft) (text option after : List ℕ) (left : ℕ) → left ≡ length text + 1 → IsFirstOption text option after
+pub options-step : (classes : List Class) (names : List (List ℕ)) (draft : RuleDraft) (text option after : List ℕ) (left : ℕ) → left ≡ length text + 1 → IsFirstOption text option after
     → rule_options classes names draft (length text + 1) (option_texts outside text)
     ≡ (rule_option classes names draft left option >>= λ next. rule_options classes next.1 next.0 (length after + 1) (option_texts outside after))
 options-step classes names draft text option after left is cut =
@@ -63,30 +63,33 @@ options-step classes names draft text option after left is cut =
     ∙ ap (λ (n : ℕ). rule_option classes names draft left option >>= λ next. rule_options classes next.1 next.0 n (option_texts outside after)) less
 
 -- after an option that is read
-pub options-next : (classes : List Class) (whole : Result (Draft × List (List ℕ)) Fault) (names later : List (List ℕ)) (draft next : Draft) (text option after : List ℕ) (left : ℕ)
+pub options-next : (classes : List Class) (whole : Result (RuleDraft × List (List ℕ)) Fault) (names later : List (List ℕ)) (draft next : RuleDraft) (text option after : List ℕ) (left : ℕ)
     → whole ≡ rule_options classes names draft (length text + 1) (option_texts outside text) → left ≡ length text + 1 → IsFirstOption text option after
     → rule_option classes names draft left option ≡ Ok (next, later)
     → whole ≡ rule_options classes later next (length after + 1) (option_texts outside after)
 options-next classes whole names later draft next text option after left so_far is cut read = so_far ∙ options-step classes names draft text option after left is cut ∙ rw read refl
 
 -- at an option that stops the reader
-pub options-stop : (classes : List Class) (stop : Stop Fault) (whole : Result (Draft × List (List ℕ)) Fault) (names later : List (List ℕ)) (draft : Draft) (text option after : List ℕ) (left : ℕ)
-    → whole ≡ rule_options classes names draft (length text + 1) (option_texts outside text) → left ≡ length text + 1 → IsFirstOption text option after
-    → GivesWith {X = Draft} (Err stop) later (rule_option classes names draft left option)
-    → GivesWith {X = Draft} (Err stop) later whole
+pub options-stop : (classes : List Class) (stop : Stop Fault) (whole : Result (RuleDraft × List (List ℕ)) Fault)
+    (names later : List (List ℕ)) (draft : RuleDraft) (text option after : List ℕ) (left : ℕ)
+    → whole ≡ rule_options classes names draft (length text + 1) (option_texts outside text)
+    → left ≡ length text + 1
+    → IsFirstOption text option after
+    → GivesWith {X = RuleDraft} (Err stop) later (rule_option classes names draft left option)
+    → GivesWith {X = RuleDraft} (Err stop) later whole
 options-stop classes NoMemory whole names later draft text option after left so_far is cut read = tt
 options-stop classes (Wrong why) whole names later draft text option after left so_far is cut read = so_far ∙ options-step classes names draft text option after left is cut ∙ rw read refl
 
 -- after the last option only blanks may come
-abbrev pub at_end : Bool → Draft → List (List ℕ) → Result (Draft × List (List ℕ)) Fault
+abbrev pub at_end : Bool → RuleDraft → List (List ℕ) → Result (RuleDraft × List (List ℕ)) Fault
 at_end blank draft names = cond blank (Ok (draft, names)) (Err OptionSyntax)
 
-options-last : (classes : List Class) (names : List (List ℕ)) (draft : Draft) (text : List ℕ) (left : ℕ)
+options-last : (classes : List Class) (names : List (List ℕ)) (draft : RuleDraft) (text : List ℕ) (left : ℕ)
     → rule_options classes names draft left (text ∷ []) ≡ at_end (list_all is_blank text) draft names
 unfolding rule_options
 options-last classes names draft text left = refl
 
-pub options-end : (classes : List Class) (whole : Result (Draft × List (List ℕ)) Fault) (names : List (List ℕ)) (draft : Draft) (text : List ℕ) (blank : Bool)
+pub options-end : (classes : List Class) (whole : Result (RuleDraft × List (List ℕ)) Fault) (names : List (List ℕ)) (draft : RuleDraft) (text : List ℕ) (blank : Bool)
     → whole ≡ rule_options classes names draft (length text + 1) (option_texts outside text) → option_texts outside text ≡ text ∷ [] → blank ≡ list_all is_blank text
     → whole ≡ at_end blank draft names
 options-end classes whole names draft text blank so_far last is =

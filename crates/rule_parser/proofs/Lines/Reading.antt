@@ -3,14 +3,14 @@ use Rattle.std.proofs.Common.{◌≡◌, ℕ, ◌+◌, ◌≤◌, Option, Some, 
 use Rattle.std.specs.Prelude.{IfSome}
 use Rattle.conf_types.specs.declared.classes.Class.{Class}
 use Rattle.net_lists.specs.declared.part.AddrBounds.{AddrBounds}
-use Rattle.net_lists.specs.declared.part.Bounds.{Bounds}
+use Rattle.net_lists.specs.declared.part.ValueBounds.{ValueBounds}
 use Rattle.net_lists.specs.declared.part.Part.{Part}
 use Rattle.net_lists.specs.Variables.{Variables}
 use Rattle.net_lists.specs.declared.stop.Stop.{Stop}
 use Rattle.net_lists.specs.declared.stop.Stop.TheVariants.{NoMemory, Wrong}
 use Rattle.rule_parser.specs.declared.draft.ClassName.{ClassName}
 use Rattle.rule_parser.specs.declared.draft.ClassName.TheVariants as class
-use Rattle.rule_parser.specs.declared.draft.Draft.{Draft}
+use Rattle.rule_parser.specs.declared.draft.RuleDraft.{RuleDraft}
 use Rattle.rule_parser.specs.declared.fault.Fault.{Fault}
 use Rattle.rule_parser.specs.declared.header.Header.{Header}
 use Rattle.rule_types.specs.declared.rule.Rule.{Rule}
@@ -31,7 +31,7 @@ known-there count (Some (class.Known place)) is = is
 known-there count (Some class.Unknown) is = tt
 
 -- the class that the options of a rule name is one of the classes
-pub options-class : (classes : List Class) (names later : List (List ℕ)) (draft : Draft) (inside : List ℕ) → length names ≤ 1024
+pub options-class : (classes : List Class) (names later : List (List ℕ)) (draft : RuleDraft) (inside : List ℕ) → length names ≤ 1024
     → rule_options classes names empty_draft (length inside + 1) (option_texts outside inside) ≡ Ok (draft, later)
     → IsClassOf (length classes) draft.class
 options-class classes names later draft inside few read =
@@ -72,7 +72,7 @@ unfolding IsAddressWord
 address-short variables text parts (inl (word, whole, read)) = read.1
 address-short variables text parts (inr (why, is, never)) = cc
 
-port-short : (variables : Variables) (text : List ℕ) (parts : List (Part (Bounds ℕ))) → IsPortWord variables text (Ok parts) → length parts ≤ 1024
+port-short : (variables : Variables) (text : List ℕ) (parts : List (Part (ValueBounds ℕ))) → IsPortWord variables text (Ok parts) → length parts ≤ 1024
 unfolding IsPortWord
 port-short variables text parts (inl (word, whole, read)) = read.1
 port-short variables text parts (inr (why, is, never)) = cc

@@ -3,7 +3,7 @@ use Rattle.std.proofs.Common.{◌≡◌, ℕ, ◌<◌, ◌≤◌, ◌⊎◌, inl
 use Rattle.std.specs.Prelude.{◌≢◌}
 use Rattle.std.proofs.lemmas.Bool.{cases_lt}
 use Rattle.net_lists.specs.declared.part.AddrBounds.{AddrBounds}
-use Rattle.net_lists.specs.declared.part.Bounds.{Bounds}
+use Rattle.net_lists.specs.declared.part.ValueBounds.{ValueBounds}
 use Rattle.net_lists.specs.declared.part.Part.{Part}
 use Rattle.net_lists.specs.Addresses.{address_bounds}
 use Rattle.net_lists.specs.Machine.{list_parts}
@@ -53,7 +53,7 @@ address_word variables text =
     after (λ (given : Result (List ℕ) Fault). given ≡ expanded_word variables text) (IsReadAs address_bounds fault.Address) (expanded_word variables text, refl)
     (read_as address_bounds address_parts fault.Address)
 
-port_word : (variables : Variables) (text : List ℕ) → (answer : Result (List (Part (Bounds ℕ))) Fault) × IsPortWord variables text answer
+port_word : (variables : Variables) (text : List ℕ) → (answer : Result (List (Part (ValueBounds ℕ))) Fault) × IsPortWord variables text answer
 unfolding IsPortWord
 port_word variables text =
     after (λ (given : Result (List ℕ) Fault). given ≡ expanded_word variables text) (IsReadAs port_bounds fault.Port) (expanded_word variables text, refl)
@@ -64,10 +64,10 @@ module _ (variables : Variables) (line : List ℕ) where
   abbrev AddressAt : ℕ → Result (List (Part AddrBounds)) Fault → Type 0
   AddressAt place = IsAddressWord variables (from_word place line)
 
-  abbrev PortAt : ℕ → Result (List (Part (Bounds ℕ))) Fault → Type 0
+  abbrev PortAt : ℕ → Result (List (Part (ValueBounds ℕ))) Fault → Type 0
   PortAt place = IsPortWord variables (from_word place line)
 
-  abbrev After6 : Action → Proto → List (Part AddrBounds) → List (Part (Bounds ℕ)) → Bool → List (Part AddrBounds) → List (Part (Bounds ℕ)) → Result Header Fault → Type 0
+  abbrev After6 : Action → Proto → List (Part AddrBounds) → List (Part (ValueBounds ℕ)) → Bool → List (Part AddrBounds) → List (Part (ValueBounds ℕ)) → Result Header Fault → Type 0
   After6 action proto src sports both dst dports answer =
       answer ≡ Ok (record {
         action = action;
@@ -79,13 +79,13 @@ module _ (variables : Variables) (line : List ℕ) where
         both = both;
       })
 
-  abbrev After5 : Action → Proto → List (Part AddrBounds) → List (Part (Bounds ℕ)) → Bool → List (Part AddrBounds) → Result Header Fault → Type 0
+  abbrev After5 : Action → Proto → List (Part AddrBounds) → List (Part (ValueBounds ℕ)) → Bool → List (Part AddrBounds) → Result Header Fault → Type 0
   After5 action proto src sports both dst = After (PortAt 6) (After6 action proto src sports both dst)
 
-  abbrev After4 : Action → Proto → List (Part AddrBounds) → List (Part (Bounds ℕ)) → Bool → Result Header Fault → Type 0
+  abbrev After4 : Action → Proto → List (Part AddrBounds) → List (Part (ValueBounds ℕ)) → Bool → Result Header Fault → Type 0
   After4 action proto src sports both = After (AddressAt 5) (After5 action proto src sports both)
 
-  abbrev After3 : Action → Proto → List (Part AddrBounds) → List (Part (Bounds ℕ)) → Result Header Fault → Type 0
+  abbrev After3 : Action → Proto → List (Part AddrBounds) → List (Part (ValueBounds ℕ)) → Result Header Fault → Type 0
   After3 action proto src sports = After (IsWord direction_of (from_word 4 line)) (After4 action proto src sports)
 
   abbrev After2 : Action → Proto → List (Part AddrBounds) → Result Header Fault → Type 0
@@ -97,12 +97,12 @@ module _ (variables : Variables) (line : List ℕ) where
   abbrev After0 : Action → Result Header Fault → Type 0
   After0 action = After (IsWord proto_of (from_word 1 line)) (After1 action)
 
-  after5 : (action : Action) (proto : Proto) (src : List (Part AddrBounds)) (sports : List (Part (Bounds ℕ))) (both : Bool) (dst : List (Part AddrBounds))
+  after5 : (action : Action) (proto : Proto) (src : List (Part AddrBounds)) (sports : List (Part (ValueBounds ℕ))) (both : Bool) (dst : List (Part AddrBounds))
       → (answer : Result Header Fault) × After5 action proto src sports both dst answer
   after5 action proto src sports both dst =
       after (PortAt 6) (After6 action proto src sports both dst) (port_word variables (from_word 6 line)) (λ dports. (_, refl))
 
-  after3 : (action : Action) (proto : Proto) (src : List (Part AddrBounds)) (sports : List (Part (Bounds ℕ))) → (answer : Result Header Fault) × After3 action proto src sports answer
+  after3 : (action : Action) (proto : Proto) (src : List (Part AddrBounds)) (sports : List (Part (ValueBounds ℕ))) → (answer : Result Header Fault) × After3 action proto src sports answer
   after3 action proto src sports =
       after (IsWord direction_of (from_word 4 line)) (After4 action proto src sports) (_, refl) (λ both.
       after (AddressAt 5) (After5 action proto src sports both) (address_word variables (from_word 5 line)) (after5 action proto src sports both))

@@ -13,8 +13,8 @@ use Rattle.net_lists.proofs.Steps.{Holds, given, refused, tested, unless, kinded
 use Rattle.conf_types.specs.Sound.{IsWithin}
 use Rattle.rule_parser.specs.declared.byte_words.Which.{Which}
 use Rattle.rule_parser.specs.declared.byte_words.Which.TheVariants.{Test, Jump, Extract}
-use Rattle.rule_parser.specs.declared.byte_words.Words.{Words}
-use Rattle.rule_parser.specs.declared.draft.Draft.{Draft}
+use Rattle.rule_parser.specs.declared.byte_words.ByteWords.{ByteWords}
+use Rattle.rule_parser.specs.declared.draft.RuleDraft.{RuleDraft}
 use Rattle.rule_types.specs.declared.option.Base.{Base}
 use Rattle.rule_types.specs.declared.option.Base.TheVariants as base
 use Rattle.rule_types.specs.declared.option.Num.{Num}
@@ -34,7 +34,7 @@ use Rattle.rule_parser.proofs.Sound.Drafts.{AreNamed, IsSoundDraft, IsPlain, nam
 use Rattle.rule_parser.proofs.Sound.Values.{IsSignedIn, IsNumBelow, signed_in-within, num-named, place_among-below, signed_or_named-below, number_or_named-below}
 
 -- words whose numbers lie in their ranges
-record AreWords (words : Words) : Type 0 where
+record AreWords (words : ByteWords) : Type 0 where
   base : IfSome words.base (λ base. bytes_of_base base ≡ 10)
   times : IfSome words.times (λ times. times ≤ 65535)
   align : IfSome words.align (λ align. IsTrue (align == 2 || align == 4))
@@ -43,31 +43,31 @@ record AreWords (words : Words) : Type 0 where
 none-words : AreWords no_words
 none-words = record { base = tt; times = tt; align = tt; post = tt }
 
-times-words : (words : Words) (number : List ℕ) → AreWords words → Holds AreWords (with_times words number)
+times-words : (words : ByteWords) (number : List ℕ) → AreWords words → Holds AreWords (with_times words number)
 unfolding with_times
 times-words words number h = chained (ranged _ 0 65535 number) (λ times within. search (steps, h, within))
 
-post-words : (words : Words) (number : List ℕ) → AreWords words → Holds AreWords (with_post words number)
+post-words : (words : ByteWords) (number : List ℕ) → AreWords words → Holds AreWords (with_post words number)
 unfolding with_post
 post-words words number h = chained (kinded _ (signed_in (negsuc 65534) (pos 65535) number) (signed_in-within (negsuc 65534) (pos 65535) number)) (λ post within. search (steps, h, within))
 
-multiple-words : (words : Words) (number : List ℕ) → AreWords words → Holds AreWords (with_multiple words number)
+multiple-words : (words : ByteWords) (number : List ℕ) → AreWords words → Holds AreWords (with_multiple words number)
 unfolding with_multiple
 multiple-words words number h = search (steps, h) depth 12
 
-shared-words : (words : Words) (part : List ℕ) → AreWords words → Holds AreWords (shared_word words part)
+shared-words : (words : ByteWords) (part : List ℕ) → AreWords words → Holds AreWords (shared_word words part)
 unfolding shared_word
 shared-words words part h = search (steps, h) depth 20
 
-jump-words : (words : Words) (part : List ℕ) → AreWords words → Holds AreWords (jump_word words part)
+jump-words : (words : ByteWords) (part : List ℕ) → AreWords words → Holds AreWords (jump_word words part)
 unfolding jump_word
 jump-words words part h = search (steps, times-words, post-words, shared-words, h) depth 12
 
-extract-words : (words : Words) (part : List ℕ) → AreWords words → Holds AreWords (extract_word words part)
+extract-words : (words : ByteWords) (part : List ℕ) → AreWords words → Holds AreWords (extract_word words part)
 unfolding extract_word
 extract-words words part h = search (steps, times-words, multiple-words, shared-words, h) depth 12
 
-word_of-words : (which : Which) (words : Words) (part : List ℕ) → AreWords words → Holds AreWords (word_of which words part)
+word_of-words : (which : Which) (words : ByteWords) (part : List ℕ) → AreWords words → Holds AreWords (word_of which words part)
 word_of-words Test words part h = shared-words words part h
 word_of-words Jump words part h = jump-words words part h
 word_of-words Extract words part h = extract-words words part h
@@ -88,7 +88,7 @@ fetched true (Some which) little bytes ten h e = omega (arith, h)
 fetched false None little bytes ten h e = grind (arith, nat_tests)
 fetched false (Some which) little bytes ten h e = cc
 
-fetch-of : (names : List ℕ) (count bytes : ℕ) (offset : Num) (words : Words)
+fetch-of : (names : List ℕ) (count bytes : ℕ) (offset : Num) (words : ByteWords)
     → AreNamed names count
     → IsWithin 1 10 bytes
     → IsNumBelow count (negsuc 65534) (pos 65535) offset
@@ -122,7 +122,7 @@ operator-tests : (negated : Bool) (text : List ℕ) → Holds (λ how. IsTrue (i
 unfolding operator_of
 operator-tests negated text = search steps depth 20
 
-module _ (classes : ℕ) (draft : Draft) (sound : IsSoundDraft classes draft) where
+module _ (classes : ℕ) (draft : RuleDraft) (sound : IsSoundDraft classes draft) where
   offset_ok : (part : Part) → Holds (IsNumBelow (length draft.names) (negsuc 65534) (pos 65535)) (offset_of draft.names part)
   offset_ok part = signed_or_named-below (negsuc 65534) (pos 65535) draft.names part.left part.text
 

@@ -11,8 +11,8 @@ use Rattle.net_lists.specs.Numbers.{number_in}
 use Rattle.net_lists.specs.Stops.{or_kind}
 use Rattle.net_lists.proofs.Steps.{Holds, given, refused, tested, unless, chained, after_any, ranged, number_in-within}
 use Rattle.conf_types.specs.Sound.{IsWithin}
-use Rattle.rule_parser.specs.declared.draft.Draft.{Draft}
-use Rattle.rule_parser.specs.declared.draft.Held.{Held}
+use Rattle.rule_parser.specs.declared.draft.RuleDraft.{RuleDraft}
+use Rattle.rule_parser.specs.declared.draft.LastContent.{LastContent}
 use Rattle.rule_parser.specs.declared.fault.Fault.{Fault}
 use Rattle.rule_parser.specs.declared.fault.Fault.TheVariants.{Misplaced, OptionValue}
 use Rattle.rule_parser.specs.declared.names.Modifier.{Modifier}
@@ -23,7 +23,7 @@ use Rattle.rule_types.specs.declared.option.Num.{Num}
 use Rattle.rule_types.specs.declared.option.Num.TheVariants as num
 use Rattle.rule_types.specs.declared.option.Opt.{Opt}
 use Rattle.rule_parser.specs.declared.quoted.Style.TheVariants.{Bytes}
-use Rattle.rule_parser.specs.declared.quoted.Place.TheVariants.{Plain}
+use Rattle.rule_parser.specs.declared.quoted.QuotedPlace.TheVariants.{Plain}
 use Rattle.rule_parser.specs.Contents.{negation, plain_content, with_bytes, content_option, apart, with_last}
 use Rattle.rule_parser.specs.Contents.{nocase, nocase_option, rawbytes, rawbytes_option, is_relative, bars_from, bars_room}
 use Rattle.rule_parser.specs.Contents.{place_text, known_before, with_from, from_option, room_of, with_room, room_option}
@@ -36,7 +36,7 @@ use Rattle.rule_parser.proofs.Sound.Drafts.{AreNamed, AreKept, IsHeld, IsSoundDr
 use Rattle.rule_parser.proofs.Sound.Values.{IsNumBelow, signed_or_named-below, named-below, num-named}
 
 -- a new content comes after all options that there are
-held-new : (classes : ℕ) (draft : Draft) (content : Content)
+held-new : (classes : ℕ) (draft : RuleDraft) (content : Content)
     → IsSoundDraft classes draft
     → ((names : List ℕ) → IsContent names content)
     → content.fast ≡ fast.No
@@ -56,8 +56,20 @@ held-new classes draft content sound is_content plain =
     }
 
 -- the options with the last content in its place, and this one apart
-kept-new : (classes : ℕ) (draft : Draft) (content : Content) → IsSoundDraft classes draft → ((names : List ℕ) → IsContent names content) → content.fast ≡ fast.No → nat_le 64 (kept_count draft) ≡ false
-    → AreKept (settled draft) (Some (record { content = content; place = length (settled draft); known = length draft.names; raw = false; placeless = false })) draft.names draft.fast
+kept-new : (classes : ℕ) (draft : RuleDraft) (content : Content)
+    → IsSoundDraft classes draft
+    → ((names : List ℕ) → IsContent names content)
+    → content.fast ≡ fast.No
+    → nat_le 64 (kept_count draft) ≡ false
+    → AreKept (settled draft)
+    (Some (record {
+      content = content;
+      place = length (settled draft);
+      known = length draft.names;
+      raw = false;
+      placeless = false;
+    }))
+    draft.names draft.fast
 unfolding settled
 kept-new classes draft content sound is_content plain room =
     let At : List ℕ → Type 0 = λ found. AreNamed found (length draft.names) in
@@ -81,7 +93,7 @@ kept-new classes draft content sound is_content plain room =
     same counted all held most true e plain h = cc
     same counted all held most false e plain h = omega arith
 
-with_bytes-sound : (classes : ℕ) (draft : Draft) → IsSoundDraft classes draft → (negated : Bool) (bytes : List ℕ) → Holds (IsSoundDraft classes) (with_bytes draft negated bytes)
+with_bytes-sound : (classes : ℕ) (draft : RuleDraft) → IsSoundDraft classes draft → (negated : Bool) (bytes : List ℕ) → Holds (IsSoundDraft classes) (with_bytes draft negated bytes)
 with_bytes-sound classes draft sound negated bytes =
     unless (length bytes == 0) _ (λ some.
     tested _ (λ room.
@@ -96,39 +108,39 @@ with_bytes-sound classes draft sound negated bytes =
     free : (len count : ℕ) → (nat_le len 2048 && not (nat_le 64 count)) ≡ true → nat_le 64 count ≡ false
     free len count room = grind (arith, nat_tests)
 
-pub content-sound : (classes : ℕ) (draft : Draft) → IsSoundDraft classes draft → (value : List ℕ) → Holds (IsSoundDraft classes) (content_option draft value)
+pub content-sound : (classes : ℕ) (draft : RuleDraft) → IsSoundDraft classes draft → (value : List ℕ) → Holds (IsSoundDraft classes) (content_option draft value)
 unfolding content_option
 content-sound classes draft sound value =
     after_any (quoted_whole (negation value).1) (λ inside.
     after_any (or_kind OptionValue (meaning Bytes Plain inside)) (λ bytes. with_bytes-sound classes draft sound (negation value).0 bytes))
 
 -- the last content, and the draft without it
-abbrev IsApart : Draft → Held × Draft → Type 0
+abbrev IsApart : RuleDraft → LastContent × RuleDraft → Type 0
 IsApart draft parts = (draft.held ≡ Some parts.0) × (parts.1 ≡ record draft { held = None })
 
-apart_ok : (draft : Draft) → Holds (IsApart draft) (apart draft)
+apart_ok : (draft : RuleDraft) → Holds (IsApart draft) (apart draft)
 unfolding apart
 apart_ok draft = chained (go draft.held) (λ held e. given (e, refl))
   where
-    go : (o : Option Held) → Holds (λ held. o ≡ Some held) (or_kind Misplaced o)
+    go : (o : Option LastContent) → Holds (λ held. o ≡ Some held) (or_kind Misplaced o)
     go None = refused
     go (Some held) = given refl
 
 -- what a modifier makes of the last content is held as that is, and is a fast pattern where that is one
-record IsModified (opts : List Opt) (held next : Held) : Type 0 where
+record IsModified (opts : List Opt) (held next : LastContent) : Type 0 where
   keeps : IsHeld opts held → IsHeld opts next
   same : is_chosen next.content.fast ≡ is_chosen held.content.fast
 
 -- a draft with its last content changed
-last-sound : (classes : ℕ) (draft rest : Draft) (held next : Held)
+last-sound : (classes : ℕ) (draft rest : RuleDraft) (held next : LastContent)
     → IsSoundDraft classes draft
     → draft.held ≡ Some held
     → rest ≡ record draft { held = None }
     → IsModified draft.opts held next
     → IsSoundDraft classes (with_last rest next)
 last-sound classes draft rest held next sound e r modified =
-    let Kept : Option Held → Type 0 = λ o. AreKept draft.opts o draft.names draft.fast in
-    let Sound : Draft → Type 0 = λ d. IsSoundDraft classes (with_last d next) in
+    let Kept : Option LastContent → Type 0 = λ o. AreKept draft.opts o draft.names draft.fast in
+    let Sound : RuleDraft → Type 0 = λ d. IsSoundDraft classes (with_last d next) in
     let before : AreKept draft.opts (Some held) draft.names draft.fast = subst Kept e sound.kept in
     let kept : Kept (Some next) = record {
       options = before.options;
@@ -144,23 +156,23 @@ last-sound classes draft rest held next sound e r modified =
     as_many count b before most e h = let number : Bool → ℕ = λ b. cond b 1 0 in omega (arith, ap number e)
 
 -- a modifier, by what it makes of the last content among these names
-modified-sound : (classes : ℕ) (draft : Draft)
+modified-sound : (classes : ℕ) (draft : RuleDraft)
     → IsSoundDraft classes draft
-    → (modify : Held → List (List ℕ) → Result Held Fault)
-    → ((held : Held) → Holds (IsModified draft.opts held) (modify held draft.names))
+    → (modify : LastContent → List (List ℕ) → Result LastContent Fault)
+    → ((held : LastContent) → Holds (IsModified draft.opts held) (modify held draft.names))
     → Holds (IsSoundDraft classes) (apart draft >>= λ parts. modify parts.0 parts.1.names >>= λ held. Ok (with_last parts.1 held))
 modified-sound classes draft sound modify h =
     chained (apart_ok draft) (λ parts e.
     let Modifies : List (List ℕ) → Type 0 = λ names. Holds (IsModified draft.opts parts.0) (modify parts.0 names) in
-    chained (subst Modifies (sym (ap (λ (d : Draft). d.names) e.1)) (h parts.0)) (λ next modified.
+    chained (subst Modifies (sym (ap (λ (d : RuleDraft). d.names) e.1)) (h parts.0)) (λ next modified.
     given (last-sound classes draft parts.1 parts.0 next sound e.0 e.1 modified)))
 
-pub nocase-sound : (classes : ℕ) (draft : Draft) → IsSoundDraft classes draft → (value : Option (List ℕ)) → Holds (IsSoundDraft classes) (nocase_option draft value)
+pub nocase-sound : (classes : ℕ) (draft : RuleDraft) → IsSoundDraft classes draft → (value : Option (List ℕ)) → Holds (IsSoundDraft classes) (nocase_option draft value)
 unfolding nocase_option nocase
 nocase-sound classes draft sound value = modified-sound classes draft sound (λ held names. nocase held value) (λ held.
     unless held.content.nocase _ (λ _. unless (is_some value) _ (λ _. given (record { keeps = λ h. search (h.placeless, h); same = refl }))))
 
-pub rawbytes-sound : (classes : ℕ) (draft : Draft) → IsSoundDraft classes draft → (value : Option (List ℕ)) → Holds (IsSoundDraft classes) (rawbytes_option draft value)
+pub rawbytes-sound : (classes : ℕ) (draft : RuleDraft) → IsSoundDraft classes draft → (value : Option (List ℕ)) → Holds (IsSoundDraft classes) (rawbytes_option draft value)
 unfolding rawbytes_option rawbytes
 rawbytes-sound classes draft sound value = modified-sound classes draft sound (λ held names. rawbytes held value) (λ held.
     unless held.raw _ (λ _. unless (is_some value) _ (λ _. given (record { keeps = λ h. search (h.placeless, h); same = refl }))))
@@ -190,7 +202,10 @@ below-known : (known : List (List ℕ)) (count : ℕ) (least most : ℤ) (number
 below-known known count least most (num.Value number) h = h
 below-known known count least most (num.Name place) h = omega (arith, length-take count known)
 
-pub from-sound : (classes : ℕ) (name : Modifier) (draft : Draft) → IsSoundDraft classes draft → (left : ℕ) (value : Option (List ℕ)) → Holds (IsSoundDraft classes) (from_option name draft left value)
+pub from-sound : (classes : ℕ) (name : Modifier) (draft : RuleDraft)
+    → IsSoundDraft classes draft
+    → (left : ℕ) (value : Option (List ℕ))
+    → Holds (IsSoundDraft classes) (from_option name draft left value)
 unfolding from_option with_from
 from-sound classes name draft sound left value =
     modified-sound classes draft sound (λ held names. with_from name held names left value) (λ held.
@@ -223,7 +238,10 @@ room_of-below size known left text (Some number) h = tested (nat_le size number)
     least : nat_le size number ≡ true → pos size ≤ℤ pos number
     least e = let le : size ≤ number = grind (arith, nat_tests) in omega (arith, ints)
 
-pub room-sound : (classes : ℕ) (name : Modifier) (draft : Draft) → IsSoundDraft classes draft → (left : ℕ) (value : Option (List ℕ)) → Holds (IsSoundDraft classes) (room_option name draft left value)
+pub room-sound : (classes : ℕ) (name : Modifier) (draft : RuleDraft)
+    → IsSoundDraft classes draft
+    → (left : ℕ) (value : Option (List ℕ))
+    → Holds (IsSoundDraft classes) (room_option name draft left value)
 unfolding room_option with_room
 room-sound classes name draft sound left value =
     modified-sound classes draft sound (λ held names. with_room name held names left value) (λ held.
@@ -301,13 +319,13 @@ only-on fast.Yes false e = refl
 only-on fast.Only false e = e
 only-on (fast.Part from len) false e = refl
 
-pub fast_pattern-sound : (classes : ℕ) (draft : Draft) → IsSoundDraft classes draft → (value : Option (List ℕ)) → Holds (IsSoundDraft classes) (fast_pattern_option draft value)
+pub fast_pattern-sound : (classes : ℕ) (draft : RuleDraft) → IsSoundDraft classes draft → (value : Option (List ℕ)) → Holds (IsSoundDraft classes) (fast_pattern_option draft value)
 unfolding fast_pattern_option
 fast_pattern-sound classes draft sound value =
     chained (first draft.fast draft.held) (λ held found.
     chained (fast_mode-ok (length held.content.bytes) value) (λ mode fits.
     unless (bars_fast mode held.content) _ (λ is_given.
-    let Kept : Option Held → Type 0 = λ o. AreKept draft.opts o draft.names draft.fast in
+    let Kept : Option LastContent → Type 0 = λ o. AreKept draft.opts o draft.names draft.fast in
     let before : AreKept draft.opts (Some held) draft.names draft.fast = subst Kept found.1 sound.kept in
     given (record {
       kept = record {
@@ -337,7 +355,7 @@ fast_pattern-sound classes draft sound value =
       period = sound.period;
     }))))
   where
-    first : (is_given : Bool) (o : Option Held) → Holds (λ held. (is_given ≡ false) × (o ≡ Some held)) (cond is_given (Err Misplaced) (or_kind Misplaced o))
+    first : (is_given : Bool) (o : Option LastContent) → Holds (λ held. (is_given ≡ false) × (o ≡ Some held)) (cond is_given (Err Misplaced) (or_kind Misplaced o))
     first true o = refused
     first false None = refused
     first false (Some held) = given (refl, refl)

@@ -10,8 +10,8 @@ use Rattle.std.proofs.lemmas.Grind.{common_steps}
 use Rattle.net_lists.proofs.Steps.{Holds, given, unless}
 use Rattle.rule_parser.specs.declared.draft.ClassName.{ClassName}
 use Rattle.rule_parser.specs.declared.draft.ClassName.TheVariants as class
-use Rattle.rule_parser.specs.declared.draft.Draft.{Draft}
-use Rattle.rule_parser.specs.declared.draft.Held.{Held}
+use Rattle.rule_parser.specs.declared.draft.RuleDraft.{RuleDraft}
+use Rattle.rule_parser.specs.declared.draft.LastContent.{LastContent}
 use Rattle.rule_types.specs.declared.option.Content.{Content}
 use Rattle.rule_types.specs.declared.option.Opt.{Opt}
 use Rattle.rule_types.specs.declared.option.Opt.TheVariants as opt
@@ -51,23 +51,23 @@ abbrev pub AreNamed : List ℕ → ℕ → Type 0
 AreNamed names count = (k : ℕ) → k < count → Contains names k
 
 -- the last content, which is kept apart
-pub record IsHeld (opts : List Opt) (held : Held) : Type 0 where
+pub record IsHeld (opts : List Opt) (held : LastContent) : Type 0 where
   pub place : held.place ≤ length opts
   pub known : AreNamed (names_after [] (take held.place opts)) held.known
   pub content : IsContent (names_after [] (take held.place opts)) held.content
   pub placeless : held.placeless ≡ false → is_only held.content.fast ≡ false
 
 -- how many fast patterns the last content is, one or none
-abbrev pub fast_held : Option Held → ℕ
+abbrev pub fast_held : Option LastContent → ℕ
 fast_held None = 0
 fast_held (Some held) = cond (is_chosen held.content.fast) 1 0
 
 -- how many contents are kept apart
-abbrev pub count_held : Option Held → ℕ
+abbrev pub count_held : Option LastContent → ℕ
 count_held held = cond (is_some held) 1 0
 
 -- the options that are kept, with the names that were extracted; whether there is a fast pattern
-pub record AreKept (opts : List Opt) (last : Option Held) (names : List (List ℕ)) (fast : Bool) : Type 0 where
+pub record AreKept (opts : List Opt) (last : Option LastContent) (names : List (List ℕ)) (fast : Bool) : Type 0 where
   pub options : AreOptions [] opts
   pub named : AreNamed (names_after [] opts) (length names)
   pub few : length names ≤ 2
@@ -81,7 +81,7 @@ IsKnown classes (class.Known place) = place < classes
 IsKnown classes class.Unknown = Unit {0}
 
 -- a draft is sound for `classes` classes
-pub record IsSoundDraft (classes : ℕ) (draft : Draft) : Type 0 where
+pub record IsSoundDraft (classes : ℕ) (draft : RuleDraft) : Type 0 where
   pub kept : AreKept draft.opts draft.held draft.names draft.fast
   pub msg : IfSome draft.msg (λ msg. length msg ≤ 1024)
   pub gid : IfSome draft.gid (λ gid. 1 ≤ gid)
@@ -111,7 +111,7 @@ abbrev pub IsPlain : Opt → Type 0
 IsPlain option = (is_fast option ≡ false) × ((names : List ℕ) → names_after_one names option ≡ names)
 
 -- the last content after one more option
-held-kept : (opts : List Opt) (option : Opt) (held : Option Held) → IfSome held (IsHeld opts) → IfSome held (IsHeld (opts ++ option ∷ []))
+held-kept : (opts : List Opt) (option : Opt) (held : Option LastContent) → IfSome held (IsHeld opts) → IfSome held (IsHeld (opts ++ option ∷ []))
 held-kept opts option None h = tt
 held-kept opts option (Some held) h =
     let front : take held.place (opts ++ option ∷ []) ≡ take held.place opts = take-append-le held.place opts (option ∷ []) h.place in
@@ -128,7 +128,7 @@ held-kept opts option (Some held) h =
     longer opts option place h = grind (arith, common_steps)
 
 -- one more option, which may extract a name
-pub kept-more : (opts : List Opt) (held : Option Held) (names after : List (List ℕ)) (fast : Bool) (option : Opt) → AreKept opts held names fast
+pub kept-more : (opts : List Opt) (held : Option LastContent) (names after : List (List ℕ)) (fast : Bool) (option : Opt) → AreKept opts held names fast
     → IsOption (names_after [] opts) option → is_fast option ≡ false → AreNamed (names_after_one (names_after [] opts) option) (length after) → length after ≤ 2
     → nat_le 64 (length opts + count_held held) ≡ false → AreKept (opts ++ option ∷ []) held after fast
 kept-more opts held names after fast option sound is_option plain named few room =
@@ -154,7 +154,7 @@ kept-more opts held names after fast option sound is_option plain named few room
     same e plain h = let chosen : Bool → ℕ = λ b. cond b 1 0 in omega (arith, e, ap chosen plain)
 
 -- one more option that extracts no name
-pub kept-sound : (classes : ℕ) (draft : Draft) (option : Opt)
+pub kept-sound : (classes : ℕ) (draft : RuleDraft) (option : Opt)
     → IsSoundDraft classes draft
     → IsOption (names_after [] draft.opts) option
     → IsPlain option
@@ -172,18 +172,18 @@ kept-sound classes draft option sound is_option plain =
     At found = AreNamed found (length draft.names)
 
 -- all options of a draft, the last content in its place
-pub settled-options : (opts : List Opt) (held : Option Held) → AreOptions [] opts → IfSome held (IsHeld opts) → AreOptions [] (with_held opts held)
+pub settled-options : (opts : List Opt) (held : Option LastContent) → AreOptions [] opts → IfSome held (IsHeld opts) → AreOptions [] (with_held opts held)
 settled-options opts None h k = h
 settled-options opts (Some held) h k = AreOptions-insert [] opts held.place held.content h k.content
 
-pub settled-names : (opts : List Opt) (held : Option Held) → names_after [] (with_held opts held) ≡ names_after [] opts
+pub settled-names : (opts : List Opt) (held : Option LastContent) → names_after [] (with_held opts held) ≡ names_after [] opts
 settled-names opts None = refl
 settled-names opts (Some held) = names_after-insert [] opts held.place held.content
 
-pub settled-length : (opts : List Opt) (held : Option Held) → IfSome held (IsHeld opts) → length (with_held opts held) ≡ length opts + count_held held
+pub settled-length : (opts : List Opt) (held : Option LastContent) → IfSome held (IsHeld opts) → length (with_held opts held) ≡ length opts + count_held held
 settled-length opts None h = omega arith
 settled-length opts (Some held) h = length-insert opts held.place (opt.Content held.content) h.place
 
-pub settled-fast : (opts : List Opt) (held : Option Held) → count_by is_fast (with_held opts held) ≡ count_by is_fast opts + fast_held held
+pub settled-fast : (opts : List Opt) (held : Option LastContent) → count_by is_fast (with_held opts held) ≡ count_by is_fast opts + fast_held held
 settled-fast opts None = omega arith
 settled-fast opts (Some held) = sum_by-insert (λ o. cond (is_fast o) 1 0) opts held.place (opt.Content held.content)

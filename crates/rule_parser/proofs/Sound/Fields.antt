@@ -6,7 +6,7 @@ use Rattle.net_lists.specs.Numbers.{number_in}
 use Rattle.net_lists.specs.Stops.{or_kind}
 use Rattle.net_lists.proofs.Steps.{Holds, given, refused, tested, unless, weaker, chained, ranged}
 use Rattle.conf_types.specs.Sound.{IsWithin}
-use Rattle.rule_parser.specs.declared.draft.Draft.{Draft}
+use Rattle.rule_parser.specs.declared.draft.RuleDraft.{RuleDraft}
 use Rattle.rule_parser.specs.declared.fault.Fault.TheVariants.{OptionValue}
 use Rattle.rule_parser.specs.declared.fields.Sign.{Sign}
 use Rattle.rule_types.specs.declared.option.Cmp.{Cmp}
@@ -27,7 +27,7 @@ pub IsAnywhere : Opt → Type 0
 IsAnywhere option = ((names : List ℕ) → IsOption names option) × IsPlain option
 
 -- what any such option keeps
-pub anywhere-sound : (classes : ℕ) (draft : Draft) → IsSoundDraft classes draft → (option : Opt) → IsAnywhere option → Holds (IsSoundDraft classes) (kept draft option)
+pub anywhere-sound : (classes : ℕ) (draft : RuleDraft) → IsSoundDraft classes draft → (option : Opt) → IsAnywhere option → Holds (IsSoundDraft classes) (kept draft option)
 unfolding IsAnywhere
 anywhere-sound classes draft sound option h = kept-sound classes draft option sound (h.0 (names_after [] draft.opts)) h.1
 
@@ -110,16 +110,16 @@ compare_of-anywhere field.Ack text = signed-anywhere field.Ack text
 compare_of-anywhere field.IcmpId text = signed-anywhere field.IcmpId text
 compare_of-anywhere field.IcmpSeq text = signed-anywhere field.IcmpSeq text
 
-pub field-sound : (classes : ℕ) (which : Field) (draft : Draft) → IsSoundDraft classes draft → (value : List ℕ) → Holds (IsSoundDraft classes) (field_option which draft value)
+pub field-sound : (classes : ℕ) (which : Field) (draft : RuleDraft) → IsSoundDraft classes draft → (value : List ℕ) → Holds (IsSoundDraft classes) (field_option which draft value)
 unfolding field_option
 field-sound classes which draft sound value = chained (compare_of-anywhere which value) (anywhere-sound classes draft sound)
 
-pub dsize-sound : (classes : ℕ) (draft : Draft) → IsSoundDraft classes draft → (value : List ℕ) → Holds (IsSoundDraft classes) (dsize_option draft value)
+pub dsize-sound : (classes : ℕ) (draft : RuleDraft) → IsSoundDraft classes draft → (value : List ℕ) → Holds (IsSoundDraft classes) (dsize_option draft value)
 unfolding dsize_option
 dsize-sound classes draft sound value =
     chained (compare_of-anywhere field.Dsize value) (λ option h.
     unless _ _ (λ _. anywhere-sound classes (record draft { dsize = true }) (search sound) option h))
 
-pub sameip-sound : (classes : ℕ) (draft : Draft) → IsSoundDraft classes draft → (value : Option (List ℕ)) → Holds (IsSoundDraft classes) (sameip_option draft value)
+pub sameip-sound : (classes : ℕ) (draft : RuleDraft) → IsSoundDraft classes draft → (value : Option (List ℕ)) → Holds (IsSoundDraft classes) (sameip_option draft value)
 unfolding sameip_option
 sameip-sound classes draft sound value = unless (is_some value) _ (λ _. kept-sound classes draft opt.SameIp sound tt (refl, λ names. refl))

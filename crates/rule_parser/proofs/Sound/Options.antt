@@ -9,7 +9,7 @@ use Rattle.net_lists.proofs.Steps.{Holds, given, refused, tested, kinded, chaine
 use Rattle.conf_types.specs.declared.classes.Class.{Class}
 use Rattle.rule_parser.specs.declared.draft.ClassName.{ClassName}
 use Rattle.rule_parser.specs.declared.draft.ClassName.TheVariants as class
-use Rattle.rule_parser.specs.declared.draft.Draft.{Draft}
+use Rattle.rule_parser.specs.declared.draft.RuleDraft.{RuleDraft}
 use Rattle.rule_parser.specs.declared.fault.Fault.TheVariants.{OptionSyntax, OptionValue}
 use Rattle.rule_parser.specs.declared.header.Header.{Header}
 use Rattle.rule_parser.specs.declared.names.Modifier.{Modifier}
@@ -45,7 +45,7 @@ class_place-there (first ∷ rest) name = go (class_place (first ∷ rest) name)
     go None e = tt
     go (Some place) e = (position-Some (λ class. bytes_eq class.name name) (first ∷ rest) place first e).0
 
-module _ (classes : List Class) (draft : Draft) (sound : IsSoundDraft (length classes) draft) where
+module _ (classes : List Class) (draft : RuleDraft) (sound : IsSoundDraft (length classes) draft) where
   text-sound : (n : TextName) (value : Option (List ℕ)) → Holds (IsSoundDraft (length classes)) (text_option classes draft n value)
   unfolding text_option
   text-sound text.Msg value = after_any (or_kind OptionValue value) (msg-sound (length classes) draft sound)
@@ -101,7 +101,7 @@ module _ (classes : List Class) (draft : Draft) (sound : IsSoundDraft (length cl
   rule_option-sound names few left text = let option = written left text in after_any (or_kind (no_name option.name) (option_name option.name)) (named-sound names few option.left option.value)
 
 -- all options keep what is read sound, beside at most 1024 flowbit names
-pub rule_options-sound : (classes : List Class) (texts : List (List ℕ)) (names : List (List ℕ)) (draft : Draft) (left : ℕ)
+pub rule_options-sound : (classes : List Class) (texts : List (List ℕ)) (names : List (List ℕ)) (draft : RuleDraft) (left : ℕ)
     → length names ≤ 1024
     → IsSoundDraft (length classes) draft
     → Holds (IsSoundBeside (length classes)) (rule_options classes names draft left texts)
@@ -120,7 +120,7 @@ pub record AreShort (header : Header) : Type 0 where
   pub dports : length header.dports ≤ 1024
 
 -- a rule whose options are read is sound
-pub finished-sound : (classes : List Class) (header : Header) (draft : Draft) → AreShort header → IsSoundDraft (length classes) draft → Holds (IsSound classes) (finished classes header draft)
+pub finished-sound : (classes : List Class) (header : Header) (draft : RuleDraft) → AreShort header → IsSoundDraft (length classes) draft → Holds (IsSound classes) (finished classes header draft)
 unfolding finished settled class_of
 finished-sound classes header draft short_lists sound =
     chained (kinded _ draft.sid sound.sid) (λ sid least.

@@ -5,11 +5,11 @@ use Rattle.std.proofs.lemmas.Bool.Decides.{nat_tests}
 use Rattle.std.proofs.lemmas.List.Elements.{All-nil, All-cons}
 use Rattle.net_lists.specs.Stops.{or_kind}
 use Rattle.net_lists.proofs.Steps.{Holds, given, refused, tested, unless, chained, after_any}
-use Rattle.rule_parser.specs.declared.draft.Draft.{Draft}
+use Rattle.rule_parser.specs.declared.draft.RuleDraft.{RuleDraft}
 use Rattle.rule_parser.specs.declared.fault.Fault.TheVariants.{OptionValue}
 use Rattle.rule_types.specs.declared.option.Opt.TheVariants as opt
 use Rattle.rule_parser.specs.declared.quoted.Style.TheVariants.{Pattern}
-use Rattle.rule_parser.specs.declared.quoted.Place.TheVariants.{Plain}
+use Rattle.rule_parser.specs.declared.quoted.QuotedPlace.TheVariants.{Plain}
 use Rattle.rule_parser.specs.Contents.{negation}
 use Rattle.rule_parser.specs.Patterns.{no_flags, flags_of, pattern_flags, is_ascii, expression_of, pcre, pcre_option}
 use Rattle.rule_parser.specs.Quotes.{quoted, meaning}
@@ -47,6 +47,6 @@ pcre-anywhere value =
     fits : (len : ℕ) → nat_lt 4096 len ≡ false → len ≤ 4096
     fits len short = grind (arith, nat_tests)
 
-pub pcre-sound : (classes : ℕ) (draft : Draft) → IsSoundDraft classes draft → (value : List ℕ) → Holds (IsSoundDraft classes) (pcre_option draft value)
+pub pcre-sound : (classes : ℕ) (draft : RuleDraft) → IsSoundDraft classes draft → (value : List ℕ) → Holds (IsSoundDraft classes) (pcre_option draft value)
 unfolding pcre_option
 pcre-sound classes draft sound value = chained (pcre-anywhere value) (anywhere-sound classes draft sound)

@@ -4,10 +4,10 @@ use Rattle.std.proofs.lemmas.Bool.Decides.{nat_tests}
 use Rattle.net_lists.specs.Cutting.{comma_parts}
 use Rattle.net_lists.specs.Stops.{or_kind}
 use Rattle.net_lists.proofs.Steps.{Holds, given, refused, tested, unless, weaker, chained, after_any, ranged}
-use Rattle.rule_parser.specs.declared.draft.Draft.{Draft}
+use Rattle.rule_parser.specs.declared.draft.RuleDraft.{RuleDraft}
 use Rattle.rule_parser.specs.declared.fault.Fault.TheVariants.{OptionValue}
 use Rattle.rule_parser.specs.declared.quoted.Style.TheVariants.{Message}
-use Rattle.rule_parser.specs.declared.quoted.Place.TheVariants.{Plain}
+use Rattle.rule_parser.specs.declared.quoted.QuotedPlace.TheVariants.{Plain}
 use Rattle.rule_types.specs.declared.rule.Period.{Period}
 use Rattle.rule_parser.specs.Periods.{counted, period_parts, detection_filter_option, after_key}
 use Rattle.rule_parser.specs.Quotes.{meaning}
@@ -18,7 +18,7 @@ once-least : (before : Option ℕ) (least : ℕ) (value : List ℕ) → Holds (�
 unfolding once
 once-least before least value = chained (ranged _ least 4294967295 value) (λ number within. unless _ _ (λ _. given within.0))
 
-module _ (classes : ℕ) (draft : Draft) (sound : IsSoundDraft classes draft) where
+module _ (classes : ℕ) (draft : RuleDraft) (sound : IsSoundDraft classes draft) where
   pub gid-sound : (value : List ℕ) → Holds (IsSoundDraft classes) (gid_option draft value)
   unfolding gid_option
   gid-sound value = chained (once-least draft.gid 1 value) (λ gid least. given (search (least, sound)))

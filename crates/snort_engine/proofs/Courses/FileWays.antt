@@ -11,8 +11,8 @@ use Rattle.alert_lines.specs.RecordLines.{entry_lines}
 use Rattle.alert_lines.specs.Written.{WritesPart}
 use Rattle.snort_engine.specs.declared.status.Status.{Status}
 use Rattle.snort_engine.specs.declared.status.Status.TheVariants as status
-use Rattle.snort_engine.specs.declared.stop.Stop.{Stop}
-use Rattle.snort_engine.specs.declared.stop.Stop.TheVariants as stop
+use Rattle.snort_engine.specs.declared.stop.RunStop.{RunStop}
+use Rattle.snort_engine.specs.declared.stop.RunStop.TheVariants as stop
 use Rattle.snort_engine.specs.Messages.{bad_unified2_text}
 use Rattle.snort_engine.specs.Course.{Way, Stops, Lists, Course, IsFileWay}
 use Rattle.snort_engine.specs.Answer.{Answer, answer_of, way_answer}
@@ -59,7 +59,7 @@ ahead_lists files course lines before after ended lists own =
     subst (λ (way : Way). ReadsAheadOn files way before after ended) (sym lists) own
 
 -- the lines were written whole, or a part of them
-pub listed_ends : (files : Files) (course : Course) (lines : List ℕ) (before after : Work) (outcome : Result (Unit {0}) Stop) → course.way ≡ Lists lines
+pub listed_ends : (files : Files) (course : Course) (lines : List ℕ) (before after : Work) (outcome : Result (Unit {0}) RunStop) → course.way ≡ Lists lines
     → after.left ≡ before.left → after.opens ≡ before.opens
     → OnOk outcome (after.alerts ≡ grown before.alerts lines) → OnErr outcome (WritesPart before.alerts lines after.alerts) → IfErr outcome IsWriteStop
     → Ends files course before after (outcome_status outcome) (concat course.warnings ++ outcome_text [] outcome)
@@ -80,12 +80,12 @@ listed_ends files course lines before after (Err stop.CannotWrite) lists left op
 listed_ends files course lines before after (Err why) lists left opens whole part kind = absurd kind
 
 -- writing alone may have failed
-pub write_risen : {Risen : Type 0} (outcome : Result (Unit {0}) Stop) → IfErr outcome IsWriteStop → (IsErrOf outcome stop.CannotWrite → Risen) → outcome_status outcome ≡ status.WriteFault → Risen
+pub write_risen : {Risen : Type 0} (outcome : Result (Unit {0}) RunStop) → IfErr outcome IsWriteStop → (IsErrOf outcome stop.CannotWrite → Risen) → outcome_status outcome ≡ status.WriteFault → Risen
 write_risen (Ok done) kind risen is = absurd cc
 write_risen (Err stop.CannotWrite) kind risen is = risen refl
 write_risen (Err why) kind risen is = absurd kind
 
-pub no_host_stop : (outcome : Result (Unit {0}) Stop) → IfErr outcome IsWriteStop → outcome_status outcome ≡ status.HostFault → ⊥
+pub no_host_stop : (outcome : Result (Unit {0}) RunStop) → IfErr outcome IsWriteStop → outcome_status outcome ≡ status.HostFault → ⊥
 no_host_stop (Ok done) kind is = cc
 no_host_stop (Err stop.CannotWrite) kind is = cc
 no_host_stop (Err why) kind is = absurd kind

@@ -6,8 +6,8 @@ use Rattle.edge_io.specs.declared.host.LoadFault.{LoadFault}
 use Rattle.edge_io.specs.declared.host.LoadFault.TheVariants as load
 use Rattle.alert_lines.specs.RecordLines.{AreLinesOf}
 use Rattle.snort_engine.specs.declared.status.Status.TheVariants as status
-use Rattle.snort_engine.specs.declared.stop.Stop.{Stop}
-use Rattle.snort_engine.specs.declared.stop.Stop.TheVariants as stop
+use Rattle.snort_engine.specs.declared.stop.RunStop.{RunStop}
+use Rattle.snort_engine.specs.declared.stop.RunStop.TheVariants as stop
 use Rattle.snort_engine.specs.Course.{Stops, Lists, IsFileWay, AreListed, most_file_bytes}
 use Rattle.snort_engine.specs.Steps.Stop.{stop_text}
 use Rattle.snort_engine.specs.Steps.Preparing.{HasCause, ListsBytes, ListsFile, StopsAtFile, stops}
@@ -17,7 +17,7 @@ pub are_listed : (bytes lines : List ℕ) → AreLinesOf bytes lines → AreList
 are_listed bytes lines told = record { entries = told.entries; are = told.are; is = ap Lists told.is }
 
 -- a file that was loaded
-pub file_listed : (name bytes : List ℕ) (files : Files) (rose : Type 0) (outcome : Result (List ℕ) Stop) → get files name ≡ Some bytes → length bytes ≤ most_file_bytes
+pub file_listed : (name bytes : List ℕ) (files : Files) (rose : Type 0) (outcome : Result (List ℕ) RunStop) → get files name ≡ Some bytes → length bytes ≤ most_file_bytes
     → ListsBytes bytes outcome → ListsFile name files rose outcome
 unfolding stop_text
 file_listed name bytes files rose (Ok lines) is short listed =
@@ -27,14 +27,14 @@ file_listed name bytes files rose (Err (stop.BadUnified2 place)) is short bad =
 file_listed name bytes files rose (Err stop.NoMemory) is short listed = cc
 file_listed name bytes files rose (Err why) is short listed = absurd listed
 
-pub listed_cause : (bytes : List ℕ) (rose : Type 0) (host : Option Files) (outcome : Result (List ℕ) Stop) → ListsBytes bytes outcome → IfErr outcome (HasCause rose host)
+pub listed_cause : (bytes : List ℕ) (rose : Type 0) (host : Option Files) (outcome : Result (List ℕ) RunStop) → ListsBytes bytes outcome → IfErr outcome (HasCause rose host)
 listed_cause bytes rose host (Ok lines) listed = cc
 listed_cause bytes rose host (Err (stop.BadUnified2 place)) bad = cc
 listed_cause bytes rose host (Err stop.NoMemory) listed = cc
 listed_cause bytes rose host (Err why) listed = absurd listed
 
 -- a file that was not
-pub file_unloaded : (name : List ℕ) (files : Files) (rose : Type 0) (fault : LoadFault) (why : Stop) → StopsAtFile name fault why
+pub file_unloaded : (name : List ℕ) (files : Files) (rose : Type 0) (fault : LoadFault) (why : RunStop) → StopsAtFile name fault why
     → (fault ≡ load.TooLarge → IsLonger (Some files) name most_file_bytes) → (fault ≡ load.Failed → rose ⊎ Lacks (Some files) name) → ListsFile name files rose (Err why)
 unfolding stop_text
 file_unloaded name files rose load.Failed (stop.CannotReadFile file) is longer failed = (is, failed refl)
@@ -44,7 +44,7 @@ file_unloaded name files rose load.TooLarge (stop.Refused message) is longer fai
 file_unloaded name files rose fault stop.NoMemory is longer failed = cc
 file_unloaded name files rose fault why is longer failed = absurd is
 
-pub unloaded_cause : (name : List ℕ) (host : Option Files) (rose : Type 0) (fault : LoadFault) (why : Stop) → StopsAtFile name fault why
+pub unloaded_cause : (name : List ℕ) (host : Option Files) (rose : Type 0) (fault : LoadFault) (why : RunStop) → StopsAtFile name fault why
     → (fault ≡ load.Failed → rose ⊎ Lacks host name) → HasCause rose host why
 unloaded_cause name host rose load.Failed (stop.CannotReadFile file) is failed = subst (λ (n : List ℕ). rose ⊎ Lacks host n) (sym is) (failed refl)
 unloaded_cause name host rose load.TooLarge (stop.Refused message) is failed = cc

@@ -9,12 +9,12 @@ use Rattle.edge_io.specs.declared.link.Link.{Link}
 use Rattle.edge_io.specs.declared.moment.Moment.{Moment}
 use Rattle.pcap_input.specs.Savefile.{number_at}
 use Rattle.pcapng_input.specs.declared.block.Block.{Block}
-use Rattle.pcapng_input.specs.declared.block.Kind.{Kind}
-use Rattle.pcapng_input.specs.declared.block.Kind.TheVariants as kind
+use Rattle.pcapng_input.specs.declared.block.BlockKind.{BlockKind}
+use Rattle.pcapng_input.specs.declared.block.BlockKind.TheVariants as kind
 use Rattle.pcapng_input.specs.declared.capture.NgFault.{NgFault}
 use Rattle.pcapng_input.specs.declared.capture.NgRecord.{NgRecord}
-use Rattle.pcapng_input.specs.declared.content.Content.{Content}
-use Rattle.pcapng_input.specs.declared.content.Content.TheVariants as content
+use Rattle.pcapng_input.specs.declared.content.BlockContent.{BlockContent}
+use Rattle.pcapng_input.specs.declared.content.BlockContent.TheVariants as content
 use Rattle.pcapng_input.specs.declared.resolution.Resolution.{Resolution}
 use Rattle.pcapng_input.specs.declared.walk.Interface.{Interface}
 use Rattle.pcapng_input.specs.declared.walk.Walk.{Walk}
@@ -29,13 +29,13 @@ use Rattle.unified2_out.specs.Records.{AllFit}
 use Rattle.snort_engine.proofs.Fits.Savefiles.{FitsCaptured, IsByte}
 
 -- a packet's captured bytes are no more than a record may have
-abbrev IsShort : Result Content NgFault → Type 0
+abbrev IsShort : Result BlockContent NgFault → Type 0
 IsShort (Ok (content.Packet packet)) = packet.captured ≤ 262144
 IsShort (Ok content.Skipped) = ⊤
 IsShort (Ok (content.Interface link snaplen)) = ⊤
 IsShort (Err why) = ⊤
 
-choice : (test : Bool) (x y : Result Content NgFault) → IsShort x → (test ≡ false → IsShort y) → IsShort (if test then x else y)
+choice : (test : Bool) (x y : Result BlockContent NgFault) → IsShort x → (test ≡ false → IsShort y) → IsShort (if test then x else y)
 choice true x y one other = one
 choice false x y one other = other refl
 
@@ -73,7 +73,7 @@ interface_short : (walk : Walk) (front : List ℕ) → IsShort (interface_of wal
 unfolding interface_of
 interface_short walk front = choice (nat_le 4096 (length walk.section.interfaces)) _ _ tt (λ few. tt)
 
-content_short : (walk : Walk) (which : Kind) (total : ℕ) (front : List ℕ) → IsShort (content_of walk (record { kind = which; total = total }) front)
+content_short : (walk : Walk) (which : BlockKind) (total : ℕ) (front : List ℕ) → IsShort (content_of walk (record { kind = which; total = total }) front)
 unfolding content_of
 content_short walk kind.Section total front = section_short walk front
 content_short walk kind.Interface total front = interface_short walk front
@@ -97,7 +97,7 @@ interface_fits walk block link snaplen inner more None is all = subst FitsStep (
 interface_fits walk block link snaplen inner more (Some resolution) is all =
     subst FitsStep (sym (given-interface walk block link snaplen inner more resolution is)) all
 
-given_fits : (walk : Walk) (block : Block) (told : Content) (inner more : List ℕ) → IsShort (Ok told) → AllFit 1 inner → AllFit 1 more → FitsStep (given_by walk block told inner more)
+given_fits : (walk : Walk) (block : Block) (told : BlockContent) (inner more : List ℕ) → IsShort (Ok told) → AllFit 1 inner → AllFit 1 more → FitsStep (given_by walk block told inner more)
 unfolding given_by
 given_fits walk block content.Skipped inner more short own all = all
 given_fits walk block (content.Interface link snaplen) inner more short own all = interface_fits walk block link snaplen inner more _ refl all
@@ -106,7 +106,7 @@ given_fits walk block (content.Packet packet) inner more short own all =
     let less : length (take packet.captured inner) ≤ 262144 = omega (arith, few, length-take packet.captured inner) in
     (record { short = less; bytes = All-take IsByte packet.captured inner own }, all)
 
-closing_fits : (walk : Walk) (block : Block) (told : Content) (after : List ℕ) → IsShort (Ok told) → AllFit 1 after → FitsStep (closing walk block told after)
+closing_fits : (walk : Walk) (block : Block) (told : BlockContent) (after : List ℕ) → IsShort (Ok told) → AllFit 1 after → FitsStep (closing walk block told after)
 unfolding closing
 closing_fits walk block told after short all =
     either (nat_lt (length after) (inner_length block + 4)) _ _ tt
@@ -114,7 +114,7 @@ closing_fits walk block told after short all =
     (given_fits walk block told (take (inner_length block) after) (drop (inner_length block + 4) after) short
     (All-take IsByte (inner_length block) after all) (All-drop IsByte (inner_length block + 4) after all)) tt)
 
-fronted_fits : (walk : Walk) (block : Block) (front after : List ℕ) (told : Result Content NgFault) → content_of walk block front ≡ told → AllFit 1 after
+fronted_fits : (walk : Walk) (block : Block) (front after : List ℕ) (told : Result BlockContent NgFault) → content_of walk block front ≡ told → AllFit 1 after
     → FitsStep (fronted walk block front after)
 fronted_fits walk block front after (Err why) is all = subst FitsStep (sym (fronted-err walk block front why is after)) tt
 fronted_fits walk block front after (Ok told) is all =

@@ -21,8 +21,8 @@ use Rattle.unified2_out.specs.declared.record.U2.{U2}
 use Rattle.unified2_out.specs.declared.record.U2.TheVariants.{Event as an_event, Packet as a_packet}
 use Rattle.unified2_out.specs.Records.{AllFit, AreOfOneVersion, IsInRange, event_octets, event_ports, event_words, packet_words, unified2_text}
 use Rattle.unified2_out.specs.Reading.{IsRecord, AreRecordsOf, joined_text}
-use Rattle.command_words.specs.declared.asked.Form.{Form}
-use Rattle.command_words.specs.declared.asked.Form.TheVariants as form
+use Rattle.command_words.specs.declared.asked.AlertForm.{AlertForm}
+use Rattle.command_words.specs.declared.asked.AlertForm.TheVariants as form
 use Rattle.flow_lanes.specs.Fits as of_lanes
 use Rattle.flow_lanes.specs.Fits.{FitsBody, FitsHead, FitsHits, FitsIp}
 use Rattle.packet_decode.specs.declared.packet.Body.{Body}
@@ -289,7 +289,7 @@ are_entries plan records state is rules captured =
     let count = alert_count plan [] in
     record {
       each = entries_are count alerts (trace_fits plan records state rules captured);
-      joined = joined_texts plan.config.classes count alerts ∙ ap (λ (f : Form). texts_from (text_of f plan.config.classes) count alerts) (sym is);
+      joined = joined_texts plan.config.classes count alerts ∙ ap (λ (f : AlertForm). texts_from (text_of f plan.config.classes) count alerts) (sym is);
     }
 
 pub answer_entries : (plan : Plan) (bytes warnings : List ℕ) → plan.form ≡ form.Unified2 → All FitsRule plan.rules → AllFit 1 bytes

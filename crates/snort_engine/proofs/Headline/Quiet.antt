@@ -13,14 +13,14 @@ use Rattle.snort_setup.specs.declared.stop.SetupStop.TheVariants as setup
 use Rattle.snort_setup.specs.Answers.{OnReadyOrRefused}
 use Rattle.alert_lines.specs.declared.fault.WriteFault.{WriteFault}
 use Rattle.alert_lines.specs.declared.fault.WriteFault.TheVariants as write
-use Rattle.snort_engine.specs.declared.batch.Reached.{Reached}
-use Rattle.snort_engine.specs.declared.batch.Reached.TheVariants.{More, End, Fault}
+use Rattle.snort_engine.specs.declared.batch.BatchEnd.{BatchEnd}
+use Rattle.snort_engine.specs.declared.batch.BatchEnd.TheVariants.{More, End, Fault}
 use Rattle.pcapng_input.specs.declared.fault.ReadFault.{ReadFault}
 use Rattle.pcapng_input.specs.declared.fault.ReadFault.TheVariants as fault
 use Rattle.snort_engine.specs.declared.status.Status.{Status}
 use Rattle.snort_engine.specs.declared.status.Status.TheVariants as status
-use Rattle.snort_engine.specs.declared.stop.Stop.{Stop}
-use Rattle.snort_engine.specs.declared.stop.Stop.TheVariants as stop
+use Rattle.snort_engine.specs.declared.stop.RunStop.{RunStop}
+use Rattle.snort_engine.specs.declared.stop.RunStop.TheVariants as stop
 use Rattle.snort_engine.specs.Answer.{fault_status}
 use Rattle.snort_engine.specs.Ending.{IsUncut}
 use Rattle.pcapng_input.specs.Faults.{of_savefile, of_blocks}
@@ -52,7 +52,7 @@ uncut_written status.NoMemory uncut = absurd cc
 -- ---- stops
 
 -- what was written whole met no fault
-pub written_quiet : (outcome : Result (Unit {0}) Stop) (old new : ℕ) → IfErr outcome IsWriteStop → OnOk outcome (new ≡ old) → WritesQuietly outcome old new
+pub written_quiet : (outcome : Result (Unit {0}) RunStop) (old new : ℕ) → IfErr outcome IsWriteStop → OnOk outcome (new ≡ old) → WritesQuietly outcome old new
 written_quiet (Ok done) old new kind quiet written = quiet
 written_quiet (Err stop.CannotWrite) old new kind quiet written = absurd cc
 written_quiet (Err why) old new kind quiet written = absurd kind
@@ -64,12 +64,12 @@ setup_uncut A holds (setup.CannotRead name) so uncut = absurd cc
 setup_uncut A holds setup.NoMemory so uncut = absurd cc
 
 -- where the host failed at a Unified2 file, the run was cut short
-failed_uncut : (name : List ℕ) (why : Stop) → StopsAtFile name load.Failed why → is_uncut (stop_status why) ≡ true → ⊥
+failed_uncut : (name : List ℕ) (why : RunStop) → StopsAtFile name load.Failed why → is_uncut (stop_status why) ≡ true → ⊥
 failed_uncut name (stop.CannotReadFile file) so uncut = cc
 failed_uncut name stop.NoMemory so uncut = cc
 failed_uncut name why so uncut = absurd so
 
-pub file_uncut : (A : Type 0) (name : List ℕ) (fault : LoadFault) (why : Stop) → StopsAtFile name fault why → is_uncut (stop_status why) ≡ true → IsErrOf {T = A} (Err fault) load.Failed → ⊥
+pub file_uncut : (A : Type 0) (name : List ℕ) (fault : LoadFault) (why : RunStop) → StopsAtFile name fault why → is_uncut (stop_status why) ≡ true → IsErrOf {T = A} (Err fault) load.Failed → ⊥
 file_uncut A name fault why so uncut is =
     let same : fault ≡ load.Failed = cc in
     failed_uncut name why (subst (λ (f : LoadFault). StopsAtFile name f why) same so) uncut
@@ -122,7 +122,7 @@ caused_fault A cause old new why failed quiet same_alerts = record {
 }
 
 -- a batch was read up to what was reached, and its lines were written
-pub caused_reached : (cause : Type 0) (old new : Faults) (reached : Reached) → (reached ≡ Fault fault.Failed → cause) → (reached ≢ Fault fault.Failed → new.host ≡ old.host)
+pub caused_reached : (cause : Type 0) (old new : Faults) (reached : BatchEnd) → (reached ≡ Fault fault.Failed → cause) → (reached ≢ Fault fault.Failed → new.host ≡ old.host)
     → new.alerts ≡ old.alerts → HasCauses cause old new (outcome_status (more_of reached))
 caused_reached cause old new More failed quiet same_alerts = caused_done cause old new (quiet (λ is. cc)) same_alerts
 caused_reached cause old new End failed quiet same_alerts = caused_done cause old new (quiet (λ is. cc)) same_alerts

@@ -9,7 +9,7 @@ use Rattle.alert_lines.specs.Written.{WritesPart}
 use Rattle.alert_lines.proofs.Prefixes.{WritesPart-none, WritesPart-all, WritesPart-longer, WritesPart-after}
 use Rattle.snort_engine.specs.declared.status.Status.{Status}
 use Rattle.snort_engine.specs.declared.status.Status.TheVariants as status
-use Rattle.snort_engine.specs.declared.stop.Stop.{Stop}
+use Rattle.snort_engine.specs.declared.stop.RunStop.{RunStop}
 use Rattle.snort_engine.specs.Messages.{no_memory_text}
 use Rattle.snort_engine.specs.Steps.Stop.{outcome_status}
 use Rattle.snort_engine.specs.Outside.{TellsMessage}
@@ -110,17 +110,17 @@ tells_message warnings text first middle last at_first at_middle at_last false l
 -- ---- the message of an outcome
 
 -- what is told of an outcome, where the errors change so
-abbrev pub ReportsOn : List ℕ → Result (Unit {0}) Stop → Status → Bool → Option (List ℕ) → Option (List ℕ) → Type 0 → Type 0
+abbrev pub ReportsOn : List ℕ → Result (Unit {0}) RunStop → Status → Bool → Option (List ℕ) → Option (List ℕ) → Type 0 → Type 0
 ReportsOn text outcome ended well old new rose = Reports text outcome ended (λ t. TellsLast t well old new rose)
 
 -- the text of an outcome was told
-pub reports_told : (text made : List ℕ) (outcome : Result (Unit {0}) Stop) (ended : Status) (well still : Bool) (old new : Option (List ℕ)) (rose : Type 0)
+pub reports_told : (text made : List ℕ) (outcome : Result (Unit {0}) RunStop) (ended : Status) (well still : Bool) (old new : Option (List ℕ)) (rose : Type 0)
     → ended ≡ outcome_status outcome → made ≡ text → TellsOn made well old new rose still → ReportsOn text outcome ended well old new rose
 reports_told text made outcome ended well still old new rose is same told =
     inl (is, subst (λ (t : List ℕ). TellsLast t well old new rose) same (tells_last made well still old new rose told))
 
 -- memory was lacking for it
-pub reports_untold : (text : List ℕ) (outcome : Result (Unit {0}) Stop) (well still : Bool) (old new : Option (List ℕ))
+pub reports_untold : (text : List ℕ) (outcome : Result (Unit {0}) RunStop) (well still : Bool) (old new : Option (List ℕ))
     (rose : Type 0)
     → TellsOn no_memory_text well old new rose still
     → ReportsOn text outcome status.NoMemory well old new rose

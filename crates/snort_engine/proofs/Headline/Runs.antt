@@ -4,8 +4,8 @@ use Rattle.std.proofs.Common.{◌≡◌, ℕ, ◌+◌, ◌≤◌, Bool, true, fa
 use Rattle.std.specs.List.{concat}
 use Rattle.edge_io.specs.Told.{grown, Rose, one_more}
 use Rattle.edge_io.specs.Files.{Files, Lacks}
-use Rattle.snort_engine.specs.declared.plan.Source.{Source}
-use Rattle.snort_engine.specs.declared.plan.Source.TheVariants.{File, Made}
+use Rattle.snort_engine.specs.declared.plan.CaptureSource.{CaptureSource}
+use Rattle.snort_engine.specs.declared.plan.CaptureSource.TheVariants.{File, Made}
 use Rattle.snort_engine.specs.Records.{IsToldOther}
 use Rattle.snort_engine.specs.Steps.Reader.{MayBeOther, OpensSo}
 use Rattle.snort_engine.specs.Steps.Sources.{IsMade, LacksCapture, OpensOn, way_from}
@@ -16,8 +16,8 @@ use Rattle.command_words.specs.CommandLine.{Asked, command_line}
 use Rattle.rule_eval.specs.Hits.{Test, Tells}
 use Rattle.snort_engine.specs.declared.status.Status.{Status}
 use Rattle.snort_engine.specs.declared.status.Status.TheVariants as status
-use Rattle.snort_engine.specs.declared.stop.Stop.{Stop}
-use Rattle.snort_engine.specs.declared.stop.Stop.TheVariants as stop
+use Rattle.snort_engine.specs.declared.stop.RunStop.{RunStop}
+use Rattle.snort_engine.specs.declared.stop.RunStop.TheVariants as stop
 use Rattle.snort_engine.specs.Course.{Plan, Way, Stops, Goes, Makes, Lists, Course, Given, given, IsCourse, IsFileless, IsForMade, AreRefused}
 use Rattle.snort_engine.specs.Answer.{Answer, answer_of, way_answer, capture_answer}
 use Rattle.snort_engine.specs.Messages.{no_memory_text}
@@ -105,7 +105,7 @@ on_course_untold asked here warnings message ended before after has early unopen
 
 module _ {A : Type 0} (view : A → Way) (asked : Option Asked) (here : Given) (before after : Work) (warnings : List (List ℕ)) (unopened : IsUntouched before after) where
   -- how a stop ends a run
-  stop_ends : (host : Option Files) (why : Stop) → HasCause (Rose before.host_faults after.host_faults) host why
+  stop_ends : (host : Option Files) (why : RunStop) → HasCause (Rose before.host_faults after.host_faults) host why
       → Prepares view asked here (Rose before.host_faults after.host_faults) (Err why) warnings
       → EndsRun asked here before after (stop_status why) (concat warnings ++ stop_text [] why)
   unfolding stop_text
@@ -124,7 +124,7 @@ module _ {A : Type 0} (view : A → Way) (asked : Option Asked) (here : Given) (
   stop_ends host why cause has = absurd cause
 
   -- how a stop ends a run where memory was lacking for its message
-  stop_untold : (host : Option Files) (why : Stop) → HasCause (Rose before.host_faults after.host_faults) host why
+  stop_untold : (host : Option Files) (why : RunStop) → HasCause (Rose before.host_faults after.host_faults) host why
       → Prepares view asked here (Rose before.host_faults after.host_faults) (Err why) warnings
       → EndsRun asked here before after status.NoMemory (concat warnings ++ no_memory_text)
   stop_untold host stop.Usage cause has = inl (on_course_untold asked here warnings _ _ before after has (inl tt) unopened)
@@ -245,7 +245,7 @@ headline words means before after ended run = record {
 -- ---- a run that was stopped before its capture
 
 -- a stop at a file that couldn't be read has its answer, or the host's count rose
-stop_answered : {A : Type 0} (view : A → Way) (asked : Option Asked) (here : Given) (rose : Type 0) (host : Option Files) (why : Stop) (warnings : List (List ℕ)) → HasCause rose host why
+stop_answered : {A : Type 0} (view : A → Way) (asked : Option Asked) (here : Given) (rose : Type 0) (host : Option Files) (why : RunStop) (warnings : List (List ℕ)) → HasCause rose host why
     → Prepares view asked here rose (Err why) warnings
     → stop_status why ≡ status.HostFault → rose ⊎ HasAnswer asked here status.HostFault
 stop_answered view asked here rose host (stop.CannotReadFile name) warnings cause has failed =
@@ -258,26 +258,26 @@ stop_answered view asked here rose host (stop.Capture why) warnings cause has fa
 stop_answered view asked here rose host why warnings cause has failed = absurd cc
 
 -- without told files the host's count rose
-stop_untold_rose : (rose : Type 0) (host : Option Files) (why : Stop) → HasCause rose host why → stop_status why ≡ status.HostFault → host ≡ None → rose
+stop_untold_rose : (rose : Type 0) (host : Option Files) (why : RunStop) → HasCause rose host why → stop_status why ≡ status.HostFault → host ≡ None → rose
 stop_untold_rose rose host (stop.CannotReadFile name) cause failed none = ⊎_elim (λ (r : rose). r) (λ (lacks : Lacks host name). absurd (subst (λ (h : Option Files). Lacks h name) none lacks)) cause
 stop_untold_rose rose host (stop.Capture why) cause failed none = absurd cause
 stop_untold_rose rose host why cause failed none = absurd cc
 
 -- no stop before the capture is a fault of writing
-no_write_stop : (rose : Type 0) (host : Option Files) (why : Stop) → HasCause rose host why → stop_status why ≡ status.WriteFault → ⊥
+no_write_stop : (rose : Type 0) (host : Option Files) (why : RunStop) → HasCause rose host why → stop_status why ≡ status.WriteFault → ⊥
 no_write_stop rose host stop.CannotWrite cause failed = cause
 no_write_stop rose host (stop.Capture why) cause failed = cause
 no_write_stop rose host why cause failed = absurd cc
 
 -- faulty words are refused
-faulty_status : {A : Type 0} (answer : Result A Stop) → IsForFaultyWords answer → (outcome_status answer ≡ status.Refused) ⊎ (outcome_status answer ≡ status.NoMemory)
+faulty_status : {A : Type 0} (answer : Result A RunStop) → IsForFaultyWords answer → (outcome_status answer ≡ status.Refused) ⊎ (outcome_status answer ≡ status.NoMemory)
 faulty_status (Ok ready) faulty = absurd faulty
 faulty_status (Err stop.CommandLine) faulty = inl refl
 faulty_status (Err stop.NoMemory) faulty = inr refl
 faulty_status (Err why) faulty = absurd faulty
 
 -- what is told of a run: its warnings, and then what is reported of its outcome
-pub record IsTold (warnings : List (List ℕ)) (text : List ℕ) (outcome : Result (Unit {0}) Stop) (before after : Outside) (ended : Status) : Type 0 where
+pub record IsTold (warnings : List (List ℕ)) (text : List ℕ) (outcome : Result (Unit {0}) RunStop) (before after : Outside) (ended : Status) : Type 0 where
   pub middle : Option (List ℕ)
   pub at_middle : ℕ
   pub well : Bool
@@ -287,13 +287,13 @@ pub record IsTold (warnings : List (List ℕ)) (text : List ℕ) (outcome : Resu
   pub reports : ReportsOn text outcome ended well middle after.errors (Rose at_middle after.error_faults)
 
 -- a status other than NoMemory is that of the outcome
-by_outcome : (warnings : List (List ℕ)) (text : List ℕ) (outcome : Result (Unit {0}) Stop) (before after : Outside) (ended other : Status) → IsTold warnings text outcome before after ended
+by_outcome : (warnings : List (List ℕ)) (text : List ℕ) (outcome : Result (Unit {0}) RunStop) (before after : Outside) (ended other : Status) → IsTold warnings text outcome before after ended
     → (status.NoMemory ≡ other → ⊥) → ended ≡ other → outcome_status outcome ≡ other
 by_outcome warnings text outcome before after ended other told apart is =
     ⊎_elim (λ said. sym said.0 ∙ is) (λ untold. absurd (apart (sym untold.0 ∙ is))) told.reports
 
 -- a run that isn't cut short has an outcome that isn't
-uncut_by_outcome : (warnings : List (List ℕ)) (text : List ℕ) (outcome : Result (Unit {0}) Stop) (before after : Outside) (ended : Status) → IsTold warnings text outcome before after ended
+uncut_by_outcome : (warnings : List (List ℕ)) (text : List ℕ) (outcome : Result (Unit {0}) RunStop) (before after : Outside) (ended : Status) → IsTold warnings text outcome before after ended
     → IsUncut ended → is_uncut (outcome_status outcome) ≡ true
 uncut_by_outcome warnings text outcome before after ended told uncut =
     ⊎_elim
@@ -302,20 +302,20 @@ uncut_by_outcome warnings text outcome before after ended told uncut =
     told.reports
 
 -- a run that isn't cut short met no fault of the host and none of the alert sink, where the work met none
-quiet_run : (warnings : List (List ℕ)) (text : List ℕ) (outcome : Result (Unit {0}) Stop) (before after : Outside) (ended : Status) → IsTold warnings text outcome before after ended
+quiet_run : (warnings : List (List ℕ)) (text : List ℕ) (outcome : Result (Unit {0}) RunStop) (before after : Outside) (ended : Status) → IsTold warnings text outcome before after ended
     → ReadsQuietly outcome before.host_faults after.host_faults → WritesQuietly outcome before.alert_faults after.alert_faults
     → IsUncut ended → (after.host_faults ≡ before.host_faults) × (after.alert_faults ≡ before.alert_faults)
 quiet_run warnings text outcome before after ended told reads writes uncut =
     let so = uncut_by_outcome warnings text outcome before after ended told uncut in
     (reads so, writes (uncut_written (outcome_status outcome) so))
 
-quiet_alerts_run : (warnings : List (List ℕ)) (text : List ℕ) (outcome : Result (Unit {0}) Stop) (before after : Outside) (ended : Status) → IsTold warnings text outcome before after ended
+quiet_alerts_run : (warnings : List (List ℕ)) (text : List ℕ) (outcome : Result (Unit {0}) RunStop) (before after : Outside) (ended : Status) → IsTold warnings text outcome before after ended
     → WritesQuietly outcome before.alert_faults after.alert_faults → ended ≡ status.HostFault → after.alert_faults ≡ before.alert_faults
 quiet_alerts_run warnings text outcome before after ended told writes failed =
     writes (ap is_written (by_outcome warnings text outcome before after ended status.HostFault told (λ e. cc) failed))
 
 -- a run that ends so by its outcome, and so where memory is lacking for the message
-ends_told : (asked : Option Asked) (here : Given) (warnings : List (List ℕ)) (text : List ℕ) (outcome : Result (Unit {0}) Stop) (before after : Outside) (ended : Status)
+ends_told : (asked : Option Asked) (here : Given) (warnings : List (List ℕ)) (text : List ℕ) (outcome : Result (Unit {0}) RunStop) (before after : Outside) (ended : Status)
     → IsTold warnings text outcome before after ended
     → EndsRun asked here (work_of before) (work_of after) (outcome_status outcome) (concat warnings ++ text)
     → EndsRun asked here (work_of before) (work_of after) status.NoMemory (concat warnings ++ no_memory_text)
@@ -345,9 +345,13 @@ same_other asked here warnings way has other =
     subst (BeginsOtherwise (Some here.files)) (ap (λ (c : Course). c.way) same ∙ has.way_is) other.other
 
 -- a run that was stopped before a capture that begins as no savefile does was cut short
-stop_cut : {A : Type 0} (view : A → Way) (asked : Option Asked) (here : Given) (before after : Outside) (ended : Status) (host : Option Files) (why : Stop) (warnings : List (List ℕ)) (text : List ℕ)
+stop_cut : {A : Type 0} (view : A → Way) (asked : Option Asked) (here : Given) (before after : Outside) (ended : Status)
+    (host : Option Files) (why : RunStop) (warnings : List (List ℕ)) (text : List ℕ)
     → HasCause (Rose before.host_faults after.host_faults) host why
-    → Prepares view asked here (Rose before.host_faults after.host_faults) (Err why) warnings → IsTold warnings text (Err why) before after ended → HasOther asked here → MayBeCut before after ended
+    → Prepares view asked here (Rose before.host_faults after.host_faults) (Err why) warnings
+    → IsTold warnings text (Err why) before after ended
+    → HasOther asked here
+    → MayBeCut before after ended
 stop_cut view asked here before after ended host stop.Usage warnings text cause has told other = absurd (same_other asked here warnings _ has other)
 stop_cut view asked here before after ended host stop.Version warnings text cause has told other = absurd (same_other asked here warnings _ has other)
 stop_cut view asked here before after ended host (stop.Accepted rules) warnings text cause has told other = absurd (same_other asked here warnings _ has other)
@@ -363,7 +367,7 @@ stop_cut view asked here before after ended host stop.NoMemory warnings text cau
 stop_cut view asked here before after ended host why warnings text cause has told other = absurd cause
 
 -- what is known of a run that was stopped
-pub record IsStopped {A : Type 0} (ways : Test → A → Way) (asked : Option Asked) (before after : Outside) (why : Stop) (warnings : List (List ℕ)) : Type 0 where
+pub record IsStopped {A : Type 0} (ways : Test → A → Way) (asked : Option Asked) (before after : Outside) (why : RunStop) (warnings : List (List ℕ)) : Type 0 where
   pub prepared : (files : Files) → before.files ≡ Some files → IsPrepared ways asked files (Rose before.host_faults after.host_faults) (refused_since before after) (Err why) warnings
   pub cause : HasCause (Rose before.host_faults after.host_faults) before.files why
   pub faulty_words : asked ≡ None → IsForFaultyWords {A = A} (Err why)
@@ -374,7 +378,7 @@ pub record IsStopped {A : Type 0} (ways : Test → A → Way) (asked : Option As
   pub same_files : after.files ≡ before.files
   pub counts : NoCountFell before after
 
-pub stopped_run : {A : Type 0} (ways : Test → A → Way) (asked : Option Asked) (means : Means) (before after : Outside) (why : Stop) (warnings : List (List ℕ)) (ended : Status)
+pub stopped_run : {A : Type 0} (ways : Test → A → Way) (asked : Option Asked) (means : Means) (before after : Outside) (why : RunStop) (warnings : List (List ℕ)) (ended : Status)
     → (test : Test) × Tells means test
     → IsStopped ways asked before after why warnings → IsTold warnings (stop_text [] why) (Err why) before after ended → IsRun asked means before after ended
 stopped_run {A} ways asked means before after why warnings ended decided run told = record {
@@ -444,7 +448,7 @@ opens_most told (Makes plan seed count) failed old new opens = omega (arith, ope
 opens_most told (Lists lines) failed old new opens = omega (arith, opens)
 
 -- one that is made isn't opened
-pub opens_made : (told : Option Files) (source : Source) (plan : Plan) (failed : Type 0) (old new : ℕ) → IsMade source → OpensOn told (way_from source plan) failed old new → new ≡ old
+pub opens_made : (told : Option Files) (source : CaptureSource) (plan : Plan) (failed : Type 0) (old new : ℕ) → IsMade source → OpensOn told (way_from source plan) failed old new → new ≡ old
 opens_made told (File name) plan failed old new made opens = absurd made
 opens_made told (Made seed count) plan failed old new made opens = opens
 
@@ -467,7 +471,7 @@ opens_by asked here warnings before after ended failed (Goes plan) rises has ope
     opens
 
 -- what is known of a run that shown its capture
-pub record IsShowing {A : Type 0} (ways : Test → A → Way) (asked : Option Asked) (means : Means) (before after : Outside) (ready : A) (text : List ℕ) (outcome : Result (Unit {0}) Stop)
+pub record IsShowing {A : Type 0} (ways : Test → A → Way) (asked : Option Asked) (means : Means) (before after : Outside) (ready : A) (text : List ℕ) (outcome : Result (Unit {0}) RunStop)
     (warnings : List (List ℕ)) :
     Type 0 where
   pub middle : Work
@@ -487,7 +491,7 @@ pub record IsShowing {A : Type 0} (ways : Test → A → Way) (asked : Option As
   pub counts : NoCountFell before after
 
 -- the run on its course
-showing_on : {A : Type 0} (ways : Test → A → Way) (asked : Option Asked) (means : Means) (before after : Outside) (ready : A) (text : List ℕ) (outcome : Result (Unit {0}) Stop)
+showing_on : {A : Type 0} (ways : Test → A → Way) (asked : Option Asked) (means : Means) (before after : Outside) (ready : A) (text : List ℕ) (outcome : Result (Unit {0}) RunStop)
     (warnings : List (List ℕ)) (matches : Test) (files : Files) (here : Given)
     → here.files ≡ files → IsShowing ways asked means before after ready text outcome warnings → Tells means matches → before.files ≡ Some files → HasWay asked here warnings (ways matches ready)
     → (course : Course) × IsCourse asked here course × (course.warnings ≡ warnings) × (course.way ≡ ways matches ready) ×
@@ -523,7 +527,7 @@ none_lacking (Makes plan seed count) lacks = lacks
 none_lacking (Lists lines) lacks = lacks
 none_lacking (Goes plan) lacks = lacks
 
-pub shown_run : {A : Type 0} (ways : Test → A → Way) (asked : Option Asked) (means : Means) (before after : Outside) (ready : A) (text : List ℕ) (outcome : Result (Unit {0}) Stop)
+pub shown_run : {A : Type 0} (ways : Test → A → Way) (asked : Option Asked) (means : Means) (before after : Outside) (ready : A) (text : List ℕ) (outcome : Result (Unit {0}) RunStop)
     (warnings : List (List ℕ)) (ended : Status)
     → (test : Test) × Tells means test
     → IsShowing ways asked means before after ready text outcome warnings → IsTold warnings text outcome before after ended → IsRun asked means before after ended

@@ -9,10 +9,10 @@ use Rattle.edge_io.specs.declared.sink.Sink.{Ghosts as SinkOf}
 use Rattle.edge_io.proofs.Hosts.Seeing.{seen_earlier, seen_lacks, told, told_seen}
 use Rattle.option_eval.specs.Places.{Means}
 use Rattle.snort_engine.specs.declared.status.Status.{Status}
-use Rattle.snort_engine.specs.declared.stop.Stop.{Stop}
-use Rattle.snort_engine.specs.declared.stop.Stop.TheVariants as stop
-use Rattle.snort_engine.specs.declared.plan.Source.{Source}
-use Rattle.snort_engine.specs.declared.plan.Source.TheVariants.{File, Made}
+use Rattle.snort_engine.specs.declared.stop.RunStop.{RunStop}
+use Rattle.snort_engine.specs.declared.stop.RunStop.TheVariants as stop
+use Rattle.snort_engine.specs.declared.plan.CaptureSource.{CaptureSource}
+use Rattle.snort_engine.specs.declared.plan.CaptureSource.TheVariants.{File, Made}
 use Rattle.snort_engine.specs.Course.{Course, Plan}
 use Rattle.snort_engine.specs.Outside.{by, outside, work}
 use Rattle.snort_engine.specs.Ending.{Ends}
@@ -47,7 +47,7 @@ cause_by h old new name rose seen law same may (inl counted) = inl counted
 cause_by h old new name rose seen law same may (inr lacks) = inr (lacks_by h old new name seen law same may lacks)
 
 -- a stop before the capture has its cause by what is seen
-pub stop_cause_by : {H : Type 0} (h : HostOf H) (old new : H) (rose : Type 0) (why : Stop) (seen : Option Files)
+pub stop_cause_by : {H : Type 0} (h : HostOf H) (old new : H) (rose : Type 0) (why : RunStop) (seen : Option Files)
     → AsTold (h.contents new) (h.left new) (h.agrees new) (h.left_of new)
     → h.contents new ≡ h.contents old
     → MaySee (h.contents new) (h.agrees new) seen
@@ -57,7 +57,7 @@ stop_cause_by h old new rose (stop.CannotReadFile name) seen law same may cause 
 stop_cause_by h old new rose why seen law same may cause = cause
 
 -- a capture that a host told before to lack, what is seen lacks
-pub capture_cause_by : {H : Type 0} (h : HostOf H) (old new : H) (source : Source) (plan : Plan) (rose : Type 0)
+pub capture_cause_by : {H : Type 0} (h : HostOf H) (old new : H) (source : CaptureSource) (plan : Plan) (rose : Type 0)
     (seen : Option Files)
     → AsTold (h.contents new) (h.left new) (h.agrees new) (h.left_of new)
     → h.contents new ≡ h.contents old

@@ -23,13 +23,13 @@ use Rattle.snort_setup.proofs.One.{setup-one}
 use Rattle.snort_engine.specs.declared.plan.Plan as code
 use Rattle.snort_engine.specs.declared.prepare.Task.TheVariants.{Show, Tell}
 use Rattle.snort_engine.specs.declared.status.Status.TheVariants as status
-use Rattle.snort_engine.specs.declared.stop.Stop.{Stop}
-use Rattle.snort_engine.specs.declared.stop.Stop.TheVariants as stop
+use Rattle.snort_engine.specs.declared.stop.RunStop.{RunStop}
+use Rattle.snort_engine.specs.declared.stop.RunStop.TheVariants as stop
 use Rattle.snort_engine.specs.Course.{Way, Stops, Makes, Lists, Course, Given, given, IsCourse, IsFileWay, IsFileless, IsForMade}
 use Rattle.snort_engine.specs.Course.{HasOneCourse, checks_of, plan_for, Reads, AreRefused, setup_words, told_warnings, way_ready}
 use Rattle.snort_engine.specs.Course.{way_of, course_by, stopping}
-use Rattle.snort_engine.specs.declared.plan.Source.{Source}
-use Rattle.snort_engine.specs.declared.plan.Source.TheVariants.{File, Made}
+use Rattle.snort_engine.specs.declared.plan.CaptureSource.{CaptureSource}
+use Rattle.snort_engine.specs.declared.plan.CaptureSource.TheVariants.{File, Made}
 use Rattle.snort_engine.specs.Steps.Sources.{IsMade, IsSourceFor, source_name, way_from}
 use Rattle.snort_engine.specs.Steps.Detecting.{IsRanged}
 use Rattle.snort_engine.specs.Messages.{usage_text, version_text, accepted_text, command_line_text, cannot_read_text}
@@ -62,7 +62,7 @@ none_refused (Some (run wanted)) files grown = none_refused_by (setup_words want
 -- ---- words that read no file
 
 -- a stop that comes without a warning, over no refused lines
-stopped_at_once : {A : Type 0} (view : Test → A → Way) (asked : Option Asked) (files : Files) (rose : Type 0) (grown : List Refusal) (why : Stop) (warnings : List (List ℕ)) → warnings ≡ []
+stopped_at_once : {A : Type 0} (view : Test → A → Way) (asked : Option Asked) (files : Files) (rose : Type 0) (grown : List Refusal) (why : RunStop) (warnings : List (List ℕ)) → warnings ≡ []
     → ((matches : Test) → Prepares (view matches) asked (given files matches []) rose (Err why) []) → IsPrepared view asked files rose grown (Err why) warnings
 stopped_at_once view asked files rose grown why warnings none has =
     subst (λ (w : List (List ℕ)). IsPrepared view asked files rose grown (Err why) w) (sym none)
@@ -115,7 +115,7 @@ pub prepared_lacking : {A : Type 0} (view : Test → A → Way) (asked : Option 
 prepared_lacking view asked files rose grown warnings none = stopped_at_once view asked files rose grown stop.NoMemory warnings none (λ matches. refl)
 
 -- words that read no file stop so, over any files
-fileless : {A : Type 0} (asked : Option Asked) (rose : Type 0) (why : Stop) (warnings : List (List ℕ)) → warnings ≡ []
+fileless : {A : Type 0} (asked : Option Asked) (rose : Type 0) (why : RunStop) (warnings : List (List ℕ)) → warnings ≡ []
     → ((view : A → Way) (here : Given) → Prepares view asked here rose (Err why) []) → StopsFileless {A = A} asked rose (Err why) warnings
 fileless {A} asked rose why warnings none has = λ view here. subst (λ (w : List (List ℕ)). Prepares view asked here rose (Err why) w) (sym none) (has view here)
 
@@ -172,7 +172,7 @@ prepared_listed {P} asked file files rose grown lines warnings is none lists =
     (listed_file {P = P} file files rose grown lines lists))
 
 -- a Unified2 file has no lines, and the way says why
-unlisted_way : {A : Type 0} (view : A → Way) (file : List ℕ) (here : Given) (rose : Type 0) (why : Stop)
+unlisted_way : {A : Type 0} (view : A → Way) (file : List ℕ) (here : Given) (rose : Type 0) (why : RunStop)
     → ListsFile file here.files rose (Err why)
     → Prepares view (Some (records_of file)) here rose (Err why) []
 unfolding Reads stop_text
@@ -189,7 +189,7 @@ unlisted_way view file here rose stop.NoMemory lists = refl
 unlisted_way view file here rose why lists = absurd lists
 
 pub prepared_unlisted : {A : Type 0} (view : Test → A → Way) (asked : Option Asked) (file : List ℕ) (files : Files)
-    (rose : Type 0) (grown : List Refusal) (why : Stop) (warnings : List (List ℕ))
+    (rose : Type 0) (grown : List Refusal) (why : RunStop) (warnings : List (List ℕ))
     → asked ≡ Some (records_of file)
     → warnings ≡ []
     → ListsFile file files rose (Err why)
@@ -243,7 +243,7 @@ pub task_ready : {P : Type 0} (asked : Option Asked) (files : Files) (rose : Typ
     → IsPrepared task_way asked files rose grown (Ok (Show prepared)) warnings
 task_ready asked files rose grown prepared warnings is = record { refused = is.refused; are_refused = is.are_refused; prepares = is.prepares }
 
-stopped_as : {A B : Type 0} (view : A → Way) (other : B → Way) (asked : Option Asked) (here : Given) (rose : Type 0) (why : Stop)
+stopped_as : {A B : Type 0} (view : A → Way) (other : B → Way) (asked : Option Asked) (here : Given) (rose : Type 0) (why : RunStop)
     (warnings : List (List ℕ))
     → Prepares view asked here rose (Err why) warnings
     → Prepares other asked here rose (Err why) warnings
@@ -252,7 +252,7 @@ stopped_as view other asked here rose stop.NoMemory warnings has = has
 stopped_as view other asked here rose why warnings has = has
 
 pub task_stopped : {A B : Type 0} (view : Test → A → Way) (other : Test → B → Way) (asked : Option Asked) (files : Files)
-    (rose : Type 0) (grown : List Refusal) (why : Stop) (warnings : List (List ℕ))
+    (rose : Type 0) (grown : List Refusal) (why : RunStop) (warnings : List (List ℕ))
     → IsPrepared view asked files rose grown (Err why) warnings
     → IsPrepared other asked files rose grown (Err why) warnings
 task_stopped view other asked files rose grown why warnings is = record {
@@ -262,7 +262,7 @@ task_stopped view other asked files rose grown why warnings is = record {
 }
 
 -- the detector was set up
-pub setup_ready : {P : Type 0} (wanted : Run) (files : Files) (rose : Type 0) (grown : List Refusal) (setup : Setup P) (answer : Result (code.Plan P) Stop) (warnings : List (List ℕ))
+pub setup_ready : {P : Type 0} (wanted : Run) (files : Files) (rose : Type 0) (grown : List Refusal) (setup : Setup P) (answer : Result (code.Plan P) RunStop) (warnings : List (List ℕ))
     → IsSetUp ready_of wanted files rose grown (Ok setup) warnings
     → ((matches : Test) → way_by (way_for matches) answer ≡ way_of matches wanted (Ok (ready_of setup))) → KeepsSetup setup answer
     → IsPrepared way_for (Some (run wanted)) files rose grown answer warnings
@@ -276,7 +276,7 @@ setup_ready {P} wanted files rose grown setup answer warnings set way keeps = re
       (way_by (way_for matches) answer) set.sets_up.gives set.told_are (way matches));
 }
   where
-    by_answer : (matches : Test) (a : Result (code.Plan P) Stop) → KeepsSetup setup a → HasWay (Some (run wanted)) (given files matches set.sets_up.refused) warnings (way_by (way_for matches) a)
+    by_answer : (matches : Test) (a : Result (code.Plan P) RunStop) → KeepsSetup setup a → HasWay (Some (run wanted)) (given files matches set.sets_up.refused) warnings (way_by (way_for matches) a)
         → Prepares (way_for matches) (Some (run wanted)) (given files matches set.sets_up.refused) rose a warnings
     by_answer matches (Ok prepared) kept has = has
     by_answer matches (Err (stop.Accepted rules)) kept has = has
@@ -300,14 +300,14 @@ one_course (Some (run wanted)) here a b (setup_a, is_a, of_a) (setup_b, is_b, of
 -- ---- where the capture comes from
 
 -- the way of a capture is that of the words
-pub way_from-words : (matches : Test) (wanted : Run) (ready : Ready) (source : Source) → IsSourceFor wanted (Some source)
+pub way_from-words : (matches : Test) (wanted : Run) (ready : Ready) (source : CaptureSource) → IsSourceFor wanted (Some source)
     → way_from source (plan_for matches wanted ready (source_name source)) ≡ way_ready matches wanted ready wanted.generate wanted.capture
 way_from-words matches wanted ready (File name) (unmade, named) =
     sym (ap (λ (generate : Option ℕ). way_ready matches wanted ready generate wanted.capture) unmade ∙ ap (way_ready matches wanted ready None) named)
 way_from-words matches wanted ready (Made seed count) (counted, seeded) =
     sym (ap (λ (generate : Option ℕ). way_ready matches wanted ready generate wanted.capture) counted ∙ ap (λ (s : ℕ). Makes (plan_for matches wanted ready []) s count) seeded)
 
-pub ready_way : (matches : Test) (wanted : Run) (ready : Ready) (source : Source) (checks : Checks) → wanted.test ≡ false → IsSourceFor wanted (Some source)
+pub ready_way : (matches : Test) (wanted : Run) (ready : Ready) (source : CaptureSource) (checks : Checks) → wanted.test ≡ false → IsSourceFor wanted (Some source)
     → checks ≡ option_map_or checks_of wanted.checks ready.config.checks
     → way_from source (record (plan_for matches wanted ready (source_name source)) { checks = checks }) ≡ way_of matches wanted (Ok ready)
 ready_way matches wanted ready source checks untested from are =
@@ -316,16 +316,18 @@ ready_way matches wanted ready source checks untested from are =
     ∙ sym (ap (λ (test : Bool). if test then Stops (accepted_text (length ready.rules)) status.Done else way_ready matches wanted ready wanted.generate wanted.capture) untested)
 
 -- words without a capture
-pub no_source : (wanted : Run) (found : Option Source) → ((source : Source) → found ≡ Some source → ⊥) → IsSourceFor wanted found → (wanted.generate ≡ None) × (wanted.capture ≡ None)
+pub no_source : (wanted : Run) (found : Option CaptureSource) → ((source : CaptureSource) → found ≡ Some source → ⊥) → IsSourceFor wanted found → (wanted.generate ≡ None) × (wanted.capture ≡ None)
 no_source wanted None absent is = is
 no_source wanted (Some source) absent is = absurd (absent source refl)
 
 -- where the words ask for a capture that is made, it is
-pub source_made : (wanted : Run) (source : Source) → IsSourceFor wanted (Some source) → IsSome wanted.generate → IsMade source
+pub source_made : (wanted : Run) (source : CaptureSource) → IsSourceFor wanted (Some source) → IsSome wanted.generate → IsMade source
 source_made wanted (File name) (unmade, named) asks = let none : false ≡ true = subst (λ (generate : Option ℕ). IsSome generate) unmade asks in absurd cc
 source_made wanted (Made seed count) is asks = tt
 
-pub run_made : {P : Type 0} (asked : Option Asked) (wanted : Run) (answer : Result (code.Plan P) Stop) → asked ≡ Some (run wanted) → IfOk answer (λ ready. IsSome wanted.generate → IsMade ready.source)
+pub run_made : {P : Type 0} (asked : Option Asked) (wanted : Run) (answer : Result (code.Plan P) RunStop)
+    → asked ≡ Some (run wanted)
+    → IfOk answer (λ ready. IsSome wanted.generate → IsMade ready.source)
     → IfOk answer (λ ready. IsForMade asked → IsMade ready.source)
 run_made asked wanted (Ok prepared) is made = λ for_made. made (subst IsForMade is for_made)
 run_made asked wanted (Err why) is made = tt
@@ -339,14 +341,14 @@ setup_cause rose host (halted.CannotRead name) cause = cause
 setup_cause rose host halted.NoMemory cause = tt
 
 -- a detector that was set up is stopped without a fault
-kept_cause : {P : Type 0} (rose : Type 0) (host : Option Files) (setup : Setup P) (answer : Result (code.Plan P) Stop) → KeepsSetup setup answer → IfErr answer (HasCause rose host)
+kept_cause : {P : Type 0} (rose : Type 0) (host : Option Files) (setup : Setup P) (answer : Result (code.Plan P) RunStop) → KeepsSetup setup answer → IfErr answer (HasCause rose host)
 kept_cause rose host setup (Ok prepared) kept = tt
 kept_cause rose host setup (Err (stop.Accepted rules)) kept = tt
 kept_cause rose host setup (Err stop.CommandLine) kept = tt
 kept_cause rose host setup (Err why) kept = absurd kept
 
 -- the causes of what was stopped, and of what wasn't
-pub stopped_early : {A : Type 0} (host : Option Files) (old new : ℕ) (why : Stop)
+pub stopped_early : {A : Type 0} (host : Option Files) (old new : ℕ) (why : RunStop)
     → HasCause (Rose old new) host why
     → (is_uncut (stop_status why) ≡ true → new ≡ old)
     → HasEarlyCauses {A = A} host old new (Err why)
@@ -355,13 +357,13 @@ stopped_early host old new why cause quiet = record { cause = cause; quiet = qui
 pub ready_early : {A : Type 0} (host : Option Files) (old new : ℕ) (ready : A) → new ≡ old → HasEarlyCauses host old new (Ok ready)
 ready_early host old new ready same = record { cause = tt; quiet = λ uncut. same }
 
-pub kept_early : {P : Type 0} (host : Option Files) (old new : ℕ) (setup : Setup P) (answer : Result (code.Plan P) Stop) → KeepsSetup setup answer → new ≡ old → HasEarlyCauses host old new answer
+pub kept_early : {P : Type 0} (host : Option Files) (old new : ℕ) (setup : Setup P) (answer : Result (code.Plan P) RunStop) → KeepsSetup setup answer → new ≡ old → HasEarlyCauses host old new answer
 kept_early host old new setup answer kept same = record { cause = kept_cause (Rose old new) host setup answer kept; quiet = λ uncut. same }
 
 -- ---- a detector that is ready
 
 -- the plan keeps its setup, and its numbers are those of the words
-pub kept_ready : {P : Type 0} (finds : P → List ℕ → Option Span) (means : Means) (setup : Setup P) (answer : Result (code.Plan P) Stop) (lanes flush : ℕ) → KeepsSetup setup answer
+pub kept_ready : {P : Type 0} (finds : P → List ℕ → Option Span) (means : Means) (setup : Setup P) (answer : Result (code.Plan P) RunStop) (lanes flush : ℕ) → KeepsSetup setup answer
     → IfOk answer (λ ready. (ready.lanes ≡ lanes) × (ready.flush ≡ flush)) → IsRanged lanes flush → IsReadySetup finds means setup → IfOk answer (IsReadyPlan finds means)
 kept_ready finds means setup (Err why) lanes flush kept same ranged sound = tt
 kept_ready {P} finds means setup (Ok prepared) lanes flush kept (same, too) ranged sound =

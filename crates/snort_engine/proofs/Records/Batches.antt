@@ -9,8 +9,8 @@ use Rattle.snort_engine.specs.declared.reader.RecordReader.{RecordReader}
 use Rattle.pcap_input.specs.Cut.{Clean}
 use Rattle.snort_engine.specs.Steps.Reader.{HasRead, AreWhole, EndsWith, IsRefusedBy}
 use Rattle.snort_engine.proofs.Records.Reading.{reading-joined, reading-whole, reading-stopped, reading-refused, reading-ended}
-use Rattle.snort_engine.specs.declared.batch.Reached.{Reached}
-use Rattle.snort_engine.specs.declared.batch.Reached.TheVariants.{More, End, Fault}
+use Rattle.snort_engine.specs.declared.batch.BatchEnd.{BatchEnd}
+use Rattle.snort_engine.specs.declared.batch.BatchEnd.TheVariants.{More, End, Fault}
 use Rattle.snort_engine.specs.Steps.Batch.{Place, HasStopped, Reaches, ReadsOn, more_of}
 use Rattle.snort_engine.specs.Steps.Stop.{is_whole, write_stop}
 
@@ -31,7 +31,7 @@ pub reads_nothing : (old : Place) → ReadsOn old old More
 reads_nothing old = λ first shown left_first read. read
 
 -- reading went on, and on
-pub reads_further : (old middle new : Place) (reached : Reached) → ReadsOn old middle More → ReadsOn middle new reached → ReadsOn old new reached
+pub reads_further : (old middle new : Place) (reached : BatchEnd) → ReadsOn old middle More → ReadsOn middle new reached → ReadsOn old new reached
 reads_further old middle new reached one two = λ first shown left_first read. two first shown left_first (one first shown left_first read)
 
 -- a record was given
@@ -88,7 +88,7 @@ showing_cuts write.Unwritten whole = cc
 showing_cuts write.NoMemory whole = cc
 
 -- more may follow only where a batch is full
-pub more_reached : (reached : Reached) → more_of reached ≡ Ok true → reached ≡ More
+pub more_reached : (reached : BatchEnd) → more_of reached ≡ Ok true → reached ≡ More
 more_reached More is = refl
 more_reached End is = absurd cc
 more_reached (Fault why) is = absurd cc

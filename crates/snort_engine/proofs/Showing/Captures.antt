@@ -16,8 +16,8 @@ use Rattle.pcapng_input.specs.declared.fault.ReadFault.TheVariants as fault
 use Rattle.snort_engine.specs.declared.reader.RecordReader.{RecordReader}
 use Rattle.snort_engine.specs.declared.status.Status.{Status}
 use Rattle.snort_engine.specs.declared.status.Status.TheVariants as status
-use Rattle.snort_engine.specs.declared.stop.Stop.{Stop}
-use Rattle.snort_engine.specs.declared.stop.Stop.TheVariants as stop
+use Rattle.snort_engine.specs.declared.stop.RunStop.{RunStop}
+use Rattle.snort_engine.specs.declared.stop.RunStop.TheVariants as stop
 use Rattle.snort_engine.specs.Course.{Plan, Goes, Course}
 use Rattle.pcap_input.specs.Cut.{AreWithin, Ending, Clean, Refused}
 use Rattle.snort_engine.specs.Records.{Recording, records_in, records_of}
@@ -60,7 +60,7 @@ none_due plan bytes none = ap (λ (x : List LinkedRecord). lines plan [] (earlie
 -- ---- the answer
 
 -- what is said of an outcome, with what was counted
-abbrev pub said : {A : Type 0} → Plan → Result A Stop → Counts → List ℕ
+abbrev pub said : {A : Type 0} → Plan → Result A RunStop → Counts → List ℕ
 said plan outcome counts = with_counts (outcome_text plan.source outcome) (counts_due plan.counted outcome counts)
 
 -- all warnings of a course
@@ -242,7 +242,7 @@ pub record IsOpenCapture (plan : Plan) (files : Files) (course : Course) (left_f
 
 -- how far was read where a write failed
 written_to : (plan : Plan) (reader : RecordReader) (taken : List ℕ) (left : Option (List ℕ)) (failed : Type 0)
-    (outcome : Result (Unit {0}) Stop)
+    (outcome : Result (Unit {0}) RunStop)
     → outcome_status outcome ≡ status.WriteFault
     → HasReadTo plan reader taken left failed outcome
     → AreBatches (recording_by plan reader taken).records ⊎ (IsReadOut plan reader taken left ⊎ failed)
@@ -269,7 +269,7 @@ batches_after plan front taken rest back reader left failed since begins told jo
 
 -- the lines follow closely the records of a capture that was opened
 ahead_after : (plan : Plan) (files : Files) (course : Course) (held : Option (List ℕ)) (bytes : List ℕ) (reader : RecordReader)
-    (left_first : Option (List ℕ)) (before after : Work) (failed : Type 0) (outcome : Result (Unit {0}) Stop)
+    (left_first : Option (List ℕ)) (before after : Work) (failed : Type 0) (outcome : Result (Unit {0}) RunStop)
     → held ≡ Some bytes
     → IsOpenCapture plan files course left_first bytes reader
     → IsCloseAfter plan reader (record { left = left_first; written = before.alerts })
@@ -361,7 +361,7 @@ part_of_show plan files course left_first left_last bytes reader before after o 
 
 -- the showing of a capture, where this is what a fault of the host leaves, and how far was read ahead
 pub shown_by : (plan : Plan) (files : Files) (course : Course) (left_first left_last : Option (List ℕ)) (bytes : List ℕ)
-    (reader : RecordReader) (before after : Work) (counts : Counts) (outcome : Result (Unit {0}) Stop)
+    (reader : RecordReader) (before after : Work) (counts : Counts) (outcome : Result (Unit {0}) RunStop)
     → IsOpenCapture plan files course left_first bytes reader
     → ShowsCapture plan reader (record { left = left_first; written = before.alerts })
     (record { left = left_last; written = after.alerts }) counts outcome
@@ -393,7 +393,7 @@ shown_by plan files course left_first left_last bytes reader before after counts
 
 -- a capture that was opened and shown
 pub capture_ends : (plan : Plan) (files : Files) (course : Course) (reader : RecordReader) (left_first : Option (List ℕ))
-    (before after : Work) (counts : Counts) (failed : Type 0) (outcome : Result (Unit {0}) Stop)
+    (before after : Work) (counts : Counts) (failed : Type 0) (outcome : Result (Unit {0}) RunStop)
     → course.way ≡ Goes plan
     → Opens (get files plan.source) (Ok reader) left_first
     → ShowsCapture plan reader (record { left = left_first; written = before.alerts })
@@ -424,7 +424,7 @@ capture_ends plan files course reader left_first before after counts failed outc
     (ahead_goes files course plan before after (outcome_status outcome) goes ahead))
 
 -- the capture was refused at once or not opened, and a run is stopped by that
-pub open_stops : (plan : Plan) (files : Files) (course : Course) (why : ReadFault) (before after : Work) (counts : Counts) (outcome : Result (Unit {0}) Stop) (stopped : Stop)
+pub open_stops : (plan : Plan) (files : Files) (course : Course) (why : ReadFault) (before after : Work) (counts : Counts) (outcome : Result (Unit {0}) RunStop) (stopped : RunStop)
     → counts ≡ no_counts → outcome ≡ Err stopped → stopped ≡ stop.Capture why
     → course.way ≡ Goes plan → after.alerts ≡ before.alerts
     → Opens (get files plan.source) (Err why) after.left
@@ -432,5 +432,5 @@ pub open_stops : (plan : Plan) (files : Files) (course : Course) (why : ReadFaul
     → Ends files course before after (outcome_status outcome) (warned course ++ said plan outcome counts)
 open_stops plan files course why before after counts outcome stopped none is from goes same opens failed =
     let by : outcome ≡ Err (stop.Capture why) = is ∙ ap Err from in
-    subst (λ (o : Result (Unit {0}) Stop). Ends files course before after (outcome_status o) (warned course ++ said plan o counts)) (sym by)
+    subst (λ (o : Result (Unit {0}) RunStop). Ends files course before after (outcome_status o) (warned course ++ said plan o counts)) (sym by)
     (open_ends plan files course why before after counts goes same (none ∙ no_counts-are plan) opens failed)

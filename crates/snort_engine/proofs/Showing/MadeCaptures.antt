@@ -12,7 +12,7 @@ use Rattle.alert_lines.specs.Written.{WritesPart}
 use Rattle.alert_lines.proofs.Prefixes.{WritesPart-none}
 use Rattle.snort_engine.specs.declared.status.Status.{Status}
 use Rattle.snort_engine.specs.declared.status.Status.TheVariants as status
-use Rattle.snort_engine.specs.declared.stop.Stop.{Stop}
+use Rattle.snort_engine.specs.declared.stop.RunStop.{RunStop}
 use Rattle.snort_engine.specs.declared.reader.RecordReader.{RecordReader}
 use Rattle.snort_engine.specs.declared.reader.RecordReader.TheVariants.{Savefile}
 use Rattle.snort_engine.specs.declared.counts.Counts.{Counts}
@@ -49,7 +49,7 @@ apart before alerts ended never = record { left = refl; opens = refl; no_host_fa
 -- a capture was made and shown, by a reader that had given no record
 pub made_ends : (plan : Plan) (files : Files) (course : Course) (seed count : ℕ) (bytes : List ℕ) (reader : RecordReader)
     (left_first left_last old new : Option (List ℕ))
-    (before : Work) (counts : Counts) (outcome : Result (Unit {0}) Stop)
+    (before : Work) (counts : Counts) (outcome : Result (Unit {0}) RunStop)
     → course.way ≡ Makes plan seed count
     → before.alerts ≡ old
     → bytes ≡ generated seed count

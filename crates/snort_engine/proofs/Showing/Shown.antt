@@ -15,8 +15,8 @@ use Rattle.snort_engine.specs.declared.detect.Detector.{Detector}
 use Rattle.pcapng_input.specs.declared.fault.ReadFault.{ReadFault}
 use Rattle.pcapng_input.specs.declared.fault.ReadFault.TheVariants as fault
 use Rattle.snort_engine.specs.declared.reader.RecordReader.{RecordReader}
-use Rattle.snort_engine.specs.declared.stop.Stop.{Stop}
-use Rattle.snort_engine.specs.declared.stop.Stop.TheVariants as stop
+use Rattle.snort_engine.specs.declared.stop.RunStop.{RunStop}
+use Rattle.snort_engine.specs.declared.stop.RunStop.TheVariants as stop
 use Rattle.snort_engine.specs.Course.{Plan}
 use Rattle.pcap_input.specs.Cut.{AreWithin, Ending, Clean, Refused, first_records}
 use Rattle.snort_engine.specs.Records.{Recording}
@@ -26,8 +26,8 @@ use Rattle.snort_engine.specs.Trace.{Open, Closed}
 use Rattle.snort_engine.specs.Lines.{lines}
 use Rattle.snort_engine.specs.Counts.{counts_of}
 use Rattle.snort_engine.specs.Steps.Batch.{Place, HasStopped, Reaches, ReadsOn, lacks_memory, more_of}
-use Rattle.snort_engine.specs.declared.batch.Reached.{Reached}
-use Rattle.snort_engine.specs.declared.batch.Reached.TheVariants.{More, End, Fault}
+use Rattle.snort_engine.specs.declared.batch.BatchEnd.{BatchEnd}
+use Rattle.snort_engine.specs.declared.batch.BatchEnd.TheVariants.{More, End, Fault}
 use Rattle.snort_engine.specs.ReadAhead.{batch, AreBatches}
 use Rattle.snort_engine.specs.Steps.Detecting.{Advances, Closes, IsDetectorAfter, ShowsRecordsPart, closing_lines, records_stage}
 use Rattle.snort_engine.specs.Steps.Showing.{Streams, Point, lines_of, lines_left, recording_by, IsRoom, most_at, room_after, IsReadOut, HasReadTo, IsUnderWay, IsAtEnd, IsReadCutShort, IsCloseAfter}
@@ -84,7 +84,7 @@ not_both b yes_ no_ = let e : true ≡ false = sym yes_ ∙ no_ in cc
 -- ---- what was reached
 
 -- whatever was reached, reading was at a reader after the records, and went no record further
-stopped_at : (first : RecordReader) (given : List LinkedRecord) (left_first : Option (List ℕ)) (now : Place) (reached : Reached) → Reaches first given left_first now reached
+stopped_at : (first : RecordReader) (given : List LinkedRecord) (left_first : Option (List ℕ)) (now : Place) (reached : BatchEnd) → Reaches first given left_first now reached
     → HasStopped first given left_first now.left
 stopped_at first given left_first now More read = record {
   following = now.reader;
@@ -96,7 +96,7 @@ stopped_at first given left_first now End (stopped, ends) = stopped
 stopped_at first given left_first now (Fault why) (stopped, ends) = stopped
 
 -- what was reached from the first reader on
-reached_after : (plan : Plan) (first : RecordReader) (start : Streams) (old : Point) (now : Place) (reached : Reached) (going : IsUnderWay plan first start old)
+reached_after : (plan : Plan) (first : RecordReader) (start : Streams) (old : Point) (now : Place) (reached : BatchEnd) (going : IsUnderWay plan first start old)
     → ReadsOn (record { reader = old.reader; records = []; left = old.streams.left }) now reached → Reaches first (going.given ++ now.records) start.left now reached
 reached_after plan first start old now reached going reads =
     reads first going.given start.left (subst (λ (given : List LinkedRecord). HasRead first old.reader given start.left old.streams.left) (sym (append-nil going.given)) going.read)
@@ -143,7 +143,7 @@ module _ (plan : Plan) (first : RecordReader) (room : Option ℕ) (given : List 
   fault_unwritten fault.NoMemory ends rose lacks = absurd (lacks refl)
 
 -- a batch was read whose lines weren't all written
-unwritten_to : (plan : Plan) (first : RecordReader) (room : Option ℕ) (given records : List LinkedRecord) (left_first : Option (List ℕ)) (now : Place) (reached : Reached) (failed : Type 0)
+unwritten_to : (plan : Plan) (first : RecordReader) (room : Option ℕ) (given records : List LinkedRecord) (left_first : Option (List ℕ)) (now : Place) (reached : BatchEnd) (failed : Type 0)
     (taken : List ℕ)
     → IsRoom plan.limit (length (given ++ records)) (room_after room (length records)) → AreBatches given ⊎ (most_at room ≡ 0)
     → (reached ≡ More → length records ≡ most_at room) → ((reached ≡ More → ⊥) → length records < most_at room)
@@ -165,7 +165,7 @@ unwritten_to plan first room given records left_first now (Fault why) failed tak
 -- ---- the end of all batches
 
 -- the lines of all whole records were written: they follow closely
-close_by : (plan : Plan) (first : RecordReader) (room : Option ℕ) (given : List LinkedRecord) (old after : Streams) (failed : Type 0) (outcome : Result (Unit {0}) Stop)
+close_by : (plan : Plan) (first : RecordReader) (room : Option ℕ) (given : List LinkedRecord) (old after : Streams) (failed : Type 0) (outcome : Result (Unit {0}) RunStop)
     → IsRoom plan.limit (length given) room
     → after.written ≡ grown old.written (lines_of plan given Open) → AreWhole first given old.left after.left
     → ((taken : List ℕ) → (recording_by plan first taken).records ≡ given → HasReadTo plan first taken old.left failed outcome)
@@ -252,7 +252,7 @@ batch_is plan records old new first start going faults after done shows =
     )
 
 -- a batch was read and shown
-pub batch_shown : (plan : Plan) (records : List LinkedRecord) (old new : Point) (failed : Type 0) (reached : Reached) (faults after : ℕ) (done : Unit {0})
+pub batch_shown : (plan : Plan) (records : List LinkedRecord) (old new : Point) (failed : Type 0) (reached : BatchEnd) (faults after : ℕ) (done : Unit {0})
     → length records ≤ most_at old.room → new.room ≡ room_after old.room (length records)
     → (reached ≡ More → length records ≡ most_at old.room) → ((reached ≡ More → ⊥) → length records < most_at old.room)
     → ReadsOn (record { reader = old.reader; records = []; left = old.streams.left }) (record { reader = new.reader; records = records; left = new.streams.left }) reached
@@ -267,7 +267,7 @@ batch_shown plan records old new failed reached faults after done few room_is fu
     some_left : length records < most_at old.room → 0 < most_at new.room
     some_left short = subst (λ (r : Option ℕ). 0 < most_at r) (sym room_is) (room_left old.room (length records) short)
 
-    by_case : (r : Reached) → (r ≡ More → length records ≡ most_at old.room) → ((r ≡ More → ⊥) → length records < most_at old.room)
+    by_case : (r : BatchEnd) → (r ≡ More → length records ≡ most_at old.room) → ((r ≡ More → ⊥) → length records < most_at old.room)
         → ReadsOn (record { reader = old.reader; records = []; left = old.streams.left }) (record { reader = new.reader; records = records; left = new.streams.left }) r
         → ShowsOn plan old new failed (more_of r)
     by_case More all short on = λ first start going.
@@ -304,13 +304,13 @@ batch_few None count few = few
 batch_few (Some room) count few = omega (arith, few)
 
 -- where a batch of these records is the last that is read, how far is known by its reading
-abbrev ReadsTo : Plan → List LinkedRecord → Point → Type 0 → Stop → Type 0
+abbrev ReadsTo : Plan → List LinkedRecord → Point → Type 0 → RunStop → Type 0
 ReadsTo plan records old failed why =
     (first : RecordReader) (start : Streams) (going : IsUnderWay plan first start old) (taken : List ℕ) → (recording_by plan first taken).records ≡ going.given ++ records
     → HasReadTo plan first taken start.left failed (Err why)
 
 -- a batch was read, and a part of its lines was written
-batch_part : (plan : Plan) (records : List LinkedRecord) (old new : Point) (failed : Type 0) (reached : Reached) (why : WriteFault)
+batch_part : (plan : Plan) (records : List LinkedRecord) (old new : Point) (failed : Type 0) (reached : BatchEnd) (why : WriteFault)
     → length records ≤ most_at old.room → ReadsTo plan records old failed (write_stop why)
     → ReadsOn (record { reader = old.reader; records = []; left = old.streams.left }) (record { reader = new.reader; records = records; left = new.streams.left }) reached
     → ShowsRecordsPart plan records old.detector old.streams.written new.streams.written
@@ -345,7 +345,7 @@ batch_part plan records old new failed reached why few to reads shown = λ first
     )
 
 -- where a write failed, or memory was lacking for the lines
-pub batch_stops : (plan : Plan) (records : List LinkedRecord) (old new : Point) (failed : Type 0) (reached : Reached) (why : WriteFault)
+pub batch_stops : (plan : Plan) (records : List LinkedRecord) (old new : Point) (failed : Type 0) (reached : BatchEnd) (why : WriteFault)
     → length records ≤ most_at old.room
     → (reached ≡ More → length records ≡ most_at old.room) → ((reached ≡ More → ⊥) → length records < most_at old.room)
     → (reached ≡ Fault fault.Failed → failed) → lacks_memory reached ≡ false
@@ -366,7 +366,7 @@ batch_stops plan records old new failed reached why few full fewer rose enough r
     by_fault write.NoMemory = λ first start going taken are. tt
 
 -- a batch, where memory was lacking for reading
-pub batch_lacks : (plan : Plan) (records : List LinkedRecord) (old new : Point) (failed : Type 0) (reached : Reached)
+pub batch_lacks : (plan : Plan) (records : List LinkedRecord) (old new : Point) (failed : Type 0) (reached : BatchEnd)
     → length records ≤ most_at old.room
     → ReadsOn (record { reader = old.reader; records = []; left = old.streams.left }) (record { reader = new.reader; records = records; left = new.streams.left }) reached
     → ShowsRecordsPart plan records old.detector old.streams.written new.streams.written
@@ -383,7 +383,7 @@ part_shown plan records old new first last faults after (Ok done) shows = λ bef
 part_shown plan records old new first last faults after (Err why) shows = λ before holds. shows.emits.part (record { inputs = before; hold = holds })
 
 -- how far was read from the start, where the host may have failed before
-to_since : (plan : Plan) (first : RecordReader) (taken : List ℕ) (left : Option (List ℕ)) (later since : Type 0) (outcome : Result (Unit {0}) Stop) → (later → since)
+to_since : (plan : Plan) (first : RecordReader) (taken : List ℕ) (left : Option (List ℕ)) (later since : Type 0) (outcome : Result (Unit {0}) RunStop) → (later → since)
     → HasReadTo plan first taken left later outcome → HasReadTo plan first taken left since outcome
 to_since plan first taken left later since (Ok done) rises to = to
 to_since plan first taken left later since (Err (stop.Capture fault.Failed)) rises to = tt
@@ -393,7 +393,7 @@ to_since plan first taken left later since (Err stop.CannotWrite) rises to =
     ⊎_elim (λ whole. inl whole) (λ (other : IsReadOut plan first taken left ⊎ later). inr (⊎_elim (λ out. inl out) (λ rose. inr (rises rose)) other)) to
 to_since plan first taken left later since (Err why) rises to = to
 
-pub comes_since : (plan : Plan) (first : RecordReader) (start now : Streams) (later since : Type 0) (detector : Detector) (outcome : Result (Unit {0}) Stop) → (later → since)
+pub comes_since : (plan : Plan) (first : RecordReader) (start now : Streams) (later since : Type 0) (detector : Detector) (outcome : Result (Unit {0}) RunStop) → (later → since)
     → ComesOver plan first start now later detector outcome
     → ComesOver plan first start now since detector outcome
 comes_since plan first start now later since detector outcome rises (came, close) = (
@@ -468,7 +468,7 @@ module _ (plan : Plan) (first : RecordReader) (start now : Streams) (detector : 
   sink_now = record { written = written; block = []; faults = after }
 
   -- cut short before it was closed
-  left_so : (shown : Result (Unit {0}) Stop) → is_whole shown ≡ false → Comes plan first start now detector shown → written ≡ now.written → ShowsCapture plan first start after_it counts shown
+  left_so : (shown : Result (Unit {0}) RunStop) → is_whole shown ≡ false → Comes plan first start now detector shown → written ≡ now.written → ShowsCapture plan first start after_it counts shown
   left_so (Ok done) cut came same = absurd cc
   left_so (Err (stop.Capture fault.Failed)) cut came same = (
     record { taken = came.0.taken; took = came.0.took; wrote = same ∙ came.0.wrote },
@@ -481,7 +481,7 @@ module _ (plan : Plan) (first : RecordReader) (start now : Streams) (detector : 
   left_so (Err why) cut came same = absurd cc
 
   -- a showing that came to its end was closed
-  closed_so : (shown : Result (Unit {0}) Stop) → is_whole shown ≡ true → Comes plan first start now detector shown → Closes plan detector sink_then sink_now (Ok counts)
+  closed_so : (shown : Result (Unit {0}) RunStop) → is_whole shown ≡ true → Comes plan first start now detector shown → Closes plan detector sink_then sink_now (Ok counts)
       → ShowsCapture plan first start after_it counts shown
   closed_so (Ok done) whole came closes = closed_to plan first start now detector Clean written faults after counts came closes now.left
   closed_so (Err (stop.Capture fault.Failed)) whole came closes = absurd cc
@@ -492,7 +492,7 @@ module _ (plan : Plan) (first : RecordReader) (start now : Streams) (detector : 
   closed_so (Err why) whole came closes = absurd came
 
   -- closed in part
-  closed_part_so : (shown : Result (Unit {0}) Stop) (why : WriteFault) → is_whole shown ≡ true → Comes plan first start now detector shown → Closes plan detector sink_then sink_now (Err why)
+  closed_part_so : (shown : Result (Unit {0}) RunStop) (why : WriteFault) → is_whole shown ≡ true → Comes plan first start now detector shown → Closes plan detector sink_then sink_now (Err why)
       → ShowsCapture plan first start after_it counts (Err (write_stop why))
   closed_part_so (Ok done) why whole came part = stopped_some plan first start after_it counts why (closed_some plan first start now detector Clean written faults after why came part now.left)
   closed_part_so (Err (stop.Capture fault.Failed)) why whole came part = absurd cc
@@ -503,23 +503,23 @@ module _ (plan : Plan) (first : RecordReader) (start now : Streams) (detector : 
       stopped_some plan first start after_it counts why (closed_some plan first start now detector (Refused other) written faults after why came part now.left)
   closed_part_so (Err other) why whole came part = absurd came
 
-  pub closed_show : (shown result_then : Result (Unit {0}) Stop) → Comes plan first start now detector shown → ClosesShown plan detector shown sink_then sink_now counts result_then
+  pub closed_show : (shown result_then : Result (Unit {0}) RunStop) → Comes plan first start now detector shown → ClosesShown plan detector shown sink_then sink_now counts result_then
       → ShowsCapture plan first start (record { left = now.left; written = written }) counts result_then
   unfolding ClosesShown
   closed_show shown result_then came how =
       ⊎_elim
       (λ (left : IsLeft shown result_then sink_then sink_now).
-      subst (λ (r : Result (Unit {0}) Stop). ShowsCapture plan first start after_it counts r) (sym left.1) (left_so shown left.0 came left.2))
+      subst (λ (r : Result (Unit {0}) RunStop). ShowsCapture plan first start after_it counts r) (sym left.1) (left_so shown left.0 came left.2))
       (λ shut. ⊎_elim
       (λ (whole : IsClosedWhole plan detector shown result_then sink_then sink_now counts).
-      subst (λ (r : Result (Unit {0}) Stop). ShowsCapture plan first start after_it counts r) (sym whole.1) (closed_so shown whole.0 came whole.2))
+      subst (λ (r : Result (Unit {0}) RunStop). ShowsCapture plan first start after_it counts r) (sym whole.1) (closed_so shown whole.0 came whole.2))
       (λ (part : IsClosedInPart plan detector shown result_then sink_then sink_now).
-      subst (λ (r : Result (Unit {0}) Stop). ShowsCapture plan first start after_it counts r) (sym part.1.1) (closed_part_so shown part.1.0 part.0 came part.1.2))
+      subst (λ (r : Result (Unit {0}) RunStop). ShowsCapture plan first start after_it counts r) (sym part.1.1) (closed_part_so shown part.1.0 part.0 came part.1.2))
       shut)
       how
 
   -- what was written in the closing comes after what was written before
-  wrote_more : (shown : Result (Unit {0}) Stop) → is_whole shown ≡ true → Comes plan first start now detector shown
+  wrote_more : (shown : Result (Unit {0}) RunStop) → is_whole shown ≡ true → Comes plan first start now detector shown
       → ((records : List LinkedRecord) → IsDetectorAfter plan records detector → (more : List ℕ) × (written ≡ grown now.written more))
       → (more : List ℕ) × (written ≡ grown now.written more)
   wrote_more (Ok done) whole came more = more came.given came.holds
@@ -535,7 +535,7 @@ module _ (plan : Plan) (first : RecordReader) (start now : Streams) (detector : 
   end_to failed taken write.Unwritten out = inr (inl out)
   end_to failed taken write.NoMemory out = tt
 
-  closing_to : (failed : Type 0) (taken : List ℕ) (shown : Result (Unit {0}) Stop) (why : WriteFault) → is_whole shown ≡ true → HasReadTo plan first taken start.left failed shown
+  closing_to : (failed : Type 0) (taken : List ℕ) (shown : Result (Unit {0}) RunStop) (why : WriteFault) → is_whole shown ≡ true → HasReadTo plan first taken start.left failed shown
       → HasReadTo plan first taken start.left failed (Err (write_stop why))
   closing_to failed taken (Ok done) why whole to = end_to failed taken why to
   closing_to failed taken (Err (stop.Capture fault.Failed)) why whole to = absurd cc
@@ -544,7 +544,7 @@ module _ (plan : Plan) (first : RecordReader) (start now : Streams) (detector : 
   closing_to failed taken (Err stop.NoMemory) why whole to = absurd cc
   closing_to failed taken (Err other) why whole to = end_to failed taken why to
 
-  closer : (failed : Type 0) (shown result_then : Result (Unit {0}) Stop) → IsCloseAfter plan first start now failed shown → (more : List ℕ) → written ≡ grown now.written more
+  closer : (failed : Type 0) (shown result_then : Result (Unit {0}) RunStop) → IsCloseAfter plan first start now failed shown → (more : List ℕ) → written ≡ grown now.written more
       → ((taken : List ℕ) → HasReadTo plan first taken start.left failed shown → HasReadTo plan first taken start.left failed result_then) → IsCloseAfter plan first start after_it failed result_then
   closer failed shown result_then close more wrote to = record {
     taken = close.taken;
@@ -562,13 +562,13 @@ module _ (plan : Plan) (first : RecordReader) (start now : Streams) (detector : 
     to = to close.taken close.to;
   }
 
-  pub closed_after : (failed : Type 0) (shown result_then : Result (Unit {0}) Stop) → ComesOver plan first start now failed detector shown
+  pub closed_after : (failed : Type 0) (shown result_then : Result (Unit {0}) RunStop) → ComesOver plan first start now failed detector shown
       → ClosesShown plan detector shown sink_then sink_now counts result_then
       → IsCloseAfter plan first start (record { left = now.left; written = written }) failed result_then
   unfolding ClosesShown WritesPart
   closed_after failed shown result_then (came, close) how =
       let same : result_then ≡ shown → (taken : List ℕ) → HasReadTo plan first taken start.left failed shown → HasReadTo plan first taken start.left failed result_then =
-      λ is taken to. subst (λ (r : Result (Unit {0}) Stop). HasReadTo plan first taken start.left failed r) (sym is) to in
+      λ is taken to. subst (λ (r : Result (Unit {0}) RunStop). HasReadTo plan first taken start.left failed r) (sym is) to in
       ⊎_elim
       (λ (left : IsLeft shown result_then sink_then sink_now). closer failed shown result_then close [] (left.2 ∙ sym (grown-nil now.written)) (same left.1))
       (λ shut. ⊎_elim
@@ -578,6 +578,6 @@ module _ (plan : Plan) (first : RecordReader) (start now : Streams) (detector : 
       (λ (part : IsClosedInPart plan detector shown result_then sink_then sink_now).
       let more = wrote_more shown part.0 came (λ records holds. let own = part.1.2.emits.part (record { inputs = records; hold = holds }) in (own.0, own.2)) in
       closer failed shown result_then close more.0 more.1
-      (λ taken to. subst (λ (r : Result (Unit {0}) Stop). HasReadTo plan first taken start.left failed r) (sym part.1.1) (closing_to failed taken shown part.1.0 part.0 to)))
+      (λ taken to. subst (λ (r : Result (Unit {0}) RunStop). HasReadTo plan first taken start.left failed r) (sym part.1.1) (closing_to failed taken shown part.1.0 part.0 to)))
       shut)
       how

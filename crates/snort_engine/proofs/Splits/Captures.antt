@@ -6,7 +6,7 @@ use Rattle.std.proofs.lemmas.List.Elements.{Contains-append_left, Contains-appen
 use Rattle.edge_io.specs.Along.{trail, trail_from}
 use Rattle.edge_io.proofs.Along.{trail-append}
 use Rattle.packet_decode.specs.declared.item.ItemHead.{ItemHead}
-use Rattle.event_filters.specs.declared.counting.Key.{Key}
+use Rattle.event_filters.specs.declared.counting.CountKey.{CountKey}
 use Rattle.event_filters.specs.Counting.{Event as Counted}
 use Rattle.event_filters.specs.Events.{event_key, event_of, global_place, match_key, own_place}
 use Rattle.flow_lanes.specs.declared.answer.Hits.{Hits}
@@ -73,7 +73,7 @@ module _ {S : Type 0} (part : S → Bool) (all : List (Beside S Hits)) where
   abbrev pub Has : S → ItemHead → Type 0
   Has s head = (hits : Hits) × Contains all (beside s hits) × (hits.head ≡ head)
 
-  apart-heads : (key_of : Counted → Option Key) → IsCountedApart part all key_of → Apart part Has key_of
+  apart-heads : (key_of : Counted → Option CountKey) → IsCountedApart part all key_of → Apart part Has key_of
   apart-heads key_of apart s t one other key more (hits, among, is) (hits_too, among_too, is_too) of isnt here there =
       apart (beside s hits) (beside t hits_too) one.rule other.rule key more among among_too of isnt
       (subst (λ (head : ItemHead). key_of (event_of head one.rule) ≡ Some key) (sym is) here)

@@ -13,7 +13,7 @@ use Rattle.edge_io.specs.Along.{chained, trail, trail_from}
 use Rattle.packet_decode.specs.declared.item.ItemHead.{ItemHead}
 use Rattle.conf_types.specs.declared.config.Config.{Config}
 use Rattle.rule_types.specs.declared.rule.Rule.{Rule}
-use Rattle.event_filters.specs.declared.counting.Key.{Key}
+use Rattle.event_filters.specs.declared.counting.CountKey.{CountKey}
 use Rattle.event_filters.specs.Keys.{same_key}
 use Rattle.event_filters.specs.Counting.{Event, counted, has_key, lets, moment_of, passes, windowed}
 use Rattle.event_filters.specs.Events.{Item, arising, event_key, event_line, event_of, events_of, filtered, global_kept}
@@ -190,9 +190,9 @@ module _ {S : Type 0} (part : S → Bool) (Has : S → ItemHead → Type 0) wher
   OfHits s hits = Has s hits.head
 
   -- no event of the part has the key of one that isn't
-  abbrev pub Apart : (Event → Option Key) → Type 0
+  abbrev pub Apart : (Event → Option CountKey) → Type 0
   Apart key_of =
-      (s t : S) (one other : Event) (key more : Key)
+      (s t : S) (one other : Event) (key more : CountKey)
       → Has s one.head
       → Has t other.head
       → part s ≡ true
@@ -201,9 +201,9 @@ module _ {S : Type 0} (part : S → Bool) (Has : S → ItemHead → Type 0) wher
       → key_of other ≡ Some more
       → same_key key more ≡ false
 
-  own-counted : (key_of : Event → Option Key)
+  own-counted : (key_of : Event → Option CountKey)
       → Apart key_of
-      → (all : List (Beside S Event)) (s : S) (event : Event) (key : Key)
+      → (all : List (Beside S Event)) (s : S) (event : Event) (key : CountKey)
       → Each part OfEvent all
       → part s ≡ true
       → Has s event.head
@@ -216,7 +216,7 @@ module _ {S : Type 0} (part : S → Bool) (Has : S → ItemHead → Type 0) wher
       passed : part b.source ≡ false → has_key key_of key b.what ≡ false
       passed isnt = by_key (key_of b.what) refl
         where
-          by_key : (o : Option Key) → key_of b.what ≡ o → option_map_or (same_key key) o false ≡ false
+          by_key : (o : Option CountKey) → key_of b.what ≡ o → option_map_or (same_key key) o false ≡ false
           by_key None there = refl
           by_key (Some more) there = apart s b.source event b.what key more has (each b (first-in b later)) of isnt is there
 
@@ -225,22 +225,22 @@ module _ {S : Type 0} (part : S → Bool) (Has : S → ItemHead → Type 0) wher
       by_part true of_part rest = ap (λ (xs : List Event). cond (has_key key_of key b.what) (b.what ∷ xs) xs) rest
       by_part false isnt rest = rest ∙ sym (ap (λ (c : Bool). cond c (b.what ∷ filter (has_key key_of key) (whats later)) (filter (has_key key_of key) (whats later))) (passed isnt))
 
-  counted-own : (key_of : Event → Option Key) (line_at : Key → _) → Apart key_of → IsOwn part OfEvent (counted key_of line_at)
+  counted-own : (key_of : Event → Option CountKey) (line_at : CountKey → _) → Apart key_of → IsOwn part OfEvent (counted key_of line_at)
   counted-own key_of line_at apart all s event each of has = by_key (key_of event) refl
     where
-      by_key : (o : Option Key) → key_of event ≡ o
+      by_key : (o : Option CountKey) → key_of event ≡ o
           → cond (passes key_of line_at (whats (mine part all)) event (key_of event)) (event ∷ []) [] ≡ cond (passes key_of line_at (whats all) event (key_of event)) (event ∷ []) []
       by_key None is =
-          ap (λ (o : Option Key). cond (passes key_of line_at (whats (mine part all)) event o) (event ∷ []) []) is
-          ∙ sym (ap (λ (o : Option Key). cond (passes key_of line_at (whats all) event o) (event ∷ []) []) is)
+          ap (λ (o : Option CountKey). cond (passes key_of line_at (whats (mine part all)) event o) (event ∷ []) []) is
+          ∙ sym (ap (λ (o : Option CountKey). cond (passes key_of line_at (whats all) event o) (event ∷ []) []) is)
       by_key (Some key) is =
-          ap (λ (o : Option Key). cond (passes key_of line_at (whats (mine part all)) event o) (event ∷ []) []) is
+          ap (λ (o : Option CountKey). cond (passes key_of line_at (whats (mine part all)) event o) (event ∷ []) []) is
           ∙ ap (λ (xs : List Event). cond
           (lets (line_at key).kind (line_at key).count (windowed (map moment_of xs) (moment_of event) (line_at key).seconds))
           (event ∷ []) []) (own-counted key_of apart all s event key each of has is)
-          ∙ sym (ap (λ (o : Option Key). cond (passes key_of line_at (whats all) event o) (event ∷ []) []) is)
+          ∙ sym (ap (λ (o : Option CountKey). cond (passes key_of line_at (whats all) event o) (event ∷ []) []) is)
 
-  counted-keeps : (key_of : Event → Option Key) (line_at : Key → _) → Keeps part OfEvent OfEvent (counted key_of line_at)
+  counted-keeps : (key_of : Event → Option CountKey) (line_at : CountKey → _) → Keeps part OfEvent OfEvent (counted key_of line_at)
   counted-keeps key_of line_at s before event other has among = by_test (passes key_of line_at before event (key_of event)) among
     where
       by_test : (b : Bool) → Contains (cond b (event ∷ []) []) other → Has s other.head

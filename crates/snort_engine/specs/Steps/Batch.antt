@@ -14,10 +14,10 @@ use Rattle.pcapng_input.specs.declared.fault.ReadFault.{ReadFault}
 use Rattle.pcapng_input.specs.declared.fault.ReadFault.TheVariants as fault
 use Rattle.pcap_input.specs.Cut.{Clean}
 use Rattle.snort_engine.specs.Steps.Reader.{IsFresh, HasRead, AreWhole, EndsWith, IsRefusedBy, refusal_of}
-use Rattle.snort_engine.specs.declared.batch.Reached.{Reached}
-use Rattle.snort_engine.specs.declared.batch.Reached.TheVariants.{More, End, Fault}
-use Rattle.snort_engine.specs.declared.stop.Stop.{Stop}
-use Rattle.snort_engine.specs.declared.stop.Stop.TheVariants.{Capture}
+use Rattle.snort_engine.specs.declared.batch.BatchEnd.{BatchEnd}
+use Rattle.snort_engine.specs.declared.batch.BatchEnd.TheVariants.{More, End, Fault}
+use Rattle.snort_engine.specs.declared.stop.RunStop.{RunStop}
+use Rattle.snort_engine.specs.declared.stop.RunStop.TheVariants.{Capture}
 
 -- the place of a reading: the reader, the records of the batch so far, and what is left, where it is told
 pub record Place : Type 0 where
@@ -37,7 +37,7 @@ pub record HasStopped (first : RecordReader) (given : List LinkedRecord) (left_f
   pub whole : AreWhole first given left_first left
 
 -- the first reader gave these records, and what it reached after them
-abbrev pub Reaches : RecordReader → List LinkedRecord → Option (List ℕ) → Place → Reached → Type 0
+abbrev pub Reaches : RecordReader → List LinkedRecord → Option (List ℕ) → Place → BatchEnd → Type 0
 Reaches first given left_first now More = HasRead first now.reader given left_first now.left
 Reaches first given left_first now End =
     HasStopped first given left_first now.left × EndsWith first given left_first Clean
@@ -45,13 +45,13 @@ Reaches first given left_first now (Fault why) =
     HasStopped first given left_first now.left × IsRefusedBy first given left_first why
 
 -- whatever was read before a place, reading went on from it to what it reached
-abbrev pub ReadsOn : Place → Place → Reached → Type 0
+abbrev pub ReadsOn : Place → Place → BatchEnd → Type 0
 ReadsOn old new reached = (first : RecordReader) (shown : List LinkedRecord) (left_first : Option (List ℕ))
     → HasRead first old.reader (shown ++ old.records) left_first old.left
     → Reaches first (shown ++ new.records) left_first new reached
 
 -- of at most `most` records a batch has all where more may follow, and fewer elsewhere
-pub record IsFilled (most count : ℕ) (reached : Reached) : Type 0 where
+pub record IsFilled (most count : ℕ) (reached : BatchEnd) : Type 0 where
   pub few : count ≤ most
   pub full : reached ≡ More → count ≡ most
   pub fewer : reached ≢ More → count < most
@@ -62,18 +62,18 @@ IsFaultOf reader why = (refusal_of reader ≡ Some why) ⊎ ((why ≡ fault.NoMe
 
 -- what was reached has its reason: a fault is the reader's own, or want of memory; it is one of the host only where its
 -- count rose, and elsewhere the count stays
-pub record HasReason (reader : RecordReader) (old new : ℕ) (reached : Reached) : Type 0 where
+pub record HasReason (reader : RecordReader) (old new : ℕ) (reached : BatchEnd) : Type 0 where
   pub own : (why : ReadFault) → reached ≡ Fault why → IsFaultOf reader why
   pub failed : reached ≡ Fault fault.Failed → Rose old new
   pub quiet : reached ≢ Fault fault.Failed → new ≡ old
 
 -- reading stopped for want of memory
-abbrev pub lacks_memory : Reached → Bool
+abbrev pub lacks_memory : BatchEnd → Bool
 lacks_memory (Fault fault.NoMemory) = true
 lacks_memory reached = false
 
 -- whether more records may follow, or how what was reached stops a run
-abbrev pub more_of : Reached → Result Bool Stop
+abbrev pub more_of : BatchEnd → Result Bool RunStop
 more_of More = Ok true
 more_of End = Ok false
 more_of (Fault why) = Err (Capture why)

@@ -21,8 +21,8 @@ use Rattle.snort_engine.specs.declared.detect.Detector.{Detector}
 use Rattle.pcapng_input.specs.declared.fault.ReadFault.{ReadFault}
 use Rattle.snort_engine.specs.declared.plan.Plan as code
 use Rattle.snort_engine.specs.declared.reader.RecordReader.{RecordReader}
-use Rattle.snort_engine.specs.declared.stop.Stop.{Stop}
-use Rattle.snort_engine.specs.declared.stop.Stop.TheVariants as stop
+use Rattle.snort_engine.specs.declared.stop.RunStop.{RunStop}
+use Rattle.snort_engine.specs.declared.stop.RunStop.TheVariants as stop
 use Rattle.pcapng_input.specs.declared.fault.ReadFault.TheVariants as fault
 use Rattle.snort_engine.specs.Course.{Plan}
 use Rattle.snort_engine.specs.Steps.Sources.{source_name}
@@ -115,7 +115,7 @@ IsReadOut plan reader taken left =
 
 -- how far was read where the showing ends so: to the end, if nothing cut it short; at a write fault in whole batches,
 -- or to the end, or to where the host failed
-abbrev pub HasReadTo : Plan → RecordReader → List ℕ → Option (List ℕ) → Type 0 → Result (Unit {0}) Stop → Type 0
+abbrev pub HasReadTo : Plan → RecordReader → List ℕ → Option (List ℕ) → Type 0 → Result (Unit {0}) RunStop → Type 0
 HasReadTo plan reader taken left failed (Ok done) = IsReadOut plan reader taken left
 HasReadTo plan reader taken left failed (Err (stop.Capture fault.Failed)) = ⊤
 HasReadTo plan reader taken left failed (Err (stop.Capture fault.NoMemory)) = ⊤
@@ -128,7 +128,7 @@ HasReadTo plan reader taken left failed (Err why) = IsReadOut plan reader taken 
 -- batches, after which at most one more was read, or of all; without the limit there are no more of them than it lets;
 -- where the showing ends so, and the host failed or did not, no more was read than may be
 pub record IsCloseAfter (plan : Plan) (reader : RecordReader) (old new : Streams) (failed : Type 0)
-    (outcome : Result (Unit {0}) Stop) : Type 0 where
+    (outcome : Result (Unit {0}) RunStop) : Type 0 where
   pub taken : List ℕ
   pub took : old.left ≡ before taken new.left
   pub given : List LinkedRecord
@@ -153,7 +153,7 @@ ShowsTo plan reader ending old new counts =
 
 -- how the showing ends: at the end of the capture; cut off by the host; stopped by the sink or for
 -- want of memory; or at what can't be read
-abbrev pub ShowsCapture : Plan → RecordReader → Streams → Streams → Counts → Result (Unit {0}) Stop → Type 0
+abbrev pub ShowsCapture : Plan → RecordReader → Streams → Streams → Counts → Result (Unit {0}) RunStop → Type 0
 ShowsCapture plan reader old new counts (Ok done) = ShowsTo plan reader Clean old new counts
 ShowsCapture plan reader old new counts (Err (stop.Capture fault.Failed)) =
     IsReadCutShort plan reader old new × WritesSome plan reader old new
@@ -223,7 +223,7 @@ pub record IsAtEnd (plan : Plan) (first : RecordReader) (start : Streams) (now :
   pub wrote : now.written ≡ grown start.written (lines_of plan given Open)
 
 -- how the reading of all batches ends
-abbrev pub Comes : Plan → RecordReader → Streams → Streams → Detector → Result (Unit {0}) Stop → Type 0
+abbrev pub Comes : Plan → RecordReader → Streams → Streams → Detector → Result (Unit {0}) RunStop → Type 0
 Comes plan first start now detector (Ok done) = IsAtEnd plan first start now detector Clean
 Comes plan first start now detector (Err (stop.Capture fault.Failed)) =
     IsReadCutShort plan first start now × WritesSome plan first start now
@@ -234,12 +234,12 @@ Comes plan first start now detector (Err stop.NoMemory) = WritesSome plan first 
 Comes plan first start now detector (Err why) = ⊥
 
 -- how the reading of all batches ends, and the lines follow its records closely
-abbrev pub ComesOver : Plan → RecordReader → Streams → Streams → Type 0 → Detector → Result (Unit {0}) Stop → Type 0
+abbrev pub ComesOver : Plan → RecordReader → Streams → Streams → Type 0 → Detector → Result (Unit {0}) RunStop → Type 0
 ComesOver plan first start now failed detector outcome =
     Comes plan first start now detector outcome × IsCloseAfter plan first start now failed outcome
 
 -- a showing that was under way is so still, after one more batch, or all batches are read
-abbrev pub ShowsOn : Plan → Point → Point → Type 0 → Result Bool Stop → Type 0
+abbrev pub ShowsOn : Plan → Point → Point → Type 0 → Result Bool RunStop → Type 0
 ShowsOn plan old new failed (Ok true) =
     (first : RecordReader) (start : Streams) → IsUnderWay plan first start old → IsUnderWay plan first start new
 ShowsOn plan old new failed (Ok false) =
@@ -252,29 +252,29 @@ ShowsOn plan old new failed (Err why) =
 -- ---- the end
 
 -- where the work on a capture came to its end so, it may be closed with this detector
-abbrev pub MayClose : {P A : Type 0} → code.Plan P → Detector → Result A Stop → Type 0
+abbrev pub MayClose : {P A : Type 0} → code.Plan P → Detector → Result A RunStop → Type 0
 MayClose plan detector outcome = is_whole outcome ≡ true → IsClosable plan detector
 
 -- what was cut short is left as it was
-abbrev pub IsLeft : Result (Unit {0}) Stop → Result (Unit {0}) Stop → Sending → Sending → Type 0
+abbrev pub IsLeft : Result (Unit {0}) RunStop → Result (Unit {0}) RunStop → Sending → Sending → Type 0
 IsLeft shown result old new = (is_whole shown ≡ false) × (result ≡ shown) × (new.written ≡ old.written)
 
 -- what came to its end is closed
-abbrev pub IsClosedWhole : Plan → Detector → Result (Unit {0}) Stop → Result (Unit {0}) Stop
+abbrev pub IsClosedWhole : Plan → Detector → Result (Unit {0}) RunStop → Result (Unit {0}) RunStop
     → Sending → Sending → Counts → Type 0
 IsClosedWhole plan detector shown result old new counts =
     (is_whole shown ≡ true) × (result ≡ shown) × Closes plan detector old new (Ok counts)
 
 -- the closing of what came to its end was stopped
-abbrev pub IsClosedInPart : Plan → Detector → Result (Unit {0}) Stop → Result (Unit {0}) Stop
+abbrev pub IsClosedInPart : Plan → Detector → Result (Unit {0}) RunStop → Result (Unit {0}) RunStop
     → Sending → Sending → Type 0
 IsClosedInPart plan detector shown result old new =
     (is_whole shown ≡ true)
     × ((why : WriteFault) × (result ≡ Err (write_stop why)) × Closes plan detector old new (Err why))
 
 -- how a capture whose batches ended so is closed
-unfoldable pub ClosesShown : Plan → Detector → Result (Unit {0}) Stop
-    → Sending → Sending → Counts → Result (Unit {0}) Stop → Type 0
+unfoldable pub ClosesShown : Plan → Detector → Result (Unit {0}) RunStop
+    → Sending → Sending → Counts → Result (Unit {0}) RunStop → Type 0
 ClosesShown plan detector shown old new counts result =
     IsLeft shown result old new
     ⊎ (IsClosedWhole plan detector shown result old new counts ⊎ IsClosedInPart plan detector shown result old new)

@@ -6,29 +6,29 @@
 use Rattle.std.specs.Prelude.{◌≡◌, ℕ, List, [], Option, Some, None, ⊤}
 use Rattle.edge_io.specs.Files.{Files, Lacks}
 use Rattle.command_words.specs.CommandLine.{Run}
-use Rattle.snort_engine.specs.declared.plan.Source.{Source}
-use Rattle.snort_engine.specs.declared.plan.Source.TheVariants.{File, Made}
+use Rattle.snort_engine.specs.declared.plan.CaptureSource.{CaptureSource}
+use Rattle.snort_engine.specs.declared.plan.CaptureSource.TheVariants.{File, Made}
 use Rattle.snort_engine.specs.Course.{Plan, Way, Goes, Makes}
 use Rattle.snort_engine.specs.Steps.Reader.{OpensSo}
 
 -- the name of the file; empty where there is none
-abbrev pub source_name : Source → List ℕ
+abbrev pub source_name : CaptureSource → List ℕ
 source_name (File name) = name.now
 source_name (Made seed count) = []
 
 -- the capture is made
-abbrev pub IsMade : Source → Type 0
+abbrev pub IsMade : CaptureSource → Type 0
 IsMade (File name) = ⊥
 IsMade (Made seed count) = ⊤
 
 -- where a run that the words ask for has its capture from, if from anywhere
-abbrev pub IsSourceFor : Run → Option Source → Type 0
+abbrev pub IsSourceFor : Run → Option CaptureSource → Type 0
 IsSourceFor wanted None = (wanted.generate ≡ None) × (wanted.capture ≡ None)
 IsSourceFor wanted (Some (File name)) = (wanted.generate ≡ None) × (wanted.capture ≡ Some name.now)
 IsSourceFor wanted (Some (Made seed count)) = (wanted.generate ≡ Some count) × (wanted.seed ≡ seed)
 
 -- the way of a plan for a capture of this source
-abbrev pub way_from : Source → Plan → Way
+abbrev pub way_from : CaptureSource → Plan → Way
 way_from (File name) plan = Goes plan
 way_from (Made seed count) plan = Makes plan seed count
 
@@ -38,7 +38,7 @@ LacksCapture told (Goes plan) = Lacks told plan.source
 LacksCapture told way = ⊥
 
 -- the host's files are told, and lack the file of this source
-abbrev pub LacksSource : Option Files → Source → Type 0
+abbrev pub LacksSource : Option Files → CaptureSource → Type 0
 LacksSource told (File name) = Lacks told name.now
 LacksSource told (Made seed count) = ⊥
 

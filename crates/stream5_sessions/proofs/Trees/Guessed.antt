@@ -7,10 +7,10 @@ use Rattle.std.specs.Option.{MatchOption, is_some}
 use Rattle.std.proofs.lemmas.Bool.{and_parts, eqb-true}
 use Rattle.lru.specs.LruCache.{LruCache, lru_cache, promoted}
 use Rattle.lru.proofs.Pairs.{promoted_absent}
-use Rattle.stream5_sessions.specs.contracts.lives.NumberedPartialEq.TheImpl.{eq-value}
+use Rattle.stream5_sessions.specs.contracts.lives.NumberedKeyPartialEq.TheImpl.{eq-value}
 use Rattle.stream5_sessions.specs.declared.flow_numbers.FlowNumbers.{FlowNumbers}
 use Rattle.stream5_sessions.specs.declared.key.Key.{Key}
-use Rattle.stream5_sessions.specs.declared.lives.Numbered.{Numbered}
+use Rattle.stream5_sessions.specs.declared.lives.NumberedKey.{NumberedKey}
 use Rattle.stream5_sessions.specs.Indexed.{LivesState, lives_with, entries_of, IsIndexed}
 use Rattle.stream5_sessions.specs.Keys.{same_key}
 use Rattle.stream5_sessions.specs.Trees.{number_in}
@@ -20,7 +20,7 @@ use Rattle.stream5_sessions.proofs.Trees.Living.{numbered, named, test_parts, Ha
 
 module _ (numbers : FlowNumbers) (key : Key) (number : ℕ) where
   -- the number with which the cache has the key is that which the tree has
-  has_number : (es : List (Numbered × ℕ)) (flow : ℕ) → lookup (eq-value.it (numbered key number)) es ≡ Some flow → AllByRecursion (HasNumber numbers) es
+  has_number : (es : List (NumberedKey × ℕ)) (flow : ℕ) → lookup (eq-value.it (numbered key number)) es ≡ Some flow → AllByRecursion (HasNumber numbers) es
       → number_in numbers key ≡ Some number
   has_number [] flow is all = cc
   has_number (e ∷ es) flow is all =
@@ -33,10 +33,10 @@ module _ (numbers : FlowNumbers) (key : Key) (number : ℕ) where
         | false ↦ λ t is. has_number es flow is all.1
       ]) refl is
 
-  unmoved : (es : List (Numbered × ℕ)) → lookup (eq-value.it (numbered key number)) es ≡ None → promoted (eq-value.it (numbered key number)) es ≡ es
+  unmoved : (es : List (NumberedKey × ℕ)) → lookup (eq-value.it (numbered key number)) es ≡ None → promoted (eq-value.it (numbered key number)) es ≡ es
   unmoved es is = (promoted_absent eq-value.it (lru_cache es 0) (numbered key number) (ap (λ (o : Option ℕ). is_some o) is)).1
 
-  module _ (cache : LruCache Numbered ℕ) (indexed : IsIndexed numbers cache.entries) where
+  module _ (cache : LruCache NumberedKey ℕ) (indexed : IsIndexed numbers cache.entries) where
     pub indexed-guessed : IsIndexed numbers (promoted (eq-value.it (numbered key number)) cache.entries)
     indexed-guessed = by (lookup (eq-value.it (numbered key number)) cache.entries) refl
       where
@@ -53,15 +53,15 @@ module _ (numbers : FlowNumbers) (key : Key) (number : ℕ) where
           sym (is ∙ lookup-plain named (eq-value.it (numbered key number)) (same_key key) cache.entries (alike numbers key number has cache.entries indexed.found)
           ∙ ap (λ (l : LivesState). lookup (same_key key) l.entries) was)
 
-      pub by_guess-after : (found : Option ℕ) (new : LruCache Numbered ℕ) → found ≡ lookup (eq-value.it (numbered key number)) cache.entries
+      pub by_guess-after : (found : Option ℕ) (new : LruCache NumberedKey ℕ) → found ≡ lookup (eq-value.it (numbered key number)) cache.entries
           → new ≡ lru_cache (promoted (eq-value.it (numbered key number)) cache.entries) cache.cap
           → MatchOption found (lives_with (entries_of new.entries) new.cap ≡ old) (λ flow. lives_with (entries_of new.entries) new.cap ≡ lives_with (promoted (same_key key) old.entries) old.cap)
       by_guess-after None new is now =
-          ap (λ (x : LruCache Numbered ℕ). lives_with (entries_of x.entries) x.cap) (now ∙ ap (λ (es : List (Numbered × ℕ)). lru_cache es cache.cap) (unmoved cache.entries (sym is)))
+          ap (λ (x : LruCache NumberedKey ℕ). lives_with (entries_of x.entries) x.cap) (now ∙ ap (λ (es : List (NumberedKey × ℕ)). lru_cache es cache.cap) (unmoved cache.entries (sym is)))
           ∙ was
       by_guess-after (Some flow) new is now =
           let has = has_number cache.entries flow (sym is) indexed.found in
-          ap (λ (x : LruCache Numbered ℕ). lives_with (entries_of x.entries) x.cap) now
+          ap (λ (x : LruCache NumberedKey ℕ). lives_with (entries_of x.entries) x.cap) now
           ∙ ap (λ (l : List (Key × ℕ)). lives_with l cache.cap)
           (promoted-plain named (eq-value.it (numbered key number)) (same_key key) cache.entries (alike numbers key number has cache.entries indexed.found))
           ∙ ap (λ (l : LivesState). lives_with (promoted (same_key key) l.entries) l.cap) was

@@ -7,10 +7,10 @@ use Rattle.std.specs.Map.{keys_of, values_of, lookup, lookup_entry, remove_entry
 use Rattle.std.specs.Option.{option_map, option_map_or}
 use Rattle.std.proofs.lemmas.Option.{slice_get-map}
 use Rattle.lru.specs.LruCache.{LruCache, promoted, put_entries, displaced}
-use Rattle.stream5_sessions.specs.contracts.lives.NumberedPartialEq.TheImpl.{eq-value}
+use Rattle.stream5_sessions.specs.contracts.lives.NumberedKeyPartialEq.TheImpl.{eq-value}
 use Rattle.stream5_sessions.specs.declared.flow_numbers.FlowNumbers.{FlowNumbers}
 use Rattle.stream5_sessions.specs.declared.key.Key.{Key}
-use Rattle.stream5_sessions.specs.declared.lives.Numbered.{Numbered}
+use Rattle.stream5_sessions.specs.declared.lives.NumberedKey.{NumberedKey}
 use Rattle.stream5_sessions.specs.Indexed.{entries_of, is_gone, IsIndexed}
 use Rattle.stream5_sessions.specs.Keys.{same_key}
 use Rattle.stream5_sessions.specs.Trees.{number_in, HasNone, Puts, KeepsNumbers}
@@ -18,15 +18,15 @@ use Rattle.stream5_sessions.proofs.KeyLaws.{eq-same_key, same_key-is, same_key-s
 use Rattle.stream5_sessions.proofs.Trees.Numbered.{Alike, plain_entry, promoted-plain, all-take, all-get, all-promoted}
 use Rattle.stream5_sessions.proofs.Trees.Numbered.{distinct-take, distinct-promoted, apart-from, unless_promoted, unless_last}
 
-abbrev pub numbered : Key → ℕ → Numbered
+abbrev pub numbered : Key → ℕ → NumberedKey
 numbered key number = record { key = key; number = number }
 
 -- the key alone
-abbrev pub named : Numbered → Key
+abbrev pub named : NumberedKey → Key
 named n = n.key
 
 -- the derived test of a key with its number
-pub test_parts : (a b : Numbered) → eq-value.it a b ≡ (same_key a.key b.key && eqb a.number b.number)
+pub test_parts : (a b : NumberedKey) → eq-value.it a b ≡ (same_key a.key b.key && eqb a.number b.number)
 test_parts a b = ap (λ (x : Bool). x && eqb a.number b.number) (eq-same_key a.key b.key)
 
 one_number : (o : Option ℕ) (m n : ℕ) → o ≡ Some m → o ≡ Some n → m ≡ n
@@ -35,12 +35,12 @@ one_number o m n is also = cc
 no_number : (o : Option ℕ) (n : ℕ) → o ≡ Some n → o ≡ None → ⊥
 no_number o n is none = cc
 
-abbrev pub HasNumber : FlowNumbers → Numbered × ℕ → Type 0
+abbrev pub HasNumber : FlowNumbers → NumberedKey × ℕ → Type 0
 HasNumber numbers e = number_in numbers e.0.key ≡ Some e.0.number
 
 module _ (numbers : FlowNumbers) (key : Key) where
   -- with the number that the tree has, the cache's test is that of the key
-  pub alike : (number : ℕ) → number_in numbers key ≡ Some number → (es : List (Numbered × ℕ)) → AllByRecursion (HasNumber numbers) es
+  pub alike : (number : ℕ) → number_in numbers key ≡ Some number → (es : List (NumberedKey × ℕ)) → AllByRecursion (HasNumber numbers) es
       → Alike named (eq-value.it (numbered key number)) (same_key key) es
   alike number is [] all = tt
   alike number is (e ∷ es) all = (test_parts (numbered key number) e.0 ∙ by (same_key key e.0.key) refl, alike number is es all.1)
@@ -52,7 +52,7 @@ module _ (numbers : FlowNumbers) (key : Key) where
       by false t = refl
 
   -- a key without a number isn't there
-  pub missing : number_in numbers key ≡ None → (es : List (Numbered × ℕ)) → AllByRecursion (HasNumber numbers) es → lookup (same_key key) (entries_of es) ≡ None
+  pub missing : number_in numbers key ≡ None → (es : List (NumberedKey × ℕ)) → AllByRecursion (HasNumber numbers) es → lookup (same_key key) (entries_of es) ≡ None
   missing is [] all = refl
   missing is (e ∷ es) all = (elim (same_key key e.0.key) as (λ b. same_key key e.0.key ≡ b → cond b (Some e.1) (lookup (same_key key) (entries_of es)) ≡ None) [
     | true ↦ λ t. absurd (no_number (number_in numbers key) e.0.number (ap (number_in numbers) (same_key-is key e.0.key t) ∙ all.0) is)
@@ -60,10 +60,10 @@ module _ (numbers : FlowNumbers) (key : Key) where
   ]) refl
 
 -- ---- a key that isn't there
-abbrev IsOther : Key → Numbered × ℕ → Type 0
+abbrev IsOther : Key → NumberedKey × ℕ → Type 0
 IsOther key e = same_key key e.0.key ≡ false
 
-pub others : (key : Key) (es : List (Numbered × ℕ)) → lookup (same_key key) (entries_of es) ≡ None → AllByRecursion (IsOther key) es
+pub others : (key : Key) (es : List (NumberedKey × ℕ)) → lookup (same_key key) (entries_of es) ≡ None → AllByRecursion (IsOther key) es
 others key [] none = tt
 others key (e ∷ es) none =
     (elim (same_key key e.0.key) as
@@ -73,24 +73,24 @@ others key (e ∷ es) none =
       | false ↦ λ t h. (t, others key es h)
     ]) refl none
 
-fails : (key : Key) (number : ℕ) (e : Numbered × ℕ) → IsOther key e → eq-value.it (numbered key number) e.0 ≡ false
+fails : (key : Key) (number : ℕ) (e : NumberedKey × ℕ) → IsOther key e → eq-value.it (numbered key number) e.0 ≡ false
 fails key number e is = test_parts (numbered key number) e.0 ∙ ap (λ (b : Bool). b && eqb number e.0.number) is
 
-unmatched : (key : Key) (number : ℕ) (es : List (Numbered × ℕ)) → AllByRecursion (IsOther key) es → lookup_entry (eq-value.it (numbered key number)) es ≡ None
+unmatched : (key : Key) (number : ℕ) (es : List (NumberedKey × ℕ)) → AllByRecursion (IsOther key) es → lookup_entry (eq-value.it (numbered key number)) es ≡ None
 unmatched key number [] all = refl
 unmatched key number (e ∷ es) all =
     ap (λ (b : Bool). cond b (Some e) (lookup_entry (eq-value.it (numbered key number)) es)) (fails key number e all.0) ∙ unmatched key number es all.1
 
-unfound : (key : Key) (number : ℕ) (es : List (Numbered × ℕ)) → AllByRecursion (IsOther key) es → lookup (eq-value.it (numbered key number)) es ≡ None
+unfound : (key : Key) (number : ℕ) (es : List (NumberedKey × ℕ)) → AllByRecursion (IsOther key) es → lookup (eq-value.it (numbered key number)) es ≡ None
 unfound key number [] all = refl
 unfound key number (e ∷ es) all =
     ap (λ (b : Bool). cond b (Some e.1) (lookup (eq-value.it (numbered key number)) es)) (fails key number e all.0) ∙ unfound key number es all.1
 
-module _ (cache : LruCache Numbered ℕ) (key : Key) (number : ℕ) (apart : AllByRecursion (IsOther key) cache.entries) where
+module _ (cache : LruCache NumberedKey ℕ) (key : Key) (number : ℕ) (apart : AllByRecursion (IsOther key) cache.entries) where
   -- pushes out the last one of a full cache
   pub put_is : put_entries eq-value.it cache (numbered key number) number ≡ (numbered key number, number) ∷ take (cache.cap - 1) cache.entries
   put_is =
-      ap (λ (o : Option (Numbered × ℕ)). option_map_or
+      ap (λ (o : Option (NumberedKey × ℕ)). option_map_or
       (λ e. (e.0, number) ∷ remove_entry (eq-value.it (numbered key number)) cache.entries) o
       ((numbered key number, number) ∷ take (cache.cap - 1) cache.entries))
       (unmatched key number cache.entries apart)
@@ -99,41 +99,41 @@ module _ (cache : LruCache Numbered ℕ) (key : Key) (number : ℕ) (apart : All
   displaced_is =
       ap (λ (o : Option ℕ). option_map_or (λ old. Some (numbered key number, old)) o (slice_get cache.entries (cache.cap - 1))) (unfound key number cache.entries apart)
 
-pub entries-take : (n : ℕ) (es : List (Numbered × ℕ)) → entries_of (take n es) ≡ take n (entries_of es)
+pub entries-take : (n : ℕ) (es : List (NumberedKey × ℕ)) → entries_of (take n es) ≡ take n (entries_of es)
 entries-take zero es = refl
 entries-take (suc n) [] = refl
 entries-take (suc n) (e ∷ es) = ap (λ (l : List (Key × ℕ)). (e.0.key, e.1) ∷ l) (entries-take n es)
 
-length-entries : (es : List (Numbered × ℕ)) → length (entries_of es) ≡ length es
+length-entries : (es : List (NumberedKey × ℕ)) → length (entries_of es) ≡ length es
 length-entries [] = refl
 length-entries (e ∷ es) = ap suc (length-entries es)
 
-pub values-entries : (es : List (Numbered × ℕ)) → values_of (entries_of es) ≡ values_of es
+pub values-entries : (es : List (NumberedKey × ℕ)) → values_of (entries_of es) ≡ values_of es
 values-entries [] = refl
 values-entries (e ∷ es) = ap (λ (l : List ℕ). e.1 ∷ l) (values-entries es)
 
 -- the flow of the entry at a place
-pub evicted-flow : (es : List (Numbered × ℕ)) (i : ℕ) → option_map (λ (e : Numbered × ℕ). e.1) (slice_get es i) ≡ option_map (λ (e : Key × ℕ). e.1) (slice_get (entries_of es) i)
+pub evicted-flow : (es : List (NumberedKey × ℕ)) (i : ℕ) → option_map (λ (e : NumberedKey × ℕ). e.1) (slice_get es i) ≡ option_map (λ (e : Key × ℕ). e.1) (slice_get (entries_of es) i)
 evicted-flow [] i = refl
 evicted-flow (e ∷ es) zero = refl
 evicted-flow (e ∷ es) (suc i) = evicted-flow es i
 
 -- ---- the index after a step
-keys-all : (P : Key → Type 0) (es : List (Numbered × ℕ)) → AllByRecursion (λ (e : Numbered × ℕ). P e.0.key) es → AllByRecursion P (keys_of (entries_of es))
+keys-all : (P : Key → Type 0) (es : List (NumberedKey × ℕ)) → AllByRecursion (λ (e : NumberedKey × ℕ). P e.0.key) es → AllByRecursion P (keys_of (entries_of es))
 keys-all P [] all = tt
 keys-all P (e ∷ es) all = (all.0, keys-all P es all.1)
 
-by_numbers : (P : Key → Type 0) (es : List (Numbered × ℕ)) → AllByRecursion (λ (e : Key × ℕ). P e.0) (entries_of es) → AllByRecursion (λ (e : Numbered × ℕ). P e.0.key) es
+by_numbers : (P : Key → Type 0) (es : List (NumberedKey × ℕ)) → AllByRecursion (λ (e : Key × ℕ). P e.0) (entries_of es) → AllByRecursion (λ (e : NumberedKey × ℕ). P e.0.key) es
 by_numbers P [] all = tt
 by_numbers P (e ∷ es) all = (all.0, by_numbers P es all.1)
 
 -- numbers that stay at keys of which P and Q hold
-still : (numbers after : FlowNumbers) (P Q : Key → Type 0) → ((q : Key) → P q → Q q → number_in after q ≡ number_in numbers q) → (es : List (Numbered × ℕ))
-    → AllByRecursion (λ (e : Numbered × ℕ). P e.0.key) es → AllByRecursion (λ (e : Numbered × ℕ). Q e.0.key) es → AllByRecursion (HasNumber numbers) es → AllByRecursion (HasNumber after) es
+still : (numbers after : FlowNumbers) (P Q : Key → Type 0) → ((q : Key) → P q → Q q → number_in after q ≡ number_in numbers q) → (es : List (NumberedKey × ℕ))
+    → AllByRecursion (λ (e : NumberedKey × ℕ). P e.0.key) es → AllByRecursion (λ (e : NumberedKey × ℕ). Q e.0.key) es → AllByRecursion (HasNumber numbers) es → AllByRecursion (HasNumber after) es
 still numbers after P Q same [] ps qs all = tt
 still numbers after P Q same (e ∷ es) ps qs all = (same e.0.key ps.0 qs.0 ∙ all.0, still numbers after P Q same es ps.1 qs.1 all.1)
 
-pub indexed-none : (numbers : FlowNumbers) (es : List (Numbered × ℕ)) → HasNone numbers → es ≡ [] → IsIndexed numbers es
+pub indexed-none : (numbers : FlowNumbers) (es : List (NumberedKey × ℕ)) → HasNone numbers → es ≡ [] → IsIndexed numbers es
 unfolding IsDistinct
 indexed-none numbers es empty none = subst (IsIndexed numbers) (sym none) (record {
   found = tt;
@@ -141,7 +141,7 @@ indexed-none numbers es empty none = subst (IsIndexed numbers) (sym none) (recor
   apart = tt;
 })
 
-pub indexed-promoted : (numbers : FlowNumbers) (key : Key) (number : ℕ) (es : List (Numbered × ℕ)) → number_in numbers key ≡ Some number → IsIndexed numbers es
+pub indexed-promoted : (numbers : FlowNumbers) (key : Key) (number : ℕ) (es : List (NumberedKey × ℕ)) → number_in numbers key ≡ Some number → IsIndexed numbers es
     → IsIndexed numbers (promoted (eq-value.it (numbered key number)) es)
 indexed-promoted numbers key number es is indexed =
     let plainly = promoted-plain named (eq-value.it (numbered key number)) (same_key key) es (alike numbers key number is es indexed.found) in
@@ -152,21 +152,21 @@ indexed-promoted numbers key number es is indexed =
     }
 
 -- numbers that stay
-pub indexed-alike : (numbers after : FlowNumbers) (es : List (Numbered × ℕ)) → KeepsNumbers numbers after → IsIndexed numbers es → IsIndexed after es
+pub indexed-alike : (numbers after : FlowNumbers) (es : List (NumberedKey × ℕ)) → KeepsNumbers numbers after → IsIndexed numbers es → IsIndexed after es
 indexed-alike numbers after es same indexed = record {
   found = all_alike es indexed.found;
   only = λ q none. same q ∙ indexed.only q none;
   apart = indexed.apart;
 }
   where
-    all_alike : (es : List (Numbered × ℕ)) → AllByRecursion (HasNumber numbers) es → AllByRecursion (HasNumber after) es
+    all_alike : (es : List (NumberedKey × ℕ)) → AllByRecursion (HasNumber numbers) es → AllByRecursion (HasNumber after) es
     all_alike [] all = tt
     all_alike (e ∷ es) all = (same e.0.key ∙ all.0, all_alike es all.1)
 
 puts_at : (numbers after : FlowNumbers) (key q : Key) (number : Option ℕ) (b : Bool) → Puts numbers key number after → same_key key q ≡ b → number_in after q ≡ cond b number (number_in numbers q)
 puts_at numbers after key q number b put is = put q ∙ ap (λ (x : Bool). cond x number (number_in numbers q)) is
 
-module _ (numbers put : FlowNumbers) (es : List (Numbered × ℕ)) (key : Key) (number : ℕ) (indexed : IsIndexed numbers es)
+module _ (numbers put : FlowNumbers) (es : List (NumberedKey × ℕ)) (key : Key) (number : ℕ) (indexed : IsIndexed numbers es)
     (absent : lookup (same_key key) (entries_of es) ≡ None) (puts : Puts numbers key (Some number) put) where
   apart : AllByRecursion (IsOther key) es
   apart = others key es absent
@@ -191,11 +191,11 @@ module _ (numbers put : FlowNumbers) (es : List (Numbered × ℕ)) (key : Key) (
   )
 
   -- a key that isn't among these after the step wasn't there before it, but for the one that leaves
-  before : (q : Key) (i : ℕ) (evicted : Option (Numbered × ℕ)) → length es ≤ suc i → slice_get es i ≡ evicted
+  before : (q : Key) (i : ℕ) (evicted : Option (NumberedKey × ℕ)) → length es ≤ suc i → slice_get es i ≡ evicted
       → lookup (same_key q) (entries_of ((numbered key number, number) ∷ take i es)) ≡ None → is_gone evicted q ≡ false → number_in put q ≡ None
   before q i evicted few at none stays = by (same_key q key) refl none
     where
-      last : (evicted : Option (Numbered × ℕ)) → is_gone evicted q ≡ false → IfSome (option_map (plain_entry named) evicted) (λ e. same_key q e.0 ≡ false)
+      last : (evicted : Option (NumberedKey × ℕ)) → is_gone evicted q ≡ false → IfSome (option_map (plain_entry named) evicted) (λ e. same_key q e.0 ≡ false)
       last None off = tt
       last (Some e) off = same_key-flips e.0.key q off
 
@@ -210,7 +210,7 @@ module _ (numbers put : FlowNumbers) (es : List (Numbered × ℕ)) (key : Key) (
           (ap (lookup (same_key q)) (sym (entries-take i es)) ∙ none)
           (subst (λ (o : Option (Key × ℕ)). IfSome o (λ e. same_key q e.0 ≡ false)) (sym there) (last evicted stays)))
 
-  only : (after : FlowNumbers) (i : ℕ) (evicted : Option (Numbered × ℕ)) → length es ≤ suc i → slice_get es i ≡ evicted
+  only : (after : FlowNumbers) (i : ℕ) (evicted : Option (NumberedKey × ℕ)) → length es ≤ suc i → slice_get es i ≡ evicted
       → ((q : Key) → number_in after q ≡ cond (is_gone evicted q) None (number_in put q))
       → (q : Key) → lookup (same_key q) (entries_of ((numbered key number, number) ∷ take i es)) ≡ None → number_in after q ≡ None
   only after i evicted few at gone q none = gone q ∙ by (is_gone evicted q) refl
@@ -220,7 +220,7 @@ module _ (numbers put : FlowNumbers) (es : List (Numbered × ℕ)) (key : Key) (
       by false is = before q i evicted few at none is
 
   -- the new key goes first, and what was at this place leaves
-  pub indexed-begun : (after : FlowNumbers) (i : ℕ) (evicted : Option (Numbered × ℕ)) → length es ≤ suc i → slice_get es i ≡ evicted
+  pub indexed-begun : (after : FlowNumbers) (i : ℕ) (evicted : Option (NumberedKey × ℕ)) → length es ≤ suc i → slice_get es i ≡ evicted
       → ((q : Key) → number_in after q ≡ cond (is_gone evicted q) None (number_in put q)) → IsIndexed after ((numbered key number, number) ∷ take i es)
   indexed-begun after i None few at gone = record {
     found = (
@@ -235,7 +235,7 @@ module _ (numbers put : FlowNumbers) (es : List (Numbered × ℕ)) (key : Key) (
       let Gone : Key → Type 0 = λ q. same_key last.0.key q ≡ false in
       let there : slice_get (entries_of es) i ≡ Some (last.0.key, last.1) =
       slice_get-map (plain_entry named) es i ∙ ap (option_map (plain_entry named)) at in
-      let left : AllByRecursion (λ (e : Numbered × ℕ). Gone e.0.key) (take i es) =
+      let left : AllByRecursion (λ (e : NumberedKey × ℕ). Gone e.0.key) (take i es) =
       by_numbers Gone (take i es)
       (subst (AllByRecursion (λ (e : Key × ℕ). Gone e.0))
       (sym (entries-take i es))

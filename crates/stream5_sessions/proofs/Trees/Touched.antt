@@ -4,11 +4,11 @@ use Rattle.std.proofs.Common.{Option, Some, None, refl, sym, ap, subst, ◌∙�
 use Rattle.std.specs.Map.{lookup}
 use Rattle.std.specs.Option.{option_map, unwrap_or}
 use Rattle.lru.specs.LruCache.{LruCache, lru_cache, promoted, put_entries, displaced}
-use Rattle.stream5_sessions.specs.contracts.lives.NumberedPartialEq.TheImpl.{eq-value}
+use Rattle.stream5_sessions.specs.contracts.lives.NumberedKeyPartialEq.TheImpl.{eq-value}
 use Rattle.stream5_sessions.specs.declared.flow_numbers.FlowNumbers.{FlowNumbers}
 use Rattle.stream5_sessions.specs.declared.flows.Touch.{Touch}
 use Rattle.stream5_sessions.specs.declared.key.Key.{Key}
-use Rattle.stream5_sessions.specs.declared.lives.Numbered.{Numbered}
+use Rattle.stream5_sessions.specs.declared.lives.NumberedKey.{NumberedKey}
 use Rattle.stream5_sessions.specs.Caches.{found_by, kept_by}
 use Rattle.stream5_sessions.specs.Indexed.{LivesState, lives_with, entries_of, is_gone, IsIndexed}
 use Rattle.stream5_sessions.specs.Keys.{same_key}
@@ -30,7 +30,7 @@ fresh next evicted = record { flow = next; fresh = true; evicted = evicted }
 no_number : (o : Option ℕ) (n : ℕ) → o ≡ Some n → o ≡ None → ⊥
 no_number o n is none = cc
 
-module _ (numbers : FlowNumbers) (key : Key) (cache : LruCache Numbered ℕ) (indexed : IsIndexed numbers cache.entries)
+module _ (numbers : FlowNumbers) (key : Key) (cache : LruCache NumberedKey ℕ) (indexed : IsIndexed numbers cache.entries)
     (old : LivesState) (was : lives_with (entries_of cache.entries) cache.cap ≡ old) where
   abbrev there : Option ℕ
   there = lookup (same_key key) old.entries
@@ -54,10 +54,10 @@ module _ (numbers : FlowNumbers) (key : Key) (cache : LruCache Numbered ℕ) (in
         by None none = absurd (nowhere number is none)
         by (Some flow) found = refl
 
-    pub living-after : (left : LruCache Numbered ℕ) → left ≡ lru_cache (promoted (eq-value.it (numbered key number)) cache.entries) cache.cap
+    pub living-after : (left : LruCache NumberedKey ℕ) → left ≡ lru_cache (promoted (eq-value.it (numbered key number)) cache.entries) cache.cap
         → lives_with (entries_of left.entries) left.cap ≡ lives_with (kept_by old.entries old.cap next key there) old.cap
     living-after left now =
-        ap (λ (x : LruCache Numbered ℕ). lives_with (entries_of x.entries) x.cap) now
+        ap (λ (x : LruCache NumberedKey ℕ). lives_with (entries_of x.entries) x.cap) now
         ∙ ap (λ (l : List (Key × ℕ)). lives_with l cache.cap)
         (promoted-plain named (eq-value.it (numbered key number)) (same_key key) cache.entries (alike numbers key number is cache.entries indexed.found))
         ∙ ap (λ (l : LivesState). lives_with (promoted (same_key key) l.entries) l.cap) was
@@ -67,10 +67,10 @@ module _ (numbers : FlowNumbers) (key : Key) (cache : LruCache Numbered ℕ) (in
         by None none = absurd (nowhere number is none)
         by (Some flow) found = ap (λ (l : List (Key × ℕ)). lives_with l old.cap) (promoted-some key flow old.entries found)
 
-    pub living-indexed : (after : FlowNumbers) (left : LruCache Numbered ℕ) → KeepsNumbers numbers after
+    pub living-indexed : (after : FlowNumbers) (left : LruCache NumberedKey ℕ) → KeepsNumbers numbers after
         → left ≡ lru_cache (promoted (eq-value.it (numbered key number)) cache.entries) cache.cap → IsIndexed after left.entries
     living-indexed after left keeps now =
-        subst (λ (x : LruCache Numbered ℕ). IsIndexed after x.entries) (sym now)
+        subst (λ (x : LruCache NumberedKey ℕ). IsIndexed after x.entries) (sym now)
         (indexed-alike numbers after (promoted (eq-value.it (numbered key number)) cache.entries) keeps
         (indexed-promoted numbers key number cache.entries is indexed))
 
@@ -83,41 +83,41 @@ module _ (numbers : FlowNumbers) (key : Key) (cache : LruCache Numbered ℕ) (in
     unkept = sym kept_is ∙ absent
 
     module _ (next : ℕ) where
-      pub begun-value : (evicted : Option (Numbered × ℕ)) (flow : Option ℕ) → evicted ≡ displaced eq-value.it cache (numbered key next) next
-          → flow ≡ option_map (λ (e : Numbered × ℕ). e.1) evicted → fresh next flow ≡ found_by old.entries old.cap next there
+      pub begun-value : (evicted : Option (NumberedKey × ℕ)) (flow : Option ℕ) → evicted ≡ displaced eq-value.it cache (numbered key next) next
+          → flow ≡ option_map (λ (e : NumberedKey × ℕ). e.1) evicted → fresh next flow ≡ found_by old.entries old.cap next there
       begun-value evicted flow left is =
           ap (fresh next)
-          (is ∙ ap (option_map (λ (e : Numbered × ℕ). e.1)) (left ∙ displaced_is cache key next (others key cache.entries absent))
+          (is ∙ ap (option_map (λ (e : NumberedKey × ℕ). e.1)) (left ∙ displaced_is cache key next (others key cache.entries absent))
           ∙ evicted-flow cache.entries (cache.cap - 1)
           ∙ ap (λ (l : LivesState). option_map (λ (e : Key × ℕ). e.1) (slice_get l.entries (l.cap - 1))) was)
           ∙ ap (found_by old.entries old.cap next) (sym unkept)
 
-      put : (left : LruCache Numbered ℕ) → left ≡ lru_cache (put_entries eq-value.it cache (numbered key next) next) cache.cap
+      put : (left : LruCache NumberedKey ℕ) → left ≡ lru_cache (put_entries eq-value.it cache (numbered key next) next) cache.cap
           → left ≡ lru_cache ((numbered key next, next) ∷ take (cache.cap - 1) cache.entries) cache.cap
-      put left now = now ∙ ap (λ (es : List (Numbered × ℕ)). lru_cache es cache.cap) (put_is cache key next (others key cache.entries absent))
+      put left now = now ∙ ap (λ (es : List (NumberedKey × ℕ)). lru_cache es cache.cap) (put_is cache key next (others key cache.entries absent))
 
-      pub begun-after : (left : LruCache Numbered ℕ) → left ≡ lru_cache (put_entries eq-value.it cache (numbered key next) next) cache.cap
+      pub begun-after : (left : LruCache NumberedKey ℕ) → left ≡ lru_cache (put_entries eq-value.it cache (numbered key next) next) cache.cap
           → lives_with (entries_of left.entries) left.cap ≡ lives_with (kept_by old.entries old.cap next key there) old.cap
       begun-after left now =
-          ap (λ (x : LruCache Numbered ℕ). lives_with (entries_of x.entries) x.cap) (put left now)
+          ap (λ (x : LruCache NumberedKey ℕ). lives_with (entries_of x.entries) x.cap) (put left now)
           ∙ ap (λ (l : List (Key × ℕ)). lives_with ((key, next) ∷ l) cache.cap) (entries-take (cache.cap - 1) cache.entries)
           ∙ ap (λ (l : LivesState). lives_with (kept_by l.entries l.cap next key None) l.cap) was
           ∙ ap (λ (o : Option ℕ). lives_with (kept_by old.entries old.cap next key o) old.cap) (sym unkept)
 
-      pub begun-indexed : (given after : FlowNumbers) (left : LruCache Numbered ℕ) (evicted : Option (Numbered × ℕ)) → Puts numbers key (Some next) given
+      pub begun-indexed : (given after : FlowNumbers) (left : LruCache NumberedKey ℕ) (evicted : Option (NumberedKey × ℕ)) → Puts numbers key (Some next) given
           → length cache.entries ≤ cache.cap → 0 < cache.cap
           → evicted ≡ displaced eq-value.it cache (numbered key next) next
           → left ≡ lru_cache (put_entries eq-value.it cache (numbered key next) next) cache.cap
           → ((q : Key) → number_in after q ≡ cond (is_gone evicted q) None (number_in given q))
           → IsIndexed after left.entries
       begun-indexed given after left evicted puts few some leaves now gone =
-          subst (λ (x : LruCache Numbered ℕ). IsIndexed after x.entries) (sym (put left now))
+          subst (λ (x : LruCache NumberedKey ℕ). IsIndexed after x.entries) (sym (put left now))
           (indexed-begun numbers given cache.entries key next indexed absent puts after (cache.cap - 1) evicted (omega (arith, few, some))
           (sym (leaves ∙ displaced_is cache key next (others key cache.entries absent))) gone)
 
       -- the number is taken back
-      pub undone-indexed : (given after : FlowNumbers) (left : LruCache Numbered ℕ) → Puts numbers key (Some next) given → Puts given key None after
+      pub undone-indexed : (given after : FlowNumbers) (left : LruCache NumberedKey ℕ) → Puts numbers key (Some next) given → Puts given key None after
           → left ≡ cache → IsIndexed after left.entries
       undone-indexed given after left puts undone same =
-          subst (λ (x : LruCache Numbered ℕ). IsIndexed after x.entries) (sym same)
+          subst (λ (x : LruCache NumberedKey ℕ). IsIndexed after x.entries) (sym same)
           (indexed-undone numbers given cache.entries key next indexed absent puts after undone)

@@ -1,7 +1,7 @@
 -- What one rule lets in stays so, since no later one clears a slot (`rules-more`); so at the end of the list every rule's
 -- items are let in.
 use Rattle.std.proofs.Common.{◌≡◌, subst, ◌∙◌, arith}
-use Rattle.fast_pattern.specs.declared.header.Asked.{Asked}
+use Rattle.fast_pattern.specs.declared.header.RuleHead.{RuleHead}
 use Rattle.fast_pattern.specs.Doors.{LetsIn}
 use Rattle.std.proofs.lemmas.List.{get_or_default}
 use Rattle.fast_pattern.proofs.Ports.Opening.{rules-more, guards-all}
@@ -13,7 +13,7 @@ loop-asked-preserved c = (
   keeps-trans c.args.table.now c.loop-asked.table c.open_rule.new.table c.loop-asked.invariant.0 c.open_rule.ensures.keeps,
   rules-more c.args.rules.now c.loop-asked.table c.open_rule.new.table c.loop-asked.asked-index c.open_rule.ensures.keeps
       c.loop-asked.invariant.1
-      (λ d. subst (λ (a : Asked). LetsIn a c.open_rule.new.table)
+      (λ d. subst (λ (a : RuleHead). LetsIn a c.open_rule.new.table)
       (c.asked-item.is ∙ get_or_default c.args.rules.now c.loop-asked.asked-index c.asked-item.result d c.loop-asked-test.true)
       c.open_rule.ensures.opens),
 )

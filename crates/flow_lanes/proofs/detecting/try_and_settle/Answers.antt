@@ -7,7 +7,7 @@ use Rattle.rule_eval.specs.Hits.{Bits}
 use Rattle.flow_lanes.specs.Flows.{session_at_hand, steered}
 use Rattle.flow_lanes.specs.Given.{inspection_of, packet_of}
 use Rattle.flow_lanes.specs.Kept.{IsFound}
-use Rattle.flow_lanes.specs.Sessions.{Session}
+use Rattle.flow_lanes.specs.Sessions.{FlowSession}
 use Rattle.flow_lanes.specs.Tried.{Tallies, of_session, so_far}
 use Rattle.flow_lanes.specs.Working.{own_item}
 use Rattle.flow_lanes.proofs.Sessions.DetectsOn.{settles-by}
@@ -16,7 +16,7 @@ use Rattle.flow_lanes.proofs.detecting.try_and_settle.Goals as goal
 pub returns-clause-keeps : goal.returns-clause-keeps
 returns-clause-keeps g c = λ tcp places h.
     c.settle.ensures.keeps tcp places
-    (c.end_if.ensures.keeps tcp places (subst (λ (s : Option Session). IsFound tcp places s) (sym c.bits_found-bits.ensures.session) h))
+    (c.end_if.ensures.keeps tcp places (subst (λ (s : Option FlowSession). IsFound tcp places s) (sym c.bits_found-bits.ensures.session) h))
 
 pub returns-clause-tallies : goal.returns-clause-tallies
 returns-clause-tallies g c =
@@ -29,7 +29,7 @@ returns-clause-settles g c =
     c.bits_found-bits.new.found
     c.end_if.new.found c.settle.new.found c.bits_found-bits.result c.try_current.new.bits (so_far c.args.tally.now) (so_far c.try_current.new.tally) c.len-first.result
     c.bits_found-bits.ensures.bits c.bits_found-bits.ensures.session c.end_if.ensures.session (omega (arith, c.len-first.ensures, c.args.tally.now.hits.ok.0)) c.in_ok-try_current.ensures
-    (c.settle.ensures.state ∙ (λ i. option_map (λ (session : Session). record {
+    (c.settle.ensures.state ∙ (λ i. option_map (λ (session : FlowSession). record {
       session = steered (c.rules.ensures i) (drop c.len-first.result (c.deref.ensures.value i)) session;
       bits = unwrap_or c.try_current.new.bits empty;
     }) (session_at_hand c.end_if.new.found)))

@@ -3,7 +3,7 @@ use Rattle.std.proofs.Common.{sym, subst, ◌∙◌, IfOk}
 use Rattle.std.proofs.lemmas.Bool.{false≢true}
 use Rattle.rule_types.specs.declared.option.Opt.{Opt}
 use Rattle.option_eval.specs.Trying.{LeadsTo}
-use Rattle.option_eval.specs.declared.next.Next.TheVariants as next
+use Rattle.option_eval.specs.declared.next.NextPlaces.TheVariants as next
 use Rattle.option_eval.proofs.Walks.Staying.{next_of}
 use Rattle.option_eval.proofs.next.places_after_relative_test.Goals as goal
 

@@ -1,4 +1,4 @@
--- A place past the count is answered with false and no mark changes; below it, answer and marks are those of `Seen::mark`.
+-- A place past the count is answered with false and no mark changes; below it, answer and marks are those of `MarkSet::mark`.
 use Rattle.std.proofs.Common.{not, arith}
 use Rattle.pattern_search.specs.Marking.{is_marked}
 use Rattle.pattern_search.proofs.Finding.Marking.{past-answer, past-marks, below-answer, answer-marks}

@@ -7,7 +7,7 @@ use Rattle.edge_io.proofs.Hosts.Seeing.{told_seen}
 use Rattle.edge_io.specs.Told.{before}
 use Rattle.pcapng_input.proofs.Blocks.Heads.{less_kind, known_kind}
 use Rattle.pcapng_input.proofs.Blocks.Reading.{first_failed, first_short, first_other, first_cut, first_less, first_none, first_on, known_at}
-use Rattle.pcapng_input.specs.declared.block.Kind.TheVariants as kind
+use Rattle.pcapng_input.specs.declared.block.BlockKind.TheVariants as kind
 use Rattle.pcapng_input.specs.declared.block.Block.{Block}
 use Rattle.pcapng_input.specs.declared.walk.Walk.{Walk}
 use Rattle.pcapng_input.specs.Blocks.{first_walk, new_section, section_block}

@@ -2,7 +2,7 @@
 use Rattle.std.proofs.Common.{◌≡◌, ◌+◌, Some, None, false, true, sym, ap, ◌∙◌, arith}
 use Rattle.std.proofs.lemmas.Result.{err_from_is_err_and}
 use Rattle.edge_io.specs.Files.{left_by}
-use Rattle.pcapng_input.specs.declared.content.Content.TheVariants as content
+use Rattle.pcapng_input.specs.declared.content.BlockContent.TheVariants as content
 use Rattle.pcapng_input.specs.Blocks.{inner_length, after_interface}
 use Rattle.pcapng_input.specs.Options.{resolution_told}
 use Rattle.pcapng_input.proofs.Blocks.Taking.{last_same, less_after}

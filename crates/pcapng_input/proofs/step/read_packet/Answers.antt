@@ -2,7 +2,7 @@
 use Rattle.std.proofs.Common.{◌+◌, ◌-◌, ◌++◌, false, true, arith}
 use Rattle.std.proofs.lemmas.Result.{err_from_is_err_and}
 use Rattle.edge_io.specs.Files.{left_by}
-use Rattle.pcapng_input.specs.declared.content.Content.TheVariants as content
+use Rattle.pcapng_input.specs.declared.content.BlockContent.TheVariants as content
 use Rattle.pcapng_input.specs.Blocks.{inner_length}
 use Rattle.pcapng_input.proofs.Blocks.Taking.{last_same, less_after}
 use Rattle.pcapng_input.proofs.Blocks.Closing.{whole, closing_less, closing_differs, closing_packet}

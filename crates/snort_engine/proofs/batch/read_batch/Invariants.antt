@@ -5,7 +5,7 @@ use Rattle.pcap_input.specs.Savefile.{most_records}
 use Rattle.snort_engine.specs.Steps.Reader.{IsFresh, number_of}
 use Rattle.snort_engine.specs.Steps.Batch.{ReadsOn}
 use Rattle.edge_io.specs.Frames.{OnlyRead}
-use Rattle.snort_engine.specs.declared.batch.Reached.TheVariants.{More}
+use Rattle.snort_engine.specs.declared.batch.BatchEnd.TheVariants.{More}
 use Rattle.snort_engine.proofs.batch.read_batch.Given as goal
 
 abbrev pub invariant-batch : goal.invariant-batch

@@ -3,7 +3,7 @@ use Rattle.std.proofs.Common.{◌≡◌, [], ◌∷◌, ◌++◌, Some, Err, ref
 use Rattle.edge_io.specs.Files.{left_by}
 use Rattle.pcapng_input.specs.declared.fault.ReadFault.{ReadFault}
 use Rattle.pcapng_input.specs.declared.fault.ReadFault.TheVariants.{Failed, NoMemory}
-use Rattle.snort_engine.specs.declared.batch.Reached.TheVariants.{Fault}
+use Rattle.snort_engine.specs.declared.batch.BatchEnd.TheVariants.{Fault}
 use Rattle.snort_engine.specs.Steps.Batch.{Place}
 use Rattle.snort_engine.proofs.Records.Batches.{reads_record, reads_end, reads_fault, reads_lacking}
 use Rattle.snort_engine.proofs.Headline.Seeing.{told_may}

@@ -7,8 +7,8 @@ use Rattle.snort_eve.proofs.copy.copy_pieces.Goals as goal
 
 pub pieces-init : goal.pieces-init
 pieces-init g c = record {
-  comes = come-start (g.F.Form.means c.args.form.now) (g.F.Form.came c.args.form.now c.args.state.now) (g.H.Host.agrees c.args.host.now) (g.H.Host.left_of c.args.host.now) _
-      c.requires.nothing (g.met.F.Form.nothing c.args.form.now);
+  comes = come-start (g.F.InputForm.means c.args.form.now) (g.F.InputForm.came c.args.form.now c.args.state.now) (g.H.Host.agrees c.args.host.now) (g.H.Host.left_of c.args.host.now) _
+      c.requires.nothing (g.met.F.InputForm.nothing c.args.form.now);
   room = c.requires.room;
   earlier = λ files a. a;
   same_contents = refl;

@@ -6,8 +6,8 @@ use Rattle.snort_eve.proofs.copy.copy_pieces.Given as goal
 
 abbrev pub invariant-pieces : goal.invariant-pieces
 invariant-pieces g l = record {
-  comes : Comes (g.F.Form.means l.form) (g.H.Host.left_of l.fn.host) (g.A.Sink.written l.fn.alerts)
-      (point (g.F.Form.came l.form l.state) (g.H.Host.agrees l.host) (g.H.Host.left_of l.host) l.read (g.A.Sink.written l.alerts));
+  comes : Comes (g.F.InputForm.means l.form) (g.H.Host.left_of l.fn.host) (g.A.Sink.written l.fn.alerts)
+      (point (g.F.InputForm.came l.form l.state) (g.H.Host.agrees l.host) (g.H.Host.left_of l.host) l.read (g.A.Sink.written l.alerts));
   room : 0 < length l.block;
   earlier : (files : Files) → g.H.Host.agrees l.host files → g.H.Host.agrees l.fn.host files;
   same_contents : g.H.Host.contents l.host ≡ g.H.Host.contents l.fn.host;

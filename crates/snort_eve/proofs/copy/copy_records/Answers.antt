@@ -6,17 +6,17 @@ use Rattle.snort_eve.proofs.Copying.{on_err, stop-start, stop-last, copied-last,
 use Rattle.snort_eve.proofs.copy.copy_records.Goals as goal
 
 pub returns-in_err-block-clause-stops : goal.returns-in_err-block-clause-stops
-returns-in_err-block-clause-stops g c = on_err c.from_residual.result (stop-start (g.F.Form.means c.args.form.now) _ _ _ (g.met.F.Form.nothing c.args.form.now))
+returns-in_err-block-clause-stops g c = on_err c.from_residual.result (stop-start (g.F.InputForm.means c.args.form.now) _ _ _ (g.met.F.InputForm.nothing c.args.form.now))
 
 pub returns-in-Ok-clause-copies : goal.returns-in-Ok-clause-copies
 returns-in-Ok-clause-copies g c =
-    copied-last (g.F.Form.means c.args.form.now) _ _ (g.H.Host.left_of c.args.host.now) _ _ c.finish_copy.result
+    copied-last (g.F.InputForm.means c.args.form.now) _ _ (g.H.Host.left_of c.args.host.now) _ _ c.finish_copy.result
     c.in-Ok.ensures.comes c.in-Ok.ensures.over c.finish_copy.ensures.ends
 
 pub returns-in-Ok-clause-stops : goal.returns-in-Ok-clause-stops
 returns-in-Ok-clause-stops g c =
     on_err_weaker c.finish_copy.result (λ breaks.
-    stop-last (g.F.Form.means c.args.form.now) _ _ (g.H.Host.left_of c.args.host.now) _ _
+    stop-last (g.F.InputForm.means c.args.form.now) _ _ (g.H.Host.left_of c.args.host.now) _ _
     c.in-Ok.ensures.comes c.in-Ok.ensures.over breaks)
     c.finish_copy.ensures.breaks
 

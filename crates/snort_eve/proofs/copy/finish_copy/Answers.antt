@@ -4,12 +4,12 @@ use Rattle.snort_eve.proofs.Copying.{all-written, on_err, last-broken, last-unbe
 use Rattle.snort_eve.proofs.copy.finish_copy.Goals as goal
 
 pub returns-in_err-ending-clause-breaks : goal.returns-in_err-ending-clause-breaks
-returns-in_err-ending-clause-breaks g c = on_err c.from_residual.result (last-unbegun _ _ (g.F.Form.means c.args.form.now) _)
+returns-in_err-ending-clause-breaks g c = on_err c.from_residual.result (last-unbegun _ _ (g.F.InputForm.means c.args.form.now) _)
 
 pub returns-in_err-write_all-clause-breaks : goal.returns-in_err-write_all-clause-breaks
 returns-in_err-write_all-clause-breaks g c =
     on_err c.from_residual-in_err-write_all.result
-    (last-broken _ _ (g.F.Form.means c.args.form.now) _ _ _ _ c.deref.result.now _ _ _ c.new-lines.ensures.items c.in_ok-ending.ensures c.deref.ensures.value c.in_err-write_all.ensures.stopped)
+    (last-broken _ _ (g.F.InputForm.means c.args.form.now) _ _ _ _ c.deref.result.now _ _ _ c.new-lines.ensures.items c.in_ok-ending.ensures c.deref.ensures.value c.in_err-write_all.ensures.stopped)
 
 pub returns-clause-ends : goal.returns-clause-ends
 returns-clause-ends g c =

@@ -4,5 +4,5 @@ use Rattle.snort_eve.proofs.run.copy_file.Goals as goal
 
 pub returns-in-Err-clause-runs : goal.returns-in-Err-clause-runs
 returns-in-Err-clause-runs g c =
-    file-unopened (g.F.Form.means c.args.form.now) (g.H.Host.agrees c.open.new.self) c.args.name (g.A.Sink.written c.args.alerts.now)
-    (g.met.F.Form.nothing c.args.form.now)
+    file-unopened (g.F.InputForm.means c.args.form.now) (g.H.Host.agrees c.open.new.self) c.args.name (g.A.Sink.written c.args.alerts.now)
+    (g.met.F.InputForm.nothing c.args.form.now)

@@ -6,7 +6,7 @@ use Rattle.snort_eve.proofs.run.copy_files.Given as goal
 
 abbrev pub invariant-loop-name : goal.invariant-loop-name
 invariant-loop-name g l = record {
-  done : DoneBy (g.F.Form.means l.form) (g.H.Host.agrees l.host) (lent (take l.name-index l.names))
+  done : DoneBy (g.F.InputForm.means l.form) (g.H.Host.agrees l.host) (lent (take l.name-index l.names))
       (g.A.Sink.written l.fn.alerts) (g.A.Sink.written l.alerts);
   earlier : (files : Files) → g.H.Host.agrees l.host files → g.H.Host.agrees l.fn.host files;
   same_contents : g.H.Host.contents l.host ≡ g.H.Host.contents l.fn.host;

@@ -9,11 +9,11 @@ use Rattle.snort_eve.proofs.run.copy_open.Goals as goal
 
 pub returns-clause-runs : goal.returns-clause-runs
 returns-clause-runs g c opened =
-    subst (λ (o : Outcome). FileRuns (g.F.Form.means c.args.form.now) (g.H.Host.agrees c.copy_records.new.host)
+    subst (λ (o : Outcome). FileRuns (g.F.InputForm.means c.args.form.now) (g.H.Host.agrees c.copy_records.new.host)
     c.args.name (g.A.Sink.written c.args.alerts.now)
     (g.A.Sink.written c.copy_records.new.alerts) o)
     (sym c.outcome_of.ensures)
-    (file-copied (g.F.Form.means c.args.form.now) c.args.name (g.H.Host.agrees c.copy_records.new.host)
+    (file-copied (g.F.InputForm.means c.args.form.now) c.args.name (g.H.Host.agrees c.copy_records.new.host)
     (g.H.Host.left_of c.args.host.now) _ _ c.copy_records.result
     (λ files a. opened files (c.copy_records.ensures.earlier files a))
     c.copy_records.ensures.copies c.copy_records.ensures.stops c.copy_records.ensures.long)

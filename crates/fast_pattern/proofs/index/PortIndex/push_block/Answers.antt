@@ -1,7 +1,7 @@
 -- From the block's head each entry leads to the one before it of the same block, so where the chain ends all of them were
 -- added (`followed-all`).
 use Rattle.std.proofs.Common.{◌≡◌, ℕ, ◌-◌, List, [], ◌∷◌, ◌++◌, min, slice_index, ap, subst, ◌∙◌, arith}
-use Rattle.fast_pattern.specs.declared.index.Entry.{Entry}
+use Rattle.fast_pattern.specs.declared.index.IndexEntry.{IndexEntry}
 use Rattle.fast_pattern.specs.Blocks.{entry_at, IsFollowed}
 use Rattle.fast_pattern.proofs.Ports.Filing.{followed-none, followed-more, followed-all}
 use Rattle.fast_pattern.proofs.index.PortIndex.push_block.Goals as goal
@@ -14,7 +14,7 @@ loop-at-init c =
 pub loop-at-preserved : goal.loop-at-preserved
 loop-at-preserved c =
     let at = c.loop-at.at in
-    let place = c.place_at.ensures ∙ ap (λ (es : List Entry). (entry_at es (at - 1)).place) c.deref-in-loop-at.ensures.value in
+    let place = c.place_at.ensures ∙ ap (λ (es : List IndexEntry). (entry_at es (at - 1)).place) c.deref-in-loop-at.ensures.value in
     let next : c.min-at.result ≡ min (slice_index c.args.self.now.nexts.items (at - 1)) (at - 1) = omega (
       arith,
       c.min-at.ensures,

@@ -1,7 +1,7 @@
 -- The session that sends is drawn, then its payload: that session
 -- alone moves on by a turn, and its frame is the definition's.
 use Rattle.std.proofs.Common.{◌∙◌, ap}
-use Rattle.pcap_input.specs.declared.traffic.Session.{Session}
+use Rattle.pcap_input.specs.declared.traffic.TrafficSession.{TrafficSession}
 use Rattle.pcap_input.specs.declared.traffic.Traffic.{Traffic}
 use Rattle.pcap_input.specs.Frames.{tcp_frame}
 use Rattle.pcap_input.proofs.Made.Making.{segment-made}

@@ -5,7 +5,7 @@ use Rattle.std.proofs.Math.Logic.{∥∥₁_elim, ∥∥₁_prop}
 use Rattle.regex_meta.proofs.PlansLemmas.{Suits-of_truncated}
 use Rattle.regex_meta.specs.Programs.{pattern_of}
 use Rattle.regex_meta.specs.declared.plan.Plan.TheVariants.{AtStart}
-use Rattle.regex_maker.specs.declared.sieve.Sieve.{Sieve}
+use Rattle.regex_maker.specs.declared.sieve.MatchTests.{MatchTests}
 use Rattle.regex_maker.proofs.made.RegexPattern.ends.Goals as goal
 
 pub first_place-requires : goal.first_place-requires
@@ -13,7 +13,7 @@ first_place-requires c = rw (c.deref.ensures, c.deref-2.ensures) c.args.self.now
 
 pub find_at_start-found-requires-clause-anchored : goal.find_at_start-found-requires-clause-anchored
 find_at_start-found-requires-clause-anchored c =
-    let anchored = ap (λ (sieve : Sieve). sieve.anchored) (sym c.deref-3.ensures) ∙ c.if-deref.true in
+    let anchored = ap (λ (sieve : MatchTests). sieve.anchored) (sym c.deref-3.ensures) ∙ c.if-deref.true in
     rw c.deref-then-deref.ensures
     (Suits-of_truncated (pattern_of c.args.self.now.program.value) AtStart
     (∥∥₁_elim c.args.self.now.sifted.anchored ∥∥₁_prop (λ anchors. ∣ anchors anchored ∣₁)))

@@ -2,14 +2,14 @@
 -- (`by_guess-value`); without one nothing moves (`by_guess-after`).
 use Rattle.std.proofs.Common.{ℕ, sym, subst, ◌∙◌}
 use Rattle.lru.specs.LruCache.{LruCache}
-use Rattle.stream5_sessions.specs.declared.lives.Numbered.{Numbered}
+use Rattle.stream5_sessions.specs.declared.lives.NumberedKey.{NumberedKey}
 use Rattle.stream5_sessions.specs.Indexed.{IsIndexed}
 use Rattle.stream5_sessions.proofs.Trees.Guessed.{indexed-guessed, by_guess-value, by_guess-after}
 use Rattle.stream5_sessions.proofs.lives.Lives.by_guess.Goals as goal
 
 pub invariant_of-self : goal.invariant_of-self
 invariant_of-self c =
-    subst (λ (x : LruCache Numbered ℕ). IsIndexed c.self.inside.numbers x.entries) (sym c.get.follows.holds-at-none)
+    subst (λ (x : LruCache NumberedKey ℕ). IsIndexed c.self.inside.numbers x.entries) (sym c.get.follows.holds-at-none)
     (indexed-guessed c.self.inside.numbers c.args.key.now c.in_ok-guess.guess c.self.inside.cache c.self.invariant)
 
 pub returns-clause-value : goal.returns-clause-value

@@ -1,9 +1,0 @@
--- What a room owns, empty memory and the right to free it, is bound to no thread, so it may be sent whatever the type of the
--- value (`Room-send`).
-use denote.RattleType.{RattleType}
-use denote.Param.Send.{IsSend}
-use Rattle.piece_list.proofs.Crosses.{Room-send}
-use Rattle.piece_list.specs.contracts.node.Room.{the_row}
-
-pub send : (V : RattleType) → IsSend (the_row V)
-send = Room-send
