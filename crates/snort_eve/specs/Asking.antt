@@ -90,7 +90,7 @@ since_by (Some year) None = Some (Some (in_year year))
 since_by None (Some name) = Some (Some (of_capture (file_of name)))
 since_by (Some year) (Some name) = None
 
--- alert lines need one of them
+-- alert lines need a year or a capture, and aren't records; without alert lines neither is asked for
 abbrev pub needed_by : Bool → Bool → Option Since → Option (Option Since)
 needed_by is_lines is_records since = if is_lines then (if is_records then None else option_map Some since) else Some None
 

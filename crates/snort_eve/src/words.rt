@@ -197,7 +197,7 @@ fn since_by<'a>(year: Option<u16>, capture: Option<&'a str>) -> Option<Option<Si
     }
 }
 
-/// The same, which alert lines need, if files have these.
+/// What the year of a file's first line follows from, if the files are alert lines: they need one, and are no records.
 fn needed_by<'a>(lines: bool, unified2: bool, since: Option<Since<'a>>) -> Option<Option<Since<'a>>>
     ensures { option_map (option_map since_facts) result ≡ needed_by lines unified2 (option_map since_facts since.entry) }
 {

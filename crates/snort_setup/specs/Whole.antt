@@ -32,7 +32,7 @@ pub record AreReady {P : Type 0} (finds : P → List ℕ → Option Span) (means
   pub few : length set.rules ≤ most_rules
   pub meant : FindWhatIsMeant finds means set
 
--- the same of a setup
+-- a setup's configuration and rules are sound, no more than there may be, and their patterns find what is meant
 abbrev pub IsReadySetup : {P : Type 0} → (P → List ℕ → Option Span) → Means → setup.Setup P → Type 0
 IsReadySetup finds means setup = AreReady finds means setup.config setup.set
 

@@ -6,18 +6,16 @@ use Rattle.std.specs.Map.{lookup, remove_entry, values_of}
 use Rattle.std.specs.Option.{option_map, option_map_or, option_or}
 use Rattle.std.specs.Result.{result_ok}
 use Rattle.std.proofs.lemmas.List.{map-append}
-use Rattle.std.proofs.lemmas.List.Elements.{All-append, All-cons, All-filter, All-head, All-nil, All-push, All-tail}
+use Rattle.std.proofs.lemmas.List.Elements.{All-cons, All-filter, All-head, All-nil, All-push, All-tail}
 use Rattle.std.proofs.lemmas.Map.Views.{All-map-remove_entry, IfSome-lookup_from_All}
 use Rattle.edge_io.specs.declared.moment.Moment.{Moment}
 use Rattle.edge_io.specs.declared.policy.Preference.{Preference}
 use Rattle.packet_decode.specs.declared.checks.Checks.{Checks}
 use Rattle.packet_decode.specs.declared.item.ItemKind.{ItemKind}
 use Rattle.packet_decode.specs.declared.item.ItemKind.TheVariants as kind
-use Rattle.packet_decode.specs.declared.packet.IpHead.{IpHead}
 use Rattle.packet_decode.specs.declared.skip.Skip.{Skip}
 use Rattle.packet_decode.specs.Decoding.{Fields}
 use Rattle.conf_types.specs.declared.config.FragConfig.{FragConfig}
-use Rattle.overlap_core.specs.declared.segment.Bounds.{Bounds}
 use Rattle.overlap_core.specs.Overlap.{bounds_of, byte_at, chosen_byte, chosen_segment, covers, winner, stronger, wins}
 use Rattle.overlap_core.specs.Segments.{Segment}
 use Rattle.frag3_core.specs.declared.answer.Datagram.{Datagram}
@@ -29,9 +27,9 @@ use Rattle.frag3_core.specs.Trackers.{datagram_of, found, held_count, ignored, i
 use Rattle.frag3_core.specs.Trackers.{same_key, state_after, taken, tracker_of, trackers_after, whole_head, with_own, with_room}
 use Rattle.frag3_core.specs.Trackers.{without}
 use Rattle.record_jobs.specs.declared.item.RecordItem.{RecordItem}
-use Rattle.record_jobs.specs.Packets.{completed_datagram, datagram_from, datagram_in, datagram_item, datagram_of_fragment}
+use Rattle.record_jobs.specs.Packets.{completed_datagram, datagram_in, datagram_item, datagram_of_fragment}
 use Rattle.record_jobs.specs.Packets.{datagram_said, frag3_after, fragment_fields, fragment_in, fragment_item, fragment_of}
-use Rattle.record_jobs.specs.Packets.{fragments, is_fragment, item_of, packet_fields, packet_from, packet_in, said_by}
+use Rattle.record_jobs.specs.Packets.{fragments, is_fragment, item_of, packet_fields, packet_in, said_by}
 use Rattle.record_jobs.specs.Way.{LinkedRecord, Way}
 use Rattle.flow_lanes.specs.Fits.{FitsHead, FitsIp}
 use Rattle.record_jobs.specs.Fitting.{AreBytes, HoldsBytes}

@@ -1,10 +1,9 @@
 -- The jobs of records are about what their bytes say: where all of that fits, so do all items.
-use Rattle.std.proofs.Common.{◌≡◌, ℕ, ◌+◌, List, [], ◌∷◌, ◌++◌, Option, Some, None, map, refl}
+use Rattle.std.proofs.Common.{◌≡◌, ℕ, ◌+◌, List, [], ◌∷◌, ◌++◌, Option, Some, None, map}
 use Rattle.std.specs.Prelude.{IfSome}
 use Rattle.std.specs.List.{All}
 use Rattle.std.specs.Option.{option_map, option_to_list}
-use Rattle.std.proofs.lemmas.List.Elements.{All-append, All-cons, All-head, All-map, All-nil, All-push, All-tail}
-use Rattle.edge_io.specs.Along.{trail, trail_from}
+use Rattle.std.proofs.lemmas.List.Elements.{All-append, All-cons, All-head, All-map, All-nil, All-tail}
 use Rattle.edge_io.specs.declared.moment.Moment.{Moment}
 use Rattle.stream5_sessions.specs.Liveness.{live_flows}
 use Rattle.stream5_sessions.specs.declared.flows.Touch.{Touch}

@@ -2,7 +2,7 @@
 use Rattle.std.proofs.Common.{◌≡◌, ℕ, zero, suc, ◌+◌, ◌*◌, ◌<◌, ◌≤◌, Bool, true, false, cond, not, ◌||◌, ltb, List, [], ◌∷◌, ◌++◌}
 use Rattle.std.proofs.Common.{Option, Some, None, filter, length, max, is_none, refl, sym, ap, subst, ◌∙◌, arith, le_trans}
 use Rattle.std.proofs.Common.{mul-le-mul_right, nat_eq, unwrap_or, append_assoc, append-nil}
-use Rattle.std.specs.Prelude.{slice_get, sum_by, IfSome}
+use Rattle.std.specs.Prelude.{sum_by}
 use Rattle.std.proofs.lemmas.Cmp.{nat_eq_equiv}
 use Rattle.std.specs.List.{All, AllByRecursion, IsDistinct, list_any, position_or_len}
 use Rattle.std.specs.Map.{lookup, values_of}
@@ -22,7 +22,7 @@ use Rattle.conf_types.specs.Defaults.{default_stream_engine, stream_engine_at}
 use Rattle.stream5_sessions.specs.declared.flows.Touch.{Touch}
 use Rattle.stream5_sessions.specs.declared.key.Key.{Key}
 use Rattle.stream5_sessions.specs.Caches.{stretches}
-use Rattle.stream5_sessions.specs.Liveness.{MaxFlows, flow_number, is_live}
+use Rattle.stream5_sessions.specs.Liveness.{MaxFlows, flow_number}
 use Rattle.stream5_sessions.proofs.Liveness.Numbers.{value_among}
 use Rattle.stream5_sessions.proofs.Liveness.Protocols.{kept, lookup-kept}
 use Rattle.stream5_sessions.proofs.Liveness.Rising.{among}

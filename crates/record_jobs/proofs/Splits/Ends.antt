@@ -1,6 +1,6 @@
 -- The packets of a record go between the addresses of what the record says, also those that are put together.
 use Rattle.std.proofs.Common.{◌≡◌, ℕ, zero, suc, ◌+◌, ◌*◌, ◌/◌, Bool, true, false, cond, not, ◌&&◌, ◌||◌, nat_lt, ◌==◌, List}
-use Rattle.std.proofs.Common.{length, Option, Some, None, Result, Ok, Err, refl, sym, ap, ◌∙◌, ◌⊎◌, inl, inr}
+use Rattle.std.proofs.Common.{length, Option, Some, None, Result, Ok, Err, refl, sym, ap, ◌∙◌, ◌⊎◌}
 use Rattle.std.specs.Prelude.{IfOk, IsOkAnd}
 use Rattle.std.specs.Option.{option_map, option_or}
 use Rattle.std.specs.Result.{result_ok}
@@ -22,7 +22,7 @@ use Rattle.ipv6_decode.specs.Headers.{after_fragment_header, after_header, after
 use Rattle.ipv6_decode.specs.Versions.{are_six, rebuilt_decoded}
 use Rattle.frag3_core.specs.declared.answer.Datagram.{Datagram}
 use Rattle.record_jobs.specs.declared.item.RecordItem.{RecordItem}
-use Rattle.record_jobs.specs.Packets.{datagram_in, datagram_item, datagram_said, is_fragment, item_of, packet_fields, packet_from, packet_in, said_by}
+use Rattle.record_jobs.specs.Packets.{datagram_in, datagram_item, datagram_said, is_fragment, item_of, packet_from, packet_in, said_by}
 use Rattle.record_jobs.specs.Way.{LinkedRecord, Way}
 use Rattle.record_jobs.proofs.Addresses.{ends}
 

@@ -1,12 +1,12 @@
 -- Where there is room for all fragments, a datagram is made of its own fragments alone, and so by a part of a capture as
 -- by the whole.
 use Rattle.std.proofs.Common.{◌≡◌, ℕ, suc, ◌+◌, ◌*◌, ◌<◌, ◌≤◌, Bool, true, false, cond, List, [], ◌∷◌, ◌++◌, length, Option, Some}
-use Rattle.std.proofs.Common.{None, Result, Ok, Err, fold, unwrap_or, nat_lt, refl, sym, ap, subst, ◌∙◌, inl, inr, append-nil}
+use Rattle.std.proofs.Common.{None, Result, Ok, Err, fold, unwrap_or, nat_lt, refl, sym, ap, subst, ◌∙◌, inl, append-nil}
 use Rattle.std.proofs.Common.{length-append, arith}
 use Rattle.std.specs.Prelude.{IfSome, option_and_then}
 use Rattle.std.specs.List.{cons_option, filter, filter_map}
 use Rattle.std.specs.Map.{lookup, remove_entry}
-use Rattle.std.specs.Option.{option_map, option_map_or, option_to_list}
+use Rattle.std.specs.Option.{option_map, option_map_or}
 use Rattle.std.proofs.lemmas.Bool.{false≢true}
 use Rattle.std.proofs.lemmas.Bool.Decides.{nat_tests}
 use Rattle.std.proofs.lemmas.List.Elements.{filter_map-append}
@@ -30,7 +30,7 @@ use Rattle.frag3_core.proofs.Entries.{AreTrackers-nil, AreTrackers-push, AreTrac
 use Rattle.frag3_core.proofs.Keys.{one_key, same_key-equivalence, same_key-refl, same_key-true}
 use Rattle.frag3_core.proofs.Laws.{state_after-push}
 use Rattle.record_jobs.specs.Counts.{fragments_read}
-use Rattle.record_jobs.specs.Packets.{completed_datagram, datagram_from, datagram_in, datagram_of_fragment, frag3_after, fragment_fields, fragment_in, fragment_of, fragments, is_fragment, said_by}
+use Rattle.record_jobs.specs.Packets.{completed_datagram, datagram_in, datagram_of_fragment, frag3_after, fragment_fields, fragment_in, fragment_of, fragments, is_fragment, said_by}
 use Rattle.record_jobs.specs.Way.{LinkedRecord, Way}
 use Rattle.record_jobs.specs.Splitting.{IsByPair, Part}
 use Rattle.record_jobs.proofs.Splits.Jobs.{along_all}

@@ -1,18 +1,18 @@
 -- A part of a capture has no more flows than the whole.
-use Rattle.std.proofs.Common.{◌≡◌, ℕ, ◌+◌, ◌≤◌, ◌||◌, Bool, true, false, cond, List, [], ◌∷◌, ◌++◌, length, Option, Some, None, refl, sym, ap, subst, ◌∙◌, append-nil, arith}
+use Rattle.std.proofs.Common.{◌≡◌, ◌+◌, ◌≤◌, ◌||◌, Bool, true, false, cond, List, [], ◌∷◌, ◌++◌, length, Option, Some, None, refl, sym, ap, subst, ◌∙◌, append-nil, arith}
 use Rattle.std.specs.Prelude.{option_and_then}
 use Rattle.std.specs.List.{filter}
 use Rattle.std.specs.Option.{option_to_list}
 use Rattle.std.proofs.lemmas.Bool.{false≢true}
 use Rattle.stream5_sessions.specs.declared.key.Key.{Key}
 use Rattle.stream5_sessions.specs.Keys.{is_of, same_key}
-use Rattle.stream5_sessions.specs.Liveness.{distinct_count, is_touched, max_for}
+use Rattle.stream5_sessions.specs.Liveness.{distinct_count, is_touched}
 use Rattle.stream5_sessions.proofs.Liveness.Apart.{Apart, Apart-recent}
 use Rattle.stream5_sessions.proofs.KeyLaws.{same_key-is, same_key-self}
 use Rattle.stream5_sessions.proofs.Liveness.Recent.{is_touched-recent, is_touched-remove_key, length-recent, length-remove_key, recent, remove_key}
 use Rattle.record_jobs.specs.declared.item.RecordItem.{RecordItem}
 use Rattle.record_jobs.specs.Packets.{packet_in}
-use Rattle.record_jobs.specs.Touches.{item_key, key_in, most_flows, touches}
+use Rattle.record_jobs.specs.Touches.{item_key, key_in, touches}
 use Rattle.record_jobs.specs.Way.{LinkedRecord, Way}
 use Rattle.record_jobs.proofs.Growth.{touches-push}
 use Rattle.record_jobs.specs.Splitting.{HasRoom, Part}

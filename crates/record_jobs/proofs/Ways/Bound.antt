@@ -1,5 +1,5 @@
 -- The engines of addresses.
-use Rattle.std.proofs.Common.{◌≡◌, ℕ, ◌≤◌, Bool, true, false, cond, ltb, List, length, Option, Some, None, refl, sym, ap, ◌∙◌, arith}
+use Rattle.std.proofs.Common.{◌≡◌, ℕ, ◌≤◌, Bool, true, false, cond, ltb, List, length, Option, Some, None, refl, ap, ◌∙◌, arith}
 use Rattle.std.specs.List.{find, position_or_len}
 use Rattle.std.specs.Option.{is_none, option_or, unwrap_or}
 use Rattle.std.proofs.lemmas.Bool.{ltb-true}

@@ -8,7 +8,7 @@ use Rattle.command_words.specs.CommandLine.{Asked, help, version, records_of, ru
 use Rattle.rule_eval.proofs.Tells.{test_of, test_of-tells}
 use Rattle.snort_engine.specs.declared.status.Status.TheVariants as status
 use Rattle.snort_engine.specs.Answer.{answer_of}
-use Rattle.snort_engine.specs.Course.{Course, Given, IsCourse, IsFileWay, Lists, Stops, Way, course_by, given, most_file_bytes, setup_words, stopping}
+use Rattle.snort_engine.specs.Course.{Course, IsCourse, IsFileWay, Lists, Stops, Way, course_by, given, most_file_bytes, setup_words, stopping}
 use Rattle.snort_engine.specs.Messages.{bad_unified2_text, cannot_read_text, command_line_text, too_large_text, usage_text, version_text}
 use Rattle.alert_lines.specs.RecordLines.{entry_lines}
 use Rattle.snort_engine.specs.SomeCourse.{HasSomeAnswer, HasSomeCourse}

@@ -1,11 +1,11 @@
 -- Every file has some way: its bytes are records, or of all lists of records that they begin with one is the longest.
-use Rattle.std.proofs.Common.{◌≡◌, ℕ, zero, suc, ◌+◌, ◌-◌, ◌*◌, ◌^◌, ◌<◌, ◌≤◌, ◌==◌, ◌⊎◌, inl, inr, leb, ltb, Bool, true, false}
-use Rattle.std.proofs.Common.{List, [], ◌∷◌, ◌++◌, length, take, drop, get_or, slice_index, Option, Some, None, refl, sym, ap}
-use Rattle.std.proofs.Common.{subst, ◌∙◌, append_assoc, append-nil, length-append, arith}
+use Rattle.std.proofs.Common.{◌≡◌, ℕ, zero, suc, ◌+◌, ◌-◌, ◌*◌, ◌^◌, ◌<◌, ◌≤◌, ◌==◌, ◌⊎◌, inl, inr, ltb, Bool, true, false}
+use Rattle.std.proofs.Common.{List, [], ◌∷◌, ◌++◌, length, take, drop, get_or, slice_index, refl, sym, ap}
+use Rattle.std.proofs.Common.{subst, ◌∙◌, arith}
 use Rattle.std.specs.List.{All, prefix_len}
 use Rattle.std.proofs.Math.Nat.{mul-suc}
 use Rattle.std.proofs.lemmas.Bool.{cases_lt, eqb-true, eqb-false, ltb-true, ltb-false}
-use Rattle.std.proofs.lemmas.List.{length-take, length-drop, take-append-drop, take_all, take_rest, drop-drop, get_or-take, get_or_past, take-take}
+use Rattle.std.proofs.lemmas.List.{length-take, length-drop, take_all, drop-drop, get_or-take, get_or_past, take-take}
 use Rattle.std.proofs.lemmas.List.Sums.{prefix_len-le-length, prefix_len_passes, prefix_len_stops}
 use Rattle.std.specs.Int.{byte_at, bytes_high_first}
 use Rattle.byteorder.specs.Endian.{big_number, IsRead}
@@ -15,7 +15,7 @@ use Rattle.unified2_out.specs.declared.record.U2Event.{U2Event}
 use Rattle.unified2_out.specs.declared.record.U2Packet.{U2Packet}
 use Rattle.unified2_out.specs.declared.record.U2.{U2}
 use Rattle.unified2_out.specs.declared.record.U2.TheVariants.{Event, Packet, Other}
-use Rattle.unified2_out.specs.Records.{AllFit, IsOtherKind, address_bytes, body_of, event_body, event_octets, event_ports}
+use Rattle.unified2_out.specs.Records.{AllFit, address_bytes, body_of, event_body, event_octets, event_ports}
 use Rattle.unified2_out.specs.Records.{event_words, frame_text, kind_of, most_body_bytes, numbers, packet_body, packet_words}
 use Rattle.unified2_out.specs.Records.{unified2_text}
 use Rattle.unified2_out.specs.Reading.{AreRecordsOf, IsBadAt, IsRecord, RecordsEndAt, joined_text}

@@ -1,5 +1,5 @@
 -- Rule lines have some end, and words some setup, over all files and whichever lines are refused.
-use Rattle.std.proofs.Common.{◌≡◌, ℕ, ◌+◌, ◌⊎◌, inl, inr, Bool, List, [], ◌∷◌, length, Option, Some, None, Result, Ok, Err, refl}
+use Rattle.std.proofs.Common.{◌≡◌, ℕ, ◌+◌, ◌⊎◌, inl, inr, Bool, List, [], ◌∷◌, length, Some, None, Result, Ok, Err, refl}
 use Rattle.std.specs.Prelude.{◌≢◌}
 use Rattle.std.specs.Result.{MatchResult}
 use Rattle.edge_io.specs.Files.{Files}

@@ -24,7 +24,7 @@ use Rattle.unified2_out.specs.Reading.{IsRecord, AreRecordsOf, joined_text}
 use Rattle.command_words.specs.declared.asked.AlertForm.{AlertForm}
 use Rattle.command_words.specs.declared.asked.AlertForm.TheVariants as form
 use Rattle.flow_lanes.specs.Fits as of_lanes
-use Rattle.flow_lanes.specs.Fits.{FitsBody, FitsHead, FitsHits, FitsIp}
+use Rattle.flow_lanes.specs.Fits.{FitsBody, FitsHead, FitsHits}
 use Rattle.packet_decode.specs.declared.packet.Body.{Body}
 use Rattle.packet_decode.specs.declared.packet.Body.TheVariants as body
 use Rattle.packet_decode.specs.Versions.{version_of}

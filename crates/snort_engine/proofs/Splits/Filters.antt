@@ -3,11 +3,10 @@
 -- Inputs are beside their sources, of which some are of the part. An answer is the part's own where it is the same
 -- after the part's earlier inputs as after all of them.
 use Rattle.std.proofs.Common.{◌≡◌, ℕ, zero, suc, Bool, true, false, cond, not, List, [], ◌∷◌, ◌++◌, Option, Some, None, map}
-use Rattle.std.proofs.Common.{length, refl, sym, ap, subst, ◌∙◌, ◌⊎◌, inl, inr, ⊎_elim, append_assoc, append-nil, arith}
-use Rattle.std.specs.Prelude.{Contains, option_and_then, slice_get}
+use Rattle.std.proofs.Common.{refl, sym, ap, subst, ◌∙◌, ◌⊎◌, inl, inr, append-nil, arith}
+use Rattle.std.specs.Prelude.{Contains}
 use Rattle.std.specs.List.{filter, flat_map}
 use Rattle.std.specs.Option.{option_map, option_map_or}
-use Rattle.std.proofs.lemmas.List.{map-append}
 use Rattle.std.proofs.lemmas.List.Elements.{Contains-append_cases, Contains-append_left, Contains-append_right, filter-append}
 use Rattle.edge_io.specs.Along.{chained, trail, trail_from}
 use Rattle.packet_decode.specs.declared.item.ItemHead.{ItemHead}
@@ -23,7 +22,7 @@ use Rattle.event_filters.specs.Queue.{queued}
 use Rattle.flow_lanes.specs.declared.answer.Hits.{Hits}
 use Rattle.alert_lines.specs.Beside.{Beside, beside, carried, whats}
 use Rattle.alert_lines.specs.Events.{event_at, filtered_item, item_events}
-use Rattle.alert_lines.proofs.Beside.{whats-append, whats-beside, whats-carried}
+use Rattle.alert_lines.proofs.Beside.{whats-append, whats-carried}
 
 -- ---- elements
 

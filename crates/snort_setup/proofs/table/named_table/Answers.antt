@@ -1,6 +1,5 @@
 -- A table that was not loaded ends the setup as by files that agree with
 -- the host: they lack it unless the host failed, or have it too large.
-use Rattle.std.proofs.Common.{sym, subst}
 use Rattle.edge_io.specs.Told.{Rose}
 use Rattle.snort_setup.proofs.Seeing.{cause_agreed, table_unloaded}
 use Rattle.snort_setup.proofs.table.named_table.Goals as goal
